@@ -1,4 +1,4 @@
-//! What a step of a node, or of a pair, reports.
+//! The outcome of a step of a node or of a pair.
 ghost use Rattle.std.specs.Prelude.{◌≡◌, Option, None, false};
 
 use crate::{Block, Command, Refusal};

@@ -1,4 +1,4 @@
-//! What a node asks of its disk.
+//! The interface of a disk.
 ghost use Rattle.std.specs.Prelude.{◌≡◌, ℕ, ◌+◌, ◌*◌, ◌<◌, ◌≤◌, Bool, true, false, List, length, slice_get, IsOk, OnOk, OnErr};
 ghost use Rattle.blocks.specs.Contents.{blocks_of, overwritten, IsTorn};
 ghost use Rattle.blocks.specs.declared.block.TheConstants.{BLOCK_BYTES};

@@ -1,4 +1,4 @@
-//! What `--help` prints below the usage: the script language, what a run does, the refusals, and the exit statuses.
+//! The text of `--help` below the usage: the script language, what a run does, the refusals, and the exit statuses.
 use blocks::Refusal;
 use std::fmt;
 use std::fmt::Display;

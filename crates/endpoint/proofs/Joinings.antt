@@ -13,8 +13,8 @@ use Rattle.model.specs.Frames as frames
 use Rattle.model.specs.Stream.{IsBeginning}
 use Rattle.endpoint.specs.Meaning.{meaning, received, meant, meant_in, IsSpelled}
 use Rattle.link.specs.Ends.{InEnd, OutEnd}
-use Rattle.endpoint.specs.Incoming.{TakenBefore, incoming, hello_after, received_after, received_from, taken_before}
-use Rattle.endpoint.specs.Outgoing.{PushedBefore, outgoing, pushed_before}
+use Rattle.endpoint.specs.PacketReceiver.{TakenBefore, incoming, hello_after, received_after, received_from, taken_before}
+use Rattle.endpoint.specs.PacketSender.{PushedBefore, outgoing, pushed_before}
 use Rattle.endpoint.specs.Joined.{AreTold, AreToldEverywhere, BeginsPushed, pushed_past, sent_past, taken_past, came_past}
 use Rattle.endpoint.proofs.Meanings.{meant_spelled}
 

@@ -22,8 +22,8 @@ use Rattle.model.specs.Frames.{DataFrame, RsDataReplyFrame, BarrierFrame, Protoc
 use Rattle.model.specs.Frames.{RsWriteAckFrame, BarrierAckFrame}
 use Rattle.model.specs.Frames as frames
 use Rattle.endpoint.specs.Meaning.{meaning, packet_read, meant, meant_in, IsSpelled}
-use Rattle.endpoint.specs.Outgoing.{outgoing, with_pushed}
-use Rattle.endpoint.specs.Incoming.{incoming, with_received, hello_after, received_after, received_from}
+use Rattle.endpoint.specs.PacketSender.{outgoing, with_pushed}
+use Rattle.endpoint.specs.PacketReceiver.{incoming, with_received, hello_after, received_after, received_from}
 
 -- ---- a meaning is of one packet
 

@@ -5,22 +5,22 @@ use Rattle.blocks.specs.declared.refusal.Refusal.{Refusal}
 use Rattle.blocks.specs.declared.refusal.Refusal.TheVariants.{LinkFull, NoMemory, NothingThere}
 use Rattle.link.specs.Ends.{OutEnd, InEnd}
 use Rattle.model.specs.Frames.{Packet, Received}
-use Rattle.endpoint.specs.Outgoing.{OutgoingState, with_pushed}
-use Rattle.endpoint.specs.Incoming.{IncomingState, with_received, SameRow}
+use Rattle.endpoint.specs.PacketSender.{PacketSenderState, with_pushed}
+use Rattle.endpoint.specs.PacketReceiver.{PacketReceiverState, with_received, SameRow}
 
 -- what was pushed, and what was taken: nothing where the node was never opened
-abbrev pub pushed_of : Option OutgoingState → List Packet
+abbrev pub pushed_of : Option PacketSenderState → List Packet
 pushed_of None = []
 pushed_of (Some o) = o.pushed
 
-abbrev pub taken_of : Option IncomingState → List Received
+abbrev pub taken_of : Option PacketReceiverState → List Received
 taken_of None = []
 taken_of (Some i) = i.taken
 
 -- what is taken to have been refused for want of memory, or of room in the link
-abbrev pub is_starved : {R : Type 0} → Result R Refusal → Bool
-is_starved (Err NoMemory) = true
-is_starved _ = false
+abbrev pub is_out_of_memory : {R : Type 0} → Result R Refusal → Bool
+is_out_of_memory (Err NoMemory) = true
+is_out_of_memory _ = false
 
 abbrev pub has_room : {R : Type 0} → Result R Refusal → Bool
 has_room (Err LinkFull) = false
@@ -32,8 +32,8 @@ refusal_in (Ok done) = None
 refusal_in (Err refusal) = Some refusal
 
 -- One packet was pushed, for which the link had room, where it knows its room.
-pub record PushedOne (old new : Option OutgoingState) : Type 0 where
-  pub before : OutgoingState
+pub record PushedOne (old new : Option PacketSenderState) : Type 0 where
+  pub before : PacketSenderState
   pub packet : Packet
   pub frame : List ℕ
   pub there : old ≡ Some before
@@ -42,14 +42,14 @@ pub record PushedOne (old new : Option OutgoingState) : Type 0 where
 
 -- What a call that sends did: it pushed a packet where it succeeded, and else none, though one may have gone in part. The link
 -- is full (11) only where it had no room, where it knows its room.
-pub record Sends {R : Type 0} (result : Result R Refusal) (old new : Option OutgoingState) : Type 0 where
+pub record Sends {R : Type 0} (result : Result R Refusal) (old new : Option PacketSenderState) : Type 0 where
   pub pushed : OnOk result (PushedOne old new)
-  pub kept : OnErr result ((partly : Option (List Packet)) × (new ≡ option_map (λ (o : OutgoingState). record o { partly = partly }) old))
-  pub full : result ≡ Err LinkFull → (before : OutgoingState) × (old ≡ Some before) × IfSome before.room (λ n. n ≡ 0)
+  pub kept : OnErr result ((partly : Option (List Packet)) × (new ≡ option_map (λ (o : PacketSenderState). record o { partly = partly }) old))
+  pub full : result ≡ Err LinkFull → (before : PacketSenderState) × (old ≡ Some before) × IfSome before.room (λ n. n ≡ 0)
 
 -- One frame was taken, the next of the link, where it knows its queue.
-pub record TookOne (one : Received) (old new : Option IncomingState) : Type 0 where
-  pub before : IncomingState
+pub record TookOne (one : Received) (old new : Option PacketReceiverState) : Type 0 where
+  pub before : PacketReceiverState
   pub frames : List (List ℕ)
   pub ready : Bool
   pub there : old ≡ Some before
@@ -59,10 +59,10 @@ pub record TookOne (one : Received) (old new : Option IncomingState) : Type 0 wh
 
 -- What a call that takes did: it took this frame, or none, though room may have been made for the longest. There is nothing
 -- (13) only where the queue was empty, where the link knows it.
-pub record Takes {R : Type 0} (one : Option Received) (result : Result R Refusal) (old new : Option IncomingState) : Type 0 where
+pub record Takes {R : Type 0} (one : Option Received) (result : Result R Refusal) (old new : Option PacketReceiverState) : Type 0 where
   pub took : (frame : Received) → one ≡ Some frame → TookOne frame old new
-  pub kept : one ≡ None → (ready : Bool) × (new ≡ option_map (λ (i : IncomingState). record i { is_ready = ready }) old)
-  pub empty : result ≡ Err NothingThere → (before : IncomingState) × (old ≡ Some before) × IfSome before.queued (λ frames. frames ≡ [])
+  pub kept : one ≡ None → (ready : Bool) × (new ≡ option_map (λ (i : PacketReceiverState). record i { is_ready = ready }) old)
+  pub empty : result ≡ Err NothingThere → (before : PacketReceiverState) × (old ≡ Some before) × IfSome before.queued (λ frames. frames ≡ [])
 
 -- an end of a link through which nothing has gone yet
 pub record IsNewOut (s : OutEnd) : Type 0 where

@@ -2,8 +2,8 @@
 use Rattle.std.specs.Prelude.{ℕ, ◌≡◌, ◌==◌, if◌then◌else◌, List, [], ◌∷◌, length, map, Ok}
 use Rattle.model.specs.Frames.{Packet, Received}
 use Rattle.model.specs.Stream.{IsBeginning}
-use Rattle.endpoint.specs.Incoming.{IncomingState, TakenBefore}
-use Rattle.endpoint.specs.Outgoing.{OutgoingState, PushedBefore}
+use Rattle.endpoint.specs.PacketReceiver.{PacketReceiverState, TakenBefore}
+use Rattle.endpoint.specs.PacketSender.{PacketSenderState, PushedBefore}
 
 -- what was taken is packets alone, and these begin the packets pushed
 pub record BeginsPushed (taken : List Received) (pushed : List Packet) : Type 0 where
@@ -12,7 +12,7 @@ pub record BeginsPushed (taken : List Received) (pushed : List Packet) : Type 0 
   pub begins : IsBeginning front pushed
 
 -- Both sides tell each frame as one packet or fault; and where the frames taken begin the frames sent, so do their packets.
-pub record AreTold (out : OutgoingState) (inn : IncomingState) : Type 0 where
+pub record AreTold (out : PacketSenderState) (inn : PacketReceiverState) : Type 0 where
   pub begins : IsBeginning inn.frames out.frames → BeginsPushed inn.taken out.pushed
   pub pushed : length out.pushed ≡ length out.frames
   pub taken : length inn.taken ≡ length inn.frames
@@ -30,10 +30,10 @@ sent_past number [] = []
 sent_past number (before ∷ past) = if before.number == number then before.frames else sent_past number past
 
 -- the packets pushed on the connection of this number, and their frames
-abbrev pub pushed_at : ℕ → OutgoingState → List Packet
+abbrev pub pushed_at : ℕ → PacketSenderState → List Packet
 pushed_at number o = if o.number == number then o.pushed else pushed_past number o.past
 
-abbrev pub sent_at : ℕ → OutgoingState → List (List ℕ)
+abbrev pub sent_at : ℕ → PacketSenderState → List (List ℕ)
 sent_at number o = if o.number == number then o.frames else sent_past number o.past
 
 -- what was taken on an earlier connection, and the frames
@@ -46,12 +46,12 @@ came_past number [] = []
 came_past number (before ∷ past) = if before.number == number then before.frames else came_past number past
 
 -- what was taken on the connection of this number, and the frames
-abbrev pub taken_at : ℕ → IncomingState → List Received
+abbrev pub taken_at : ℕ → PacketReceiverState → List Received
 taken_at number i = if i.number == number then i.taken else taken_past number i.past
 
-abbrev pub came_at : ℕ → IncomingState → List (List ℕ)
+abbrev pub came_at : ℕ → PacketReceiverState → List (List ℕ)
 came_at number i = if i.number == number then i.frames else came_past number i.past
 
 -- Where the frames taken on a connection begin the frames sent on it, so do their packets.
-abbrev pub AreToldEverywhere : OutgoingState → IncomingState → Type 0
+abbrev pub AreToldEverywhere : PacketSenderState → PacketReceiverState → Type 0
 AreToldEverywhere out inn = (number : ℕ) → IsBeginning (came_at number inn) (sent_at number out) → BeginsPushed (taken_at number inn) (pushed_at number out)

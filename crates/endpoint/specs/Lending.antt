@@ -2,49 +2,49 @@
 use Rattle.std.specs.Prelude.{ℕ, ◌≡◌, ◌-◌, ◌≤◌, ◌++◌, Option, Some, None, [], length, is_some, IfSome}
 use Rattle.std.specs.Option.{option_map}
 use Rattle.link.specs.Directions.{QueueState}
-use Rattle.endpoint.specs.Outgoing.{OutgoingState}
-use Rattle.endpoint.specs.Incoming.{IncomingState}
+use Rattle.endpoint.specs.PacketSender.{PacketSenderState}
+use Rattle.endpoint.specs.PacketReceiver.{PacketReceiverState}
 
 -- A sending side without its queue, which counts as full, and one with it.
-abbrev pub without_queue : OutgoingState → OutgoingState
+abbrev pub without_queue : PacketSenderState → PacketSenderState
 without_queue o = record o { room = Some 0; waiting = None }
 
-abbrev pub with_queue : QueueState → OutgoingState → OutgoingState
+abbrev pub with_queue : QueueState → PacketSenderState → PacketSenderState
 with_queue q o = record o { room = Some (q.capacity - length q.frames); waiting = Some (length q.frames) }
 
 -- a taking side without a queue, which counts as empty, and one with it
-abbrev pub empty_handed : IncomingState → IncomingState
+abbrev pub empty_handed : PacketReceiverState → PacketReceiverState
 empty_handed i = record i { queued = Some []; capacity = None }
 
-abbrev pub taking_from : QueueState → IncomingState → IncomingState
+abbrev pub taking_from : QueueState → PacketReceiverState → PacketReceiverState
 taking_from q i = record i { queued = Some q.frames; capacity = Some q.capacity }
 
 -- what a sending side and its queue are to each other while it is here
-pub record IsQueueOf (q : QueueState) (o : OutgoingState) : Type 0 where
+pub record IsQueueOf (q : QueueState) (o : PacketSenderState) : Type 0 where
   pub frames : o.frames ≡ q.taken ++ q.frames
   pub room : o.room ≡ Some (q.capacity - length q.frames)
   pub waiting : o.waiting ≡ Some (length q.frames)
   pub within : length q.frames ≤ q.capacity
 
 -- the queue went out, where it was here
-pub record GivenOut (queue : Option QueueState) (old new : Option OutgoingState) : Type 0 where
-  pub there : (o : OutgoingState) → old ≡ Some o → is_some queue ≡ is_some o.waiting
+pub record GivenOut (queue : Option QueueState) (old new : Option PacketSenderState) : Type 0 where
+  pub there : (o : PacketSenderState) → old ≡ Some o → is_some queue ≡ is_some o.waiting
   pub none : old ≡ None → queue ≡ None
-  pub whose : (o : OutgoingState) (q : QueueState) → old ≡ Some o → queue ≡ Some q → IsQueueOf q o
+  pub whose : (o : PacketSenderState) (q : QueueState) → old ≡ Some o → queue ≡ Some q → IsQueueOf q o
   pub left : new ≡ option_map without_queue old
 
 -- it is back
-abbrev pub LaidBack : QueueState → Option OutgoingState → Option OutgoingState → Type 0
+abbrev pub LaidBack : QueueState → Option PacketSenderState → Option PacketSenderState → Type 0
 LaidBack q old new = new ≡ option_map (with_queue q) old
 
 -- the queue that was taken from went out, where it lay here
-pub record GivenBack (queue : Option QueueState) (old new : Option IncomingState) : Type 0 where
-  pub there : (i : IncomingState) → old ≡ Some i → is_some queue ≡ is_some i.capacity
+pub record GivenBack (queue : Option QueueState) (old new : Option PacketReceiverState) : Type 0 where
+  pub there : (i : PacketReceiverState) → old ≡ Some i → is_some queue ≡ is_some i.capacity
   pub none : old ≡ None → queue ≡ None
-  pub whose : (i : IncomingState) (q : QueueState) → old ≡ Some i → queue ≡ Some q
+  pub whose : (i : PacketReceiverState) (q : QueueState) → old ≡ Some i → queue ≡ Some q
       → (q.taken ≡ i.frames) × ((i.queued ≡ Some q.frames) × (i.capacity ≡ Some q.capacity))
   pub left : new ≡ option_map empty_handed old
 
 -- it lies here now
-abbrev pub LaidIn : QueueState → Option IncomingState → Option IncomingState → Type 0
+abbrev pub LaidIn : QueueState → Option PacketReceiverState → Option PacketReceiverState → Type 0
 LaidIn q old new = new ≡ option_map (taking_from q) old

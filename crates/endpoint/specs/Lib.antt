@@ -1,6 +1,6 @@
 pub mod Calls
-pub mod Incoming
+pub mod PacketReceiver
 pub mod Joined
 pub mod Lending
 pub mod Meaning
-pub mod Outgoing
+pub mod PacketSender

@@ -1,12 +1,12 @@
-//! What goes through an end of a link, as packets: the sending side and the taking side of a node, over any
+//! Packets through the ends of a link: the sending side and the taking side of a node, over any
 //! link.
 #![tactic(auto)]
 
 mod ends;
-mod incoming;
-mod outgoing;
+mod packet_receiver;
+mod packet_sender;
 mod plain;
 
 pub use ends::joined;
-pub use incoming::Incoming;
-pub use outgoing::Outgoing;
+pub use packet_receiver::PacketReceiver;
+pub use packet_sender::PacketSender;

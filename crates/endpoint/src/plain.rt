@@ -2,10 +2,10 @@
 //! taking side for one take. None of this takes memory.
 ghost use Rattle.std.specs.Prelude.{◌≡◌, ◌-◌, ◌≤◌, ◌++◌, [], length, Some, None, is_some, IfSome};
 
-use crate::{Incoming, Outgoing};
+use crate::{PacketReceiver, PacketSender};
 use link::{PlainIn, PlainOut, Queue};
 
-impl Outgoing<PlainOut> {
+impl PacketSender<PlainOut> {
     /// Hands out the queue, if it is here. Until it is back, this side counts as full.
     pub fn give_queue(&mut self) -> Option<Queue>
         ensures there { is_some result ≡ is_some self.old.waiting }
@@ -29,7 +29,7 @@ impl Outgoing<PlainOut> {
     }
 }
 
-impl Incoming<PlainIn> {
+impl PacketReceiver<PlainIn> {
     /// Hands out the queue, if it lies here. Until it is back, this side counts as empty.
     pub fn give_queue(&mut self) -> Option<Queue>
         ensures there { is_some result ≡ is_some self.old.capacity }

@@ -1,4 +1,4 @@
-//! What streams are like, whatever calls made them.
+//! The law of streams, whichever calls made them.
 ghost use Rattle.epochs.specs.Streams.{StreamsAreLawful};
 
 /// For every list of the calls `place`, `uuids` and `completed`, with write numbers that rise: an item of

@@ -10,7 +10,7 @@ use blocks::{MemStore, Refusal, Settings, Tuple};
 use bytes::Bytes;
 use disk::LooseDisk;
 use mirror::{connect, work};
-use primary::{Kind, Primary};
+use primary::{CompletionKind, Primary};
 use ruled_link::{RuledIn, RuledLink, RuledOut};
 use secondary::Secondary;
 use std::alloc::Global;
@@ -102,8 +102,8 @@ fn confirmed<R: Wait + Drop>(out: &impl Print, local: &mut Local<R>) -> anyhow::
             continue;
         };
         let disks = match receipt.kind() {
-            Kind::Linked => "both disks",
-            Kind::Alone => "the primary's disk",
+            CompletionKind::Linked => "both disks",
+            CompletionKind::Alone => "the primary's disk",
         };
         println!(out; "write {number} of block {}: {disks}", receipt.first().0)?;
     }

@@ -1,4 +1,4 @@
-//! What a primary does with a peer, by the two tuples.
+//! The decision of a primary over the tuples of both nodes.
 ghost use Rattle.std.specs.Prelude.{◌≡◌};
 ghost use Rattle.blocks.specs.Identifiers.{decision, is_historical, share_identifier};
 

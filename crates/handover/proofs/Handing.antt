@@ -14,23 +14,24 @@ use Rattle.handover.specs.Next.{IsLeft, opening_of}
 use Rattle.handover.proofs.Leaving.{leaves_an_opening}
 use Rattle.model.specs.Contents.{IsDisk}
 use Rattle.model.specs.Headline.{IsJoined, IsGrounded, Cover, is_marked}
-use Rattle.model.specs.Primary.{PrimaryHistory, outward, next_local, local_map}
-use Rattle.model.specs.Secondary.{SecondaryHistory, inward, is_drained, secondary_map}
+use Rattle.model.specs.Primary.{PrimaryHistory, primary_connection, next_local, local_map}
+use Rattle.model.specs.Secondary.{SecondaryHistory, secondary_connection, is_drained, secondary_map}
 use Rattle.model.specs.Settlement.{is_at_rest}
 use Rattle.model.specs.Theorems.{IsSoundOpening, marks_at}
-use Rattle.primary_steps.proofs.Common.Marks.{length-marks, marked-in}
-use Rattle.primary_steps.specs.Steps as primary
-use Rattle.secondary_steps.specs.Node as secondary
+use Rattle.primary_protocol.proofs.Common.Marks.{length-marks, marked-in}
+use Rattle.primary_protocol.specs.Steps as primary
+use Rattle.secondary_protocol.specs.Node as secondary
 use Rattle.settle.proofs.Settling.{reached_from, of-runs, sound-opening}
 use Rattle.settle.specs.Settled.{WereHonest}
 use Rattle.halves.specs.declared.parts.Parts.{Parts}
 
 -- both ends are closed, nothing is pending, and the local disk has done or failed every write
-pub at-rest : (p : PrimaryHistory) (s : SecondaryHistory) → (outward p).closed ≡ true → (inward s).closed ≡ true → is_drained s ≡ true
+pub at-rest : (p : PrimaryHistory) (s : SecondaryHistory) → (primary_connection p).closed ≡ true → (secondary_connection s).closed ≡ true → is_drained s ≡ true
     → is_some (next_local p) ≡ false → is_at_rest p s ≡ true
 at-rest p s closed closed_too drained done =
-    and_from ((outward p).closed && (inward s).closed) (is_drained s && is_none (next_local p))
-    (and_from (outward p).closed (inward s).closed closed closed_too) (and_from (is_drained s) (is_none (next_local p)) drained (none (next_local p) done))
+    and_from ((primary_connection p).closed && (secondary_connection s).closed) (is_drained s && is_none (next_local p))
+    (and_from (primary_connection p).closed (secondary_connection s).closed closed closed_too)
+    (and_from (is_drained s) (is_none (next_local p)) drained (none (next_local p) done))
   where
     none : (v : Option ℕ) → is_some v ≡ false → is_none v ≡ true
     none None is = refl

@@ -13,17 +13,17 @@ use Rattle.laws.proofs.Joining.Openings.{HasOpening, HasOpeningToo, kept-opening
 use Rattle.model.specs.Contents.{IsDisk}
 use Rattle.model.specs.Headline.{Cover, is_marked}
 use Rattle.model.specs.LocalRuns.{primary_run, secondary_run}
-use Rattle.model.specs.Primary.{PrimaryHistory, outward, stands, local_map, next_local}
-use Rattle.model.specs.Secondary.{SecondaryHistory, inward, is_drained, secondary_map}
+use Rattle.model.specs.Primary.{PrimaryHistory, primary_connection, is_established, local_map, next_local}
+use Rattle.model.specs.Secondary.{SecondaryHistory, secondary_connection, is_drained, secondary_map}
 use Rattle.model.specs.Settlement.{is_at_rest}
 use Rattle.model.specs.Theorems.{primary_at, secondary_at}
 
 -- at rest no stream stands
-rest-stands : (p : PrimaryHistory) (s : SecondaryHistory) → is_at_rest p s ≡ true → stands (outward p) ≡ false
-rest-stands p s rest =
-    let closed = (and_parts (outward p).closed (inward s).closed
-    (and_parts ((outward p).closed && (inward s).closed) (is_drained s && is_none (next_local p)) rest).0).0 in
-    ap (λ b. not b && (outward p).begun) closed
+rest-established : (p : PrimaryHistory) (s : SecondaryHistory) → is_at_rest p s ≡ true → is_established (primary_connection p) ≡ false
+rest-established p s rest =
+    let closed = (and_parts (primary_connection p).closed (secondary_connection s).closed
+    (and_parts ((primary_connection p).closed && (secondary_connection s).closed) (is_drained s && is_none (next_local p)) rest).0).0 in
+    ap (λ b. not b && (primary_connection p).begun) closed
 
 pub leaves_an_opening : JoinedRunsLeaveAnOpening
 leaves_an_opening o here there sound joined grounded rest peer = record {
@@ -47,4 +47,4 @@ leaves_an_opening o here there sound joined grounded rest peer = record {
 
     cover : Cover (is_marked (primary_run here (primary_at o))) (local_map (primary_run here (primary_at o)))
         (secondary_map (secondary_run there (secondary_at o)))
-    cover = (joined_headline o here there sound joined).marks grounded (rest-stands p s rest)
+    cover = (joined_headline o here there sound joined).marks grounded (rest-established p s rest)

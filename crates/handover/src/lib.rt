@@ -1,4 +1,4 @@
-//! What a session leaves at its end, and what the next one over the same two disks starts from.
+//! The parts of the next session over the same two disks, from the nodes that the last one leaves.
 #![tactic(auto)]
 
 mod law;

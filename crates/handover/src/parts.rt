@@ -9,9 +9,9 @@ ghost use Rattle.model.specs.Secondary.{SecondaryHistory, secondary_map};
 ghost use Rattle.model.specs.Settlement.{is_at_rest};
 ghost use Rattle.model.specs.Theorems.{IsSoundOpening};
 ghost use Rattle.primary.specs.State.{node as primary_node};
-ghost use Rattle.primary_steps.specs.Node.{NodeHas as PrimaryHas};
+ghost use Rattle.primary_protocol.specs.Node.{NodeHas as PrimaryHas};
 ghost use Rattle.secondary.specs.State.{node as secondary_node};
-ghost use Rattle.secondary_steps.specs.Node.{NodeHas as SecondaryHas};
+ghost use Rattle.secondary_protocol.specs.Node.{NodeHas as SecondaryHas};
 ghost use Rattle.settle.specs.Settled.{WereHonest};
 
 use blocks::{Block, Refusal, Store, Tuple};

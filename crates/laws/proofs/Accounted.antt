@@ -19,10 +19,11 @@ use Rattle.blocks.specs.declared.tuple.Tuple.{Tuple}
 use Rattle.blocks.specs.declared.outcome.Decision.{Decision}
 use Rattle.blocks.specs.declared.outcome.Decision.TheVariants.{FullSync}
 use Rattle.model.specs.Contents.{Write, covers}
-use Rattle.model.specs.Stream.{Item, WriteItem, ResyncItem, BarrierItem, SyncUuidItem, UuidsItem, IsBeginning, epoch_of}
+use Rattle.model.specs.Stream.{StreamItem, WriteItem, ResyncItem, BarrierItem, SyncUuidItem, UuidsItem, IsBeginning, epoch_of}
 use Rattle.model.specs.Frames.{Received, UuidsFrame, naming}
 use Rattle.model.specs.Identifiers.{decision}
-use Rattle.model.specs.Primary.{Accepted, Outward, PrimaryHistory, is_waiting, is_alone, is_confirmed, is_released, unreleased, accepted_frames, is_barrier_ack}
+use Rattle.model.specs.Primary.{Accepted, PrimaryConnection, PrimaryHistory, is_waiting, is_alone, is_confirmed, is_released, unreleased, accepted_frames}
+use Rattle.model.specs.Primary.{is_barrier_ack}
 use Rattle.model.specs.Primary.{is_rs_write_ack, barrier_acknowledged}
 use Rattle.laws.specs.Reflections.{touches, content_at, is_sure, NoneBegan, FirstBegan}
 use Rattle.laws.proofs.Streams.Places.{epoch-grows}
@@ -36,15 +37,15 @@ use Rattle.laws.proofs.Lists.Beginnings.{any-grows}
 
 -- Of the items of the connection of the last one that touches a block: the peer has said that this one is on its disk, and it
 -- and every later one has what the last one has.
-pub record IsSure (connections : List Outward) (block : ℕ) (touch : Touch) : Type 0 where
+pub record IsSure (connections : List PrimaryConnection) (block : ℕ) (touch : Touch) : Type 0 where
   pub place : ℕ
-  pub end : Outward
-  pub item : Item
+  pub end : PrimaryConnection
+  pub item : StreamItem
   pub at : slice_get connections touch.connection ≡ Some end
   pub there : slice_get end.stream place ≡ Some item
   pub touched : touches item block ≡ true
   pub sure : is_sure end place item ≡ true
-  pub same : (next : ℕ) (i : Item) → place ≤ next → slice_get end.stream next ≡ Some i → touches i block ≡ true
+  pub same : (next : ℕ) (i : StreamItem) → place ≤ next → slice_get end.stream next ≡ Some i → touches i block ≡ true
       → content_at i block ≡ content_at touch.item block
 
 -- the home of the write that a touch is
@@ -70,33 +71,34 @@ pub record IsAccounted (h : PrimaryHistory) : Type 0 where
       → latest h.connections block ≡ None → ⊥))
 
 -- A connection afterwards: the same one, with more frames taken, or a new one.
-abbrev pub IsFormer : List Outward → ℕ → Outward → Type 0
+abbrev pub IsFormer : List PrimaryConnection → ℕ → PrimaryConnection → Type 0
 IsFormer connections k d =
-    ((c : Outward) × (slice_get connections k ≡ Some c) × (d.closed ≡ true → c.closed ≡ true) × IsBeginning c.taken d.taken)
+    ((c : PrimaryConnection) × (slice_get connections k ≡ Some c) × (d.closed ≡ true → c.closed ≡ true) × IsBeginning c.taken d.taken)
     ⊎ (slice_get connections k ≡ None)
 
 -- What most moves keep: connections only grow, no end closes, and no write waits again.
 pub record Carries (h later : PrimaryHistory) : Type 0 where
   pub grow : AllGrow h.connections later.connections
-  pub former : (k : ℕ) (d : Outward) → slice_get later.connections k ≡ Some d → IsFormer h.connections k d
+  pub former : (k : ℕ) (d : PrimaryConnection) → slice_get later.connections k ≡ Some d → IsFormer h.connections k d
   pub writes : (i : ℕ) (a : Accepted) → slice_get h.writes i ≡ Some a
       → (b : Accepted) × (slice_get later.writes i ≡ Some b) × (b.write ≡ a.write) × (b.home ≡ a.home) × (is_waiting a.outcome ≡ false
       → is_waiting b.outcome ≡ false)
 
 -- Streams that began: the same ones, with more frames taken.
 pub record KeepsBegun (h later : PrimaryHistory) : Type 0 where
-  pub forward : (k : ℕ) (c : Outward) → slice_get h.connections k ≡ Some c → c.begun ≡ true
-      → (d : Outward) × (slice_get later.connections k ≡ Some d) × (d.begun ≡ true) × IsBeginning c.taken d.taken
-  pub back : (k : ℕ) (d : Outward) → slice_get later.connections k ≡ Some d
-      → ((c : Outward) × (slice_get h.connections k ≡ Some c) × (d.begun ≡ c.begun)) ⊎ (d.begun ≡ false)
+  pub forward : (k : ℕ) (c : PrimaryConnection) → slice_get h.connections k ≡ Some c → c.begun ≡ true
+      → (d : PrimaryConnection) × (slice_get later.connections k ≡ Some d) × (d.begun ≡ true) × IsBeginning c.taken d.taken
+  pub back : (k : ℕ) (d : PrimaryConnection) → slice_get later.connections k ≡ Some d
+      → ((c : PrimaryConnection) × (slice_get h.connections k ≡ Some c) × (d.begun ≡ c.begun)) ⊎ (d.begun ≡ false)
 
 -- the last item is sure itself
-pub sure-last : (connections : List Outward) (block : ℕ) (touch : Touch) (c : Outward) → latest connections block ≡ Some touch
+pub sure-last : (connections : List PrimaryConnection) (block : ℕ) (touch : Touch) (c : PrimaryConnection) → latest connections block ≡ Some touch
     → slice_get connections touch.connection ≡ Some c → is_sure c touch.place touch.item ≡ true → IsSure connections block touch
 sure-last connections block touch c is at sure =
     let last = latest-at connections block touch is in
     let end : last.0 ≡ c = same-at connections touch.connection last.0 c last.1 at in
-    let there : slice_get c.stream touch.place ≡ Some touch.item = subst (λ (x : Outward). slice_get x.stream touch.place ≡ Some touch.item) end last.2 in
+    let there : slice_get c.stream touch.place ≡ Some touch.item = subst (λ (x : PrimaryConnection). slice_get x.stream touch.place ≡ Some touch.item) end
+    last.2 in
     record {
       place = touch.place;
       end = c;
@@ -109,7 +111,7 @@ sure-last connections block touch c is at sure =
         | inl before ↦ absurd (omega arith)
         | inr here ↦
             let index : next ≡ touch.place = let low = here.1 in omega arith in
-            ap (λ (x : Item). content_at x block)
+            ap (λ (x : StreamItem). content_at x block)
             (same-at c.stream touch.place i touch.item (subst (λ (n : ℕ). slice_get c.stream n ≡ Some i) index found) there)
       ];
     }
@@ -122,11 +124,12 @@ held-covers h block i accepted at held covered = any-filtered (λ (a : Accepted)
     accepted at (subst (λ b. not b ≡ true) (sym held) refl) covered
 
 -- the epoch of a place in a stream that grew
-pub epoch-same : (stream longer : List Item) (place : ℕ) → IsBeginning stream longer → place ≤ length stream → epoch_of longer place ≡ epoch_of stream place
-epoch-same stream longer place b within = ap (λ (l : List Item). epoch_of l place) (sym b.1) ∙ epoch-grows stream b.0 place within
+pub epoch-same : (stream longer : List StreamItem) (place : ℕ) → IsBeginning stream longer → place ≤ length stream
+    → epoch_of longer place ≡ epoch_of stream place
+epoch-same stream longer place b within = ap (λ (l : List StreamItem). epoch_of l place) (sym b.1) ∙ epoch-grows stream b.0 place within
 
 -- what is sure stays so
-pub sure-grows : (c d : Outward) (place : ℕ) (item : Item) → Grows c d → slice_get c.stream place ≡ Some item → is_sure c place item ≡ true
+pub sure-grows : (c d : PrimaryConnection) (place : ℕ) (item : StreamItem) → Grows c d → slice_get c.stream place ≡ Some item → is_sure c place item ≡ true
     → is_sure d place item ≡ true
 sure-grows c d place (WriteItem write) g at sure =
     let inside : place ≤ length c.stream = let within = slice_get_within c.stream place (WriteItem write) at in omega arith in

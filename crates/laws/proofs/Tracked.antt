@@ -10,19 +10,20 @@ use Rattle.std.proofs.Common.{ℕ, ◌≡◌, ◌+◌, ◌<◌, ◌≤◌, true,
 use Rattle.std.specs.Prelude.{is_some}
 use Rattle.model.specs.Contents.{Write, covers}
 use Rattle.model.specs.Stream.{WriteItem, ResyncItem}
-use Rattle.model.specs.Primary.{Accepted, Outward, PrimaryHistory, outward, last_index, stands, was_resynced, is_completed, is_on_disk, is_waiting}
+use Rattle.model.specs.Primary.{Accepted, PrimaryConnection, PrimaryHistory, primary_connection, last_index, is_established, was_resynced, is_completed}
+use Rattle.model.specs.Primary.{is_on_disk, is_waiting}
 use Rattle.laws.proofs.Primary.Homes.{HasHomes}
 use Rattle.laws.proofs.Blocks.Latest.{Touch, latest, sent_map, settling_map}
 
 -- a block of a resync is under way on a standing stream: it was not acknowledged
-pub record IsUnderWay (c : Outward) (place block : ℕ) (contents : List ℕ) : Type 0 where
-  pub standing : stands c ≡ true
+pub record IsUnderWay (c : PrimaryConnection) (place block : ℕ) (contents : List ℕ) : Type 0 where
+  pub standing : is_established c ≡ true
   pub there : slice_get c.stream place ≡ Some (ResyncItem block contents)
   pub unanswered : was_resynced c place (ResyncItem block contents) ≡ false
 
 -- a block of a resync stands on a standing stream, acknowledged or not, and no write behind it has the block
-pub record IsCopy (c : Outward) (place block : ℕ) (contents : List ℕ) : Type 0 where
-  pub standing : stands c ≡ true
+pub record IsCopy (c : PrimaryConnection) (place block : ℕ) (contents : List ℕ) : Type 0 where
+  pub standing : is_established c ≡ true
   pub there : slice_get c.stream place ≡ Some (ResyncItem block contents)
   pub last : (next : ℕ) (write : Write) → place < next → slice_get c.stream next ≡ Some (WriteItem write) → covers write block ≡ false
 
@@ -42,7 +43,7 @@ pub record IsTracked (h : PrimaryHistory) : Type 0 where
   pub items_inside : (block : ℕ) (touch : Touch) → latest h.connections block ≡ Some touch → block < h.settings.blocks
   pub on_disk : (i : ℕ) (accepted : Accepted) → slice_get h.writes i ≡ Some accepted → is_completed h accepted.write.number ≡ true
       → is_on_disk accepted.outcome ≡ true
-  pub under_way : (place block : ℕ) (contents : List ℕ) → IsUnderWay (outward h) place block contents
+  pub under_way : (place block : ℕ) (contents : List ℕ) → IsUnderWay (primary_connection h) place block contents
       → latest h.connections block ≡ Some (record { connection = last_index h.connections; place = place; item = ResyncItem block contents })
-  pub copied : (place block : ℕ) (contents : List ℕ) → IsCopy (outward h) place block contents → Settles h block contents
+  pub copied : (place block : ℕ) (contents : List ℕ) → IsCopy (primary_connection h) place block contents → Settles h block contents
   pub equal : (block : ℕ) → block < h.settings.blocks → h.marks block ≡ false → sent_map h block ≡ settling_map h block

@@ -9,8 +9,9 @@ use Rattle.model.specs.Contents.{Write, covers, filled}
 use Rattle.model.specs.Frames.{BarrierFrame, ProtocolFrame, SizesFrame, UuidsFrame, WriteAckFrame, BarrierAckFrame}
 use Rattle.model.specs.LocalRuns.{PrimaryEvent, Opens, Submits, WritesLocally, Sends, Takes, primary_run}
 use Rattle.model.specs.Stream.{WriteItem, epoch_of}
-use Rattle.model.specs.Primary.{OnDisk, Accepted, Linked, Alone, PrimaryHistory, outward, outward_at, stands, is_released, unreleased, active_extents}
-use Rattle.model.specs.Secondary.{SecondaryHistory, inward, items_taken, pending, secondary_map, whole}
+use Rattle.model.specs.Primary.{OnDisk, Accepted, Linked, Alone, PrimaryHistory, primary_connection, primary_connection_at, is_established, is_released}
+use Rattle.model.specs.Primary.{unreleased, active_extents}
+use Rattle.model.specs.Secondary.{SecondaryHistory, secondary_connection, items_taken, pending, secondary_map, whole}
 use Rattle.model.specs.SecondarySteps.{receive}
 use Rattle.model.specs.Pair.{Event, LocalEvent, SendEvent, ReceiveEvent, PeerEvent, AckOutEvent, AckInEvent, ClosePrimaryEvent, CloseSecondaryEvent}
 use Rattle.model.specs.Pair.{PairHistory, step, run_fed, differing, marked}
@@ -66,8 +67,8 @@ pub record OpeningsAreMet : Type 0 where
 pub record OneWriteIsMet : Type 0 where
   pub joined : IsJoined (reached one_write).primary (reached one_write).secondary
   pub completed : (reached one_write).primary.journal ≡ record { write = the_write; kind = Linked; home = Some (record { index = 0; place = 0 }) } ∷ []
-  pub taken : items_taken (inward (reached one_write).secondary) ≡ WriteItem the_write ∷ []
-  pub applied : (inward (reached one_write).secondary).applied ≡ (0, 0) ∷ []
+  pub taken : items_taken (secondary_connection (reached one_write).secondary) ≡ WriteItem the_write ∷ []
+  pub applied : (secondary_connection (reached one_write).secondary).applied ≡ (0, 0) ∷ []
 
 -- A write that the peer has not seen: its block differs, and is under an unreleased write, in one extent; and once the
 -- primary has closed it is marked.
@@ -81,12 +82,12 @@ unseen_and_lost = unseen ++ ClosePrimaryEvent ∷ []
 -- a stream stands, and then none
 pub record CoverIsMet : Type 0 where
   pub grounded : IsGrounded (reached unseen).primary (reached unseen).secondary
-  pub standing : stands (outward (reached unseen).primary) ≡ true
+  pub standing : is_established (primary_connection (reached unseen).primary) ≡ true
   pub differs : differing (reached unseen) ≡ 2 ∷ []
   pub unmarked : marked (reached unseen) ≡ []
   pub unreleased : length (unreleased (reached unseen).primary) ≡ 1
   pub active : active_extents (reached unseen).primary ≡ 0 ∷ []
-  pub lost : stands (outward (reached unseen_and_lost).primary) ≡ false
+  pub lost : is_established (primary_connection (reached unseen_and_lost).primary) ≡ false
   pub still : differing (reached unseen_and_lost) ≡ 2 ∷ []
   pub marked : marked (reached unseen_and_lost) ≡ 2 ∷ []
 
@@ -99,7 +100,7 @@ released = one_write ++ SendEvent ∷ ReceiveEvent ∷ AckOutEvent ∷ AckInEven
 pub record ReflectionIsMet : Type 0 where
   pub written : is_covered (reached released).primary 2 ≡ false
   pub touched : touches (WriteItem the_write) 2 ≡ true
-  pub sure : is_sure (outward (reached released).primary) 0 (WriteItem the_write) ≡ true
+  pub sure : is_sure (primary_connection (reached released).primary) 0 (WriteItem the_write) ≡ true
   pub untouched : is_covered (reached released).primary 3 ≡ false
 
 -- Both ends close, and nothing is pending.
@@ -157,8 +158,8 @@ pub record WholeEpochIsMet : Type 0 where
   pub unharmed : IsUnharmed (reached rewritten_to_the_end).primary (reached rewritten_to_the_end).secondary
   pub consistent : (reached rewritten_to_the_end).secondary.consistent ≡ true
   pub write : slice_get (reached rewritten_to_the_end).primary.writes 2 ≡ Some since
-  pub connection : (inward (reached rewritten_to_the_end).secondary).number ≡ 2
-  pub epoch : epoch_of (outward_at (reached rewritten_to_the_end).primary 2).stream 6 ≡ 3
+  pub connection : (secondary_connection (reached rewritten_to_the_end).secondary).number ≡ 2
+  pub epoch : epoch_of (primary_connection_at (reached rewritten_to_the_end).primary 2).stream 6 ≡ 3
   pub whole_to : whole (reached rewritten_to_the_end).secondary ≡ 3
   pub before : comes_before (reached rewritten_to_the_end).primary first_alone since ≡ true
   pub written : secondary_map (reached rewritten_to_the_end).secondary 2 ≡ Some (204 ∷ [])
@@ -184,11 +185,11 @@ estranged = (run_fed (take 12 (connect 9 11)) (fresh_with standard (words 7 1 0 
 pub record RefusedFramesAreMet : Type 0 where
   pub hello : (step AckInEvent false estranged).0 ≡ reply.Refused SplitBrain
   pub by_hello : is_refused_by AckInEvent SplitBrain ≡ true
-  pub hello_before : (outward estranged.primary).closed ≡ false
+  pub hello_before : (primary_connection estranged.primary).closed ≡ false
   pub hello_seen : (step AckInEvent false estranged).1.primary.peer ≡ Some (words 8 1 0 0)
   pub primary : (ack_in (Some (Ok (BarrierAckFrame 1 1))) false under_way.primary).0 ≡ reply.Refused BadBarrierAck
   pub frame : is_refused_frame BadBarrierAck ≡ true
-  pub first : (outward under_way.primary).refused ≡ false
+  pub first : (primary_connection under_way.primary).refused ≡ false
   pub unmarked : under_way.primary.marks 2 ≡ false
   pub marks : broken_off.marks 2 ≡ true
   pub identifiers : broken_off.tuple ≡ words 7 1 0 0
@@ -196,10 +197,10 @@ pub record RefusedFramesAreMet : Type 0 where
   pub completed : broken_off.journal ≡ record { write = the_write; kind = Alone; home = Some (record { index = 0; place = 0 }) } ∷ []
   pub secondary : (receive (Some (Ok (BarrierFrame 2))) false under_way.secondary).0 ≡ reply.Refused BadField
   pub frame_too : is_refused_frame BadField ≡ true
-  pub first_too : (inward under_way.secondary).refused ≡ false
-  pub before_too : (inward under_way.secondary).closed ≡ false
-  pub closed_too : (inward broken_off_too).closed ≡ true
-  pub stays : pending (inward broken_off_too) ≡ (0, WriteItem the_write) ∷ []
+  pub first_too : (secondary_connection under_way.secondary).refused ≡ false
+  pub before_too : (secondary_connection under_way.secondary).closed ≡ false
+  pub closed_too : (secondary_connection broken_off_too).closed ≡ true
+  pub stays : pending (secondary_connection broken_off_too) ≡ (0, WriteItem the_write) ∷ []
 
 -- A primary by itself that took the peer's hello.
 abbrev pub met : List PrimaryEvent

@@ -5,22 +5,22 @@ use Rattle.blocks.specs.declared.tuple.Tuple.{Tuple}
 use Rattle.blocks.specs.declared.outcome.Decision.{Decision}
 use Rattle.blocks.specs.declared.outcome.Decision.TheVariants.{FullSync}
 use Rattle.model.specs.Contents.{is_between}
-use Rattle.model.specs.Stream.{Item, WriteItem, ResyncItem, first_of, contents_of, epoch_of}
+use Rattle.model.specs.Stream.{StreamItem, WriteItem, ResyncItem, first_of, contents_of, epoch_of}
 use Rattle.model.specs.Frames.{UuidsFrame}
 use Rattle.model.specs.Identifiers.{decision}
-use Rattle.model.specs.Primary.{Outward, PrimaryHistory, barrier_acknowledged, was_resynced, local_map}
+use Rattle.model.specs.Primary.{PrimaryConnection, PrimaryHistory, barrier_acknowledged, was_resynced, local_map}
 use Rattle.model.specs.Headline.{opening_marked}
 
 -- an item puts something into a block
-abbrev pub touches : Item → ℕ → Bool
+abbrev pub touches : StreamItem → ℕ → Bool
 touches item block = is_between (first_of item) (length (contents_of item)) block
 
 -- what it puts there
-abbrev pub content_at : Item → ℕ → Option (List ℕ)
+abbrev pub content_at : StreamItem → ℕ → Option (List ℕ)
 content_at item block = slice_get (contents_of item) (block - first_of item)
 
 -- The peer has said that an item is on its disk: a write by its epoch's acknowledgement, a resync block by its own.
-abbrev pub is_sure : Outward → ℕ → Item → Bool
+abbrev pub is_sure : PrimaryConnection → ℕ → StreamItem → Bool
 is_sure c place (WriteItem write) = barrier_acknowledged c (epoch_of c.stream place)
 is_sure c place (ResyncItem block contents) = was_resynced c place (ResyncItem block contents)
 is_sure c place _ = false
@@ -33,28 +33,29 @@ IsLater connection place other later = (connection < other) ⊎ ((connection ≡
 pub record FromItem (h : PrimaryHistory) (block : ℕ) : Type 0 where
   pub connection : ℕ
   pub place : ℕ
-  pub end : Outward
-  pub item : Item
+  pub end : PrimaryConnection
+  pub item : StreamItem
   pub at : slice_get h.connections connection ≡ Some end
   pub there : slice_get end.stream place ≡ Some item
   pub touched : touches item block ≡ true
   pub sure : is_sure end place item ≡ true
   pub content : content_at item block ≡ local_map h block
-  pub later : (other next : ℕ) (c : Outward) (i : Item) → slice_get h.connections other ≡ Some c → slice_get c.stream next ≡ Some i → touches i block ≡ true
+  pub later : (other next : ℕ) (c : PrimaryConnection) (i : StreamItem) → slice_get h.connections other ≡ Some c → slice_get c.stream next ≡ Some i
+      → touches i block ≡ true
       → IsLater connection place other next → content_at i block ≡ local_map h block
 
 -- no stream has begun, and the tuple is the opening's
 pub record NoneBegan (h : PrimaryHistory) : Type 0 where
-  pub none : (k : ℕ) (c : Outward) → slice_get h.connections k ≡ Some c → c.begun ≡ false
+  pub none : (k : ℕ) (c : PrimaryConnection) → slice_get h.connections k ≡ Some c → c.begun ≡ false
   pub tuple : h.tuple ≡ h.opening_tuple
 
 -- The first stream that began: what the opening tuple and the peer's said of it.
 pub record FirstBegan (h : PrimaryHistory) (decided : Decision) : Type 0 where
   pub connection : ℕ
-  pub end : Outward
+  pub end : PrimaryConnection
   pub at : slice_get h.connections connection ≡ Some end
   pub begun : end.begun ≡ true
-  pub earlier : (k : ℕ) (c : Outward) → k < connection → slice_get h.connections k ≡ Some c → c.begun ≡ false
+  pub earlier : (k : ℕ) (c : PrimaryConnection) → k < connection → slice_get h.connections k ≡ Some c → c.begun ≡ false
   pub peer : Tuple
   pub n : ℕ
   pub taken : slice_get end.taken n ≡ Some (Ok (UuidsFrame peer))
@@ -65,6 +66,7 @@ pub record FirstBegan (h : PrimaryHistory) (decided : Decision) : Type 0 where
 pub record FromOpening (h : PrimaryHistory) (block : ℕ) : Type 0 where
   pub content : h.opening_map block ≡ local_map h block
   pub unmarked : opening_marked h block ≡ false
-  pub items : (k place : ℕ) (c : Outward) (i : Item) → slice_get h.connections k ≡ Some c → slice_get c.stream place ≡ Some i → touches i block ≡ true
+  pub items : (k place : ℕ) (c : PrimaryConnection) (i : StreamItem) → slice_get h.connections k ≡ Some c → slice_get c.stream place ≡ Some i
+      → touches i block ≡ true
       → content_at i block ≡ local_map h block
   pub began : NoneBegan h ⊎ ((decided : Decision) × FirstBegan h decided × (block < h.settings.blocks → decided ≡ FullSync → ⊥))

@@ -17,9 +17,11 @@ use Rattle.model.specs.Identifiers.{lost}
 use Rattle.model.specs.Marks.{marking_unreleased}
 use Rattle.model.specs.PrimarySteps.{close_primary}
 use Rattle.model.specs.SecondarySteps.{receive, close_secondary}
-use Rattle.model.specs.Primary.{Outward, PrimaryHistory, outward, with_outward, outward_at, stands, items_sent, active_extents, Accepted, is_released}
+use Rattle.model.specs.Primary.{PrimaryConnection, PrimaryHistory, primary_connection, with_primary_connection, primary_connection_at, is_established}
+use Rattle.model.specs.Primary.{items_sent, active_extents, Accepted, is_released}
 use Rattle.model.specs.Primary.{is_on_disk, is_completed, last_index}
-use Rattle.model.specs.Secondary.{Inward, SecondaryHistory, inward_at, items_taken, pending, inward, with_inward, secondary_map}
+use Rattle.model.specs.Secondary.{SecondaryConnection, SecondaryHistory, secondary_connection_at, items_taken, pending, secondary_connection}
+use Rattle.model.specs.Secondary.{with_secondary_connection, secondary_map}
 use Rattle.model.specs.Stream.{WriteItem, IsBeginning, IsLawful}
 use Rattle.model.specs.Pair.{Event, PairHistory, step, run, ReceiveEvent, AckInEvent}
 use Rattle.model.specs.Headline.{IsJoined, TakesABeginning, StaysClosed, StaysClosedToo, HoldsEarlierEpochs, KeepsPromises, MarksDifferences, is_marked}
@@ -32,7 +34,7 @@ use Rattle.laws.specs.Reflections.{FromItem, FromOpening}
 -- a write has at most one place, on at most one connection
 abbrev pub PrimaryWritesOnce : Type 0
 PrimaryWritesOnce =
-    (o : Opening) (events : List PrimaryEvent) (k l place other : ℕ) (c d : Outward) (a b : Write)
+    (o : Opening) (events : List PrimaryEvent) (k l place other : ℕ) (c d : PrimaryConnection) (a b : Write)
     → slice_get (primary_run events (primary_at o)).connections k ≡ Some c
     → slice_get (primary_run events (primary_at o)).connections l ≡ Some d
     → slice_get c.stream place ≡ Some (WriteItem a) → slice_get d.stream other ≡ Some (WriteItem b) → a.number ≡ b.number → (k ≡ l) × (place ≡ other)
@@ -41,7 +43,7 @@ PrimaryWritesOnce =
 abbrev pub PrimaryStreamsAreLawful : Type 0
 PrimaryStreamsAreLawful =
     (o : Opening) (events : List PrimaryEvent) → HasRanges o
-    → (k : ℕ) (c : Outward) → slice_get (primary_run events (primary_at o)).connections k ≡ Some c → IsLawful o.settings.max_epoch c.stream
+    → (k : ℕ) (c : PrimaryConnection) → slice_get (primary_run events (primary_at o)).connections k ≡ Some c → IsLawful o.settings.max_epoch c.stream
 
 -- its unreleased writes lie in as many extents as there are slots, or in fewer
 abbrev pub PrimaryExtentsAreFew : Type 0
@@ -69,7 +71,8 @@ PrimaryReflects =
 -- while no stream stands, every block under an unreleased write is marked
 abbrev pub PrimaryMarksAtRest : Type 0
 PrimaryMarksAtRest =
-    (o : Opening) (events : List PrimaryEvent) → HasRanges o → IsDisk o.settings.blocks o.local → stands (outward (primary_run events (primary_at o))) ≡ false
+    (o : Opening) (events : List PrimaryEvent) → HasRanges o → IsDisk o.settings.blocks o.local
+    → is_established (primary_connection (primary_run events (primary_at o))) ≡ false
     → (block : ℕ) → is_covered (primary_run events (primary_at o)) block ≡ true → is_marked (primary_run events (primary_at o)) block ≡ true
 
 -- A secondary by itself, whatever frames it takes and however its disk fails.
@@ -81,7 +84,7 @@ SecondaryHoldsEarlierEpochs = (o : Opening) (events : List SecondaryEvent) → H
 -- on a connection before the last one nothing is pending: it opens only when it is drained
 abbrev pub SecondaryDrainsFirst : Type 0
 SecondaryDrainsFirst =
-    (o : Opening) (events : List SecondaryEvent) (k : ℕ) (d : Inward) → slice_get (secondary_run events (secondary_at o)).connections k ≡ Some d
+    (o : Opening) (events : List SecondaryEvent) (k : ℕ) (d : SecondaryConnection) → slice_get (secondary_run events (secondary_at o)).connections k ≡ Some d
     → suc k < length (secondary_run events (secondary_at o)).connections → length (pending d) ≡ 0
 
 -- a closed end stays as it is, but for what is still applied, from any history on
@@ -94,7 +97,8 @@ SecondaryStaysClosed = (s : SecondaryHistory) (events : List SecondaryEvent) →
 abbrev pub JoinedTakesABeginning : Type 0
 JoinedTakesABeginning =
     (p : PrimaryHistory) (s : SecondaryHistory) → IsJoined p s
-    → (number : ℕ) → IsBeginning (items_taken (inward_at s number)) (take (items_sent (outward_at p number)) (outward_at p number).stream)
+    → (number : ℕ) → IsBeginning (items_taken (secondary_connection_at s number))
+    (take (items_sent (primary_connection_at p number)) (primary_connection_at p number).stream)
 
 -- every write completed over the link has what its protocol promises
 abbrev pub JoinedRunsKeepPromises : Type 0
@@ -174,8 +178,8 @@ is_protocol_error NotDrained = false
 -- No step of the pair is refused as a protocol error: the link holds only frames that the other end made.
 abbrev pub EveryStepIsHonest : Type 0
 EveryStepIsHonest =
-    (o : Opening) (events : List (Event × Bool)) (event : Event) (starved : Bool) (refusal : Refusal) → SharesSettings o → HasRanges o
-    → (step event starved (run events (pair_at o)).1).0 ≡ reply.Refused refusal → is_protocol_error refusal ≡ false
+    (o : Opening) (events : List (Event × Bool)) (event : Event) (out_of_memory : Bool) (refusal : Refusal) → SharesSettings o → HasRanges o
+    → (step event out_of_memory (run events (pair_at o)).1).0 ≡ reply.Refused refusal → is_protocol_error refusal ≡ false
 
 -- A refusal of a frame that was taken: it has a fault, the other end could not have sent it, or its hello does not fit.
 abbrev pub is_refused_frame : Refusal → Bool
@@ -193,20 +197,20 @@ is_refused_by event refusal = false
 
 -- the end that took it is closed
 abbrev pub is_closed_by : Event → PairHistory → Bool
-is_closed_by ReceiveEvent h = (inward h.secondary).closed
-is_closed_by event h = (outward h.primary).closed
+is_closed_by ReceiveEvent h = (secondary_connection h.secondary).closed
+is_closed_by event h = (primary_connection h.primary).closed
 
 -- A step that is refused leaves the pair's history as it was, unless it refuses a frame; also where memory was wanting.
 abbrev pub RefusedStepsChangeNothing : Type 0
 RefusedStepsChangeNothing =
-    (event : Event) (starved : Bool) (h : PairHistory) (refusal : Refusal) → (step event starved h).0 ≡ reply.Refused refusal
-    → is_refused_by event refusal ≡ false → (step event starved h).1 ≡ h
+    (event : Event) (out_of_memory : Bool) (h : PairHistory) (refusal : Refusal) → (step event out_of_memory h).0 ≡ reply.Refused refusal
+    → is_refused_by event refusal ≡ false → (step event out_of_memory h).1 ≡ h
 
 -- One that refuses a frame closes the end that took it.
 abbrev pub RefusedFramesClose : Type 0
 RefusedFramesClose =
-    (event : Event) (starved : Bool) (h : PairHistory) (refusal : Refusal) → (step event starved h).0 ≡ reply.Refused refusal
-    → is_refused_by event refusal ≡ true → is_closed_by event (step event starved h).1 ≡ true
+    (event : Event) (out_of_memory : Bool) (h : PairHistory) (refusal : Refusal) → (step event out_of_memory h).0 ≡ reply.Refused refusal
+    → is_refused_by event refusal ≡ true → is_closed_by event (step event out_of_memory h).1 ≡ true
 
 -- The peer's tuple last seen, once this frame of the hello was taken after so many: the third names the tuple, also where it
 -- is then refused.
@@ -217,44 +221,45 @@ seen_after n frame seen = seen
 -- A primary's history with a frame that counts as taken, and as refused.
 abbrev pub with_refused : Received → PrimaryHistory → PrimaryHistory
 with_refused frame p =
-    let c = outward p in
-    with_outward (λ c. record c { taken = c.taken ++ frame ∷ []; refused = true })
+    let c = primary_connection p in
+    with_primary_connection (λ c. record c { taken = c.taken ++ frame ∷ []; refused = true })
     (record p { peer = elim c.begun [ true ↦ p.peer | false ↦ seen_after (length c.taken) frame p.peer ] })
 
 -- the same of a secondary
 abbrev pub with_refused_too : Received → SecondaryHistory → SecondaryHistory
-with_refused_too frame s = with_inward (λ c. record c { taken = c.taken ++ frame ∷ []; refused = true }) s
+with_refused_too frame s = with_secondary_connection (λ c. record c { taken = c.taken ++ frame ∷ []; refused = true }) s
 
 -- A primary that refuses a frame, whatever the frame is, has all effects of a close in the same step: its history is what the
 -- close leaves once the frame counts as taken. Unreleased writes are marked, the tuple goes by the word for a loss where the
 -- stream had begun, and what the local disk has done is completed alone, unless the peer had answered it before.
 abbrev pub RefusedFramesCloseThePrimary : Type 0
 RefusedFramesCloseThePrimary =
-    (frame : Received) (starved : Bool) (p : PrimaryHistory) (refusal : Refusal) → (ack_in (Some frame) starved p).0 ≡ reply.Refused refusal
+    (frame : Received) (out_of_memory : Bool) (p : PrimaryHistory) (refusal : Refusal) → (ack_in (Some frame) out_of_memory p).0 ≡ reply.Refused refusal
     → is_refused_frame refusal ≡ true
-    → (ack_in (Some frame) starved p).1 ≡ (close_primary (with_refused frame p)).1
+    → (ack_in (Some frame) out_of_memory p).1 ≡ (close_primary (with_refused frame p)).1
 
 -- The same of a secondary: its items stay, and nothing more is taken or sent.
 abbrev pub RefusedFramesCloseTheSecondary : Type 0
 RefusedFramesCloseTheSecondary =
-    (frame : Received) (starved : Bool) (s : SecondaryHistory) (refusal : Refusal) → (receive (Some frame) starved s).0 ≡ reply.Refused refusal
+    (frame : Received) (out_of_memory : Bool) (s : SecondaryHistory) (refusal : Refusal) → (receive (Some frame) out_of_memory s).0 ≡ reply.Refused refusal
     → is_refused_frame refusal ≡ true
-    → (receive (Some frame) starved s).1 ≡ (close_secondary (with_refused_too frame s)).1
+    → (receive (Some frame) out_of_memory s).1 ≡ (close_secondary (with_refused_too frame s)).1
 
 -- What was pending at the secondary stays so, and its disk holds what it held: a refused frame brings no item. (An open end has
 -- refused none before.)
 abbrev pub RefusedFramesLeaveTheItems : Type 0
 RefusedFramesLeaveTheItems =
-    (frame : Received) (starved : Bool) (s : SecondaryHistory) (refusal : Refusal) → (inward s).refused ≡ false
-    → (receive (Some frame) starved s).0 ≡ reply.Refused refusal → is_refused_frame refusal ≡ true
-    → (pending (inward (receive (Some frame) starved s).1) ≡ pending (inward s)) × (secondary_map (receive (Some frame) starved s).1 ≡ secondary_map s)
+    (frame : Received) (out_of_memory : Bool) (s : SecondaryHistory) (refusal : Refusal) → (secondary_connection s).refused ≡ false
+    → (receive (Some frame) out_of_memory s).0 ≡ reply.Refused refusal → is_refused_frame refusal ≡ true
+    → (pending (secondary_connection (receive (Some frame) out_of_memory s).1) ≡ pending (secondary_connection s))
+    × (secondary_map (receive (Some frame) out_of_memory s).1 ≡ secondary_map s)
 
 -- What a primary that loses its connection does: it marks every block of the writes that were unreleased before; its tuple
 -- goes by the word for a loss, if the stream had begun; and each write of the connection that its local disk has done is
 -- completed.
 pub record LosesItsConnection (p q : PrimaryHistory) : Type 0 where
   pub marks : (block : ℕ) → q.marks block ≡ marking_unreleased p block
-  pub tuple : q.tuple ≡ (if (outward p).begun then lost (outward p).loss p.tuple else p.tuple)
+  pub tuple : q.tuple ≡ (if (primary_connection p).begun then lost (primary_connection p).loss p.tuple else p.tuple)
   pub completed : (n place : ℕ) (a : Accepted) → slice_get p.writes n ≡ Some a → a.home ≡ Some (record { index = last_index p.connections; place = place })
       → is_on_disk a.outcome ≡ true
       → is_completed q a.write.number ≡ true
@@ -262,6 +267,6 @@ pub record LosesItsConnection (p q : PrimaryHistory) : Type 0 where
 -- A primary that refuses a frame does so. The frame itself releases nothing. (An open end has refused none before.)
 abbrev pub RefusedFramesLoseTheConnection : Type 0
 RefusedFramesLoseTheConnection =
-    (frame : Received) (starved : Bool) (p : PrimaryHistory) (refusal : Refusal) → (outward p).refused ≡ false
-    → (ack_in (Some frame) starved p).0 ≡ reply.Refused refusal → is_refused_frame refusal ≡ true
-    → LosesItsConnection p (ack_in (Some frame) starved p).1
+    (frame : Received) (out_of_memory : Bool) (p : PrimaryHistory) (refusal : Refusal) → (primary_connection p).refused ≡ false
+    → (ack_in (Some frame) out_of_memory p).0 ≡ reply.Refused refusal → is_refused_frame refusal ≡ true
+    → LosesItsConnection p (ack_in (Some frame) out_of_memory p).1

@@ -116,7 +116,7 @@ impl<R: Wait + Drop, O: FrameOut + Drop, I: FrameIn + Drop, S: Store + Drop> Pri
     fn is_quiet(&self) -> bool {
         let local = self.node.lock(&self.rt);
         let node = local.node();
-        !node.is_open() || (node.stands() && node.marks() == 0 && node.open_epochs() == 0)
+        !node.is_open() || (node.is_established() && node.marks() == 0 && node.open_epochs() == 0)
     }
 
     fn is_acknowledged(&self) -> bool {

@@ -5,9 +5,9 @@ use Rattle.model.specs.LocalRuns.{PrimaryEvent, SecondaryEvent, primary_after, p
 use Rattle.model.specs.Primary.{PrimaryHistory}
 use Rattle.model.specs.Secondary.{SecondaryHistory}
 use Rattle.primary.specs.State as local
-use Rattle.primary_steps.specs.Node as local_node
+use Rattle.primary_protocol.specs.Node as local_node
 use Rattle.secondary.specs.State as peer
-use Rattle.secondary_steps.specs.Node as peer_node
+use Rattle.secondary_protocol.specs.Node as peer_node
 use Rattle.mirror.specs.Runs.{LocalRuns, PeerRuns}
 
 pub local-step : (event : PrimaryEvent) (v w : local.PrimaryView) (told : Reply)

@@ -8,11 +8,11 @@ use Rattle.model.specs.LocalRuns.{Opens, OpensToo}
 use Rattle.model.specs.Primary.{PrimaryHistory}
 use Rattle.model.specs.PrimarySteps.{open_tests}
 use Rattle.model.specs.Refusals.{Test, done_with}
-use Rattle.model.specs.Secondary.{SecondaryHistory, inward, is_drained}
+use Rattle.model.specs.Secondary.{SecondaryHistory, secondary_connection, is_drained}
 use Rattle.primary.specs.State as local
-use Rattle.primary_steps.specs.Node as local_node
+use Rattle.primary_protocol.specs.Node as local_node
 use Rattle.secondary.specs.State as peer
-use Rattle.secondary_steps.specs.Node as peer_node
+use Rattle.secondary_protocol.specs.Node as peer_node
 
 -- each opened, on whichever history it had
 pub record BothOpen (sync loss : ℕ) (p p_then : local.PrimaryView) (s s_then : peer.SecondaryView) : Type 0 where
@@ -23,4 +23,7 @@ pub record BothOpen (sync loss : ℕ) (p p_then : local.PrimaryView) (s s_then :
 -- last connection that there is; or the primary's opening is refused.
 abbrev pub connect_tests : ℕ → ℕ → PrimaryHistory → SecondaryHistory → List Test
 connect_tests sync loss h g =
-    (not ((inward g).closed && is_drained g), NotDrained) ∷ (nat_le 4294967295 (inward g).number, StreamFull) ∷ open_tests h sync loss false
+    (not ((secondary_connection g).closed && is_drained g), NotDrained) ∷ (
+      nat_le 4294967295 (secondary_connection g).number,
+      StreamFull,
+    ) ∷ open_tests h sync loss false

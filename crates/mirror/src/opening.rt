@@ -6,9 +6,9 @@ ghost use Rattle.model.specs.Primary.{PrimaryHistory};
 ghost use Rattle.model.specs.Refusals.{first_refusal};
 ghost use Rattle.model.specs.Secondary.{SecondaryHistory};
 ghost use Rattle.primary.specs.State as local_state;
-ghost use Rattle.primary_steps.specs.Node as local_node;
+ghost use Rattle.primary_protocol.specs.Node as local_node;
 ghost use Rattle.secondary.specs.State as peer_state;
-ghost use Rattle.secondary_steps.specs.Node as peer_node;
+ghost use Rattle.secondary_protocol.specs.Node as peer_node;
 ghost use Rattle.mirror.specs.Opened.{BothOpen, connect_tests};
 
 use blocks::{Refusal, Store};

@@ -15,12 +15,13 @@ use Rattle.blocks.specs.declared.outcome.What.TheVariants as what
 use Rattle.blocks.specs.declared.outcome.Reply.{Reply}
 use Rattle.blocks.specs.declared.outcome.Reply.TheVariants as reply
 use Rattle.blocks.specs.declared.command.Command.TheVariants as command
-use Rattle.model.specs.Stream.{Item, WriteItem, ResyncItem, BarrierItem, SyncUuidItem, is_write, epoch_size, items_of_epoch}
+use Rattle.model.specs.Stream.{StreamItem, WriteItem, ResyncItem, BarrierItem, SyncUuidItem, is_write, epoch_size, items_of_epoch}
 use Rattle.model.specs.Frames.{Packet, ProtocolFrame, SizesFrame, UuidsFrame, RecvAckFrame, WriteAckFrame, RsWriteAckFrame, BarrierAckFrame, Acknowledged}
 use Rattle.model.specs.Frames.{Received, naming}
 use Rattle.model.specs.Identifiers.{stands_in, decision, sync_start}
 use Rattle.model.specs.Refusals.{Test}
-use Rattle.model.specs.Primary.{Outward, PrimaryHistory, outward, with_outward, items_sent, same_naming, was_received, was_written, was_resynced}
+use Rattle.model.specs.Primary.{PrimaryConnection, PrimaryHistory, primary_connection, with_primary_connection, items_sent, same_naming, was_received}
+use Rattle.model.specs.Primary.{was_written, was_resynced}
 use Rattle.model.specs.Primary.{barrier_acknowledged, is_resync}
 use Rattle.model.specs.Marks.{marking_all, clearing, releasing}
 use Rattle.model.specs.PrimarySteps.{follows, succeeding, tested, closing}
@@ -40,20 +41,20 @@ Taken = Result (What × PrimaryHistory) (Refusal × PrimaryHistory)
 
 -- The stream begins: with the resync's SYNC_UUID where there is a resync.
 abbrev pub begun_with : Decision → PrimaryHistory → PrimaryHistory
-begun_with NoSync h = with_outward (λ c. record c { begun = true }) h
+begun_with NoSync h = with_primary_connection (λ c. record c { begun = true }) h
 begun_with BitmapSync h =
-    let word = (outward h).sync in
-    with_outward (λ c. record c { begun = true; stream = SyncUuidItem word ∷ [] }) (record h { tuple = sync_start word h.tuple })
+    let word = (primary_connection h).sync in
+    with_primary_connection (λ c. record c { begun = true; stream = SyncUuidItem word ∷ [] }) (record h { tuple = sync_start word h.tuple })
 begun_with FullSync h =
-    let word = (outward h).sync in
-    with_outward (λ c. record c { begun = true; stream = SyncUuidItem word ∷ [] })
+    let word = (primary_connection h).sync in
+    with_primary_connection (λ c. record c { begun = true; stream = SyncUuidItem word ∷ [] })
     (record h { tuple = sync_start word h.tuple; marks = marking_all h.settings.blocks })
 
 -- The peer's tuple counts as seen, also where the hello is then refused. The words are tested against it, before the decision.
 abbrev pub meeting : Tuple → PrimaryHistory → Taken
 meeting peer h =
     let seen = record h { peer = Some peer } in
-    let c = outward h in
+    let c = primary_connection h in
     elim (stands_in c.sync peer || stands_in c.loss peer) [
       | true ↦ Err (UsedIdentifier, seen)
       | false ↦ elim (decision h.tuple peer) [ Err refusal ↦ Err (refusal, seen) | Ok decided ↦ Ok (what.Decided decided, begun_with decided seen) ]
@@ -71,14 +72,14 @@ taking_hello n packet h = Err (BadCommand, h)
 -- Acknowledgements.
 
 -- it names a sent item of this kind
-abbrev pub names_sent : (Item → Bool) → Acknowledged → Outward → Bool
+abbrev pub names_sent : (StreamItem → Bool) → Acknowledged → PrimaryConnection → Bool
 names_sent kind ack c = elim (slice_get c.stream ack.place) [
   | None ↦ false
   | Some item ↦ (kind item && same_naming (naming ack.place item) ack) && nat_lt ack.place (items_sent c)
 ]
 
 -- it was acknowledged before
-abbrev pub was_named : (Outward → ℕ → Item → Bool) → Acknowledged → Outward → Bool
+abbrev pub was_named : (PrimaryConnection → ℕ → StreamItem → Bool) → Acknowledged → PrimaryConnection → Bool
 was_named before ack c = elim (slice_get c.stream ack.place) [ None ↦ false | Some item ↦ before c ack.place item ]
 
 -- the connection's protocol is this one
@@ -86,7 +87,7 @@ abbrev pub is_protocol : Protocol → PrimaryHistory → Bool
 is_protocol asked h = same_protocol asked h.settings.protocol
 
 -- the acknowledgement that the protocol asks of an item was taken
-abbrev pub is_acknowledged : Protocol → Outward → ℕ × Item → Bool
+abbrev pub is_acknowledged : Protocol → PrimaryConnection → ℕ × StreamItem → Bool
 is_acknowledged asked c (place, WriteItem write) = elim asked [
   | protocol.A ↦ true
   | protocol.B ↦ was_received c place (WriteItem write)
@@ -96,38 +97,38 @@ is_acknowledged asked c (place, ResyncItem block contents) = was_resynced c plac
 is_acknowledged asked c _ = true
 
 -- the oldest barrier that was sent and is not acknowledged
-abbrev pub is_unacknowledged : Outward → Item → Bool
+abbrev pub is_unacknowledged : PrimaryConnection → StreamItem → Bool
 is_unacknowledged c (BarrierItem epoch) = not (barrier_acknowledged c epoch)
 is_unacknowledged c _ = false
 
 -- the first barrier sent that the peer has not acknowledged
-abbrev pub oldest_barrier : Outward → Option Item
+abbrev pub oldest_barrier : PrimaryConnection → Option StreamItem
 oldest_barrier c = find (is_unacknowledged c) (take (items_sent c) c.stream)
 
 -- it is the barrier of this epoch
-abbrev pub is_barrier_of : ℕ → Option Item → Bool
+abbrev pub is_barrier_of : ℕ → Option StreamItem → Bool
 is_barrier_of number (Some (BarrierItem epoch)) = number == epoch
 is_barrier_of number _ = false
 
 -- A BARRIER_ACK is in its turn, has the epoch's size, and comes after every acknowledgement that the epoch's items want.
 abbrev pub is_in_turn : PrimaryHistory → ℕ → ℕ → Bool
 is_in_turn h number size =
-    let c = outward h in
+    let c = primary_connection h in
     (is_barrier_of number (oldest_barrier c) && (size == epoch_size c.stream number))
     && list_all (is_acknowledged h.settings.protocol c) (items_of_epoch c.stream number)
 
 -- An acknowledgement, judged on the history before it was taken.
 abbrev pub taking_ack : Packet → PrimaryHistory → PrimaryHistory → Taken
 taking_ack (RecvAckFrame ack) before h =
-    let c = outward before in
+    let c = primary_connection before in
     if (is_protocol protocol.B before && names_sent is_write ack c) && not (was_named was_received ack c) then Ok (what.Frame command.RecvAck None, h)
     else Err (UnknownAck, h)
 taking_ack (WriteAckFrame ack) before h =
-    let c = outward before in
+    let c = primary_connection before in
     if (is_protocol protocol.C before && names_sent is_write ack c) && not (was_named was_written ack c) then Ok (what.Frame command.WriteAck None, h)
     else Err (UnknownAck, h)
 taking_ack (RsWriteAckFrame ack) before h =
-    let c = outward before in
+    let c = primary_connection before in
     if names_sent is_resync ack c && not (was_named was_resynced ack c)
     then Ok (what.Frame command.RsWriteAck None, record h { marks = clearing ack.first h.marks }) else Err (UnknownAck, h)
 taking_ack (BarrierAckFrame number size) before h =
@@ -138,26 +139,26 @@ taking_ack packet before h = Err (BadCommand, h)
 abbrev pub taking : Received → PrimaryHistory → PrimaryHistory → Taken
 taking (Err fault) before h = Err (fault, h)
 taking (Ok packet) before h =
-    elim (outward before).begun [ true ↦ taking_ack packet before h | false ↦ taking_hello (length (outward before).taken) packet h ]
+    elim (primary_connection before).begun [ true ↦ taking_ack packet before h | false ↦ taking_hello (length (primary_connection before).taken) packet h ]
 
 -- The frame counts as taken; a protocol error closes the end in the same step, with all effects of its close.
 abbrev pub take_frame : Received → PrimaryHistory → Reply × PrimaryHistory
 take_frame frame h =
-    let taken = with_outward (λ c. record c { taken = c.taken ++ frame ∷ [] }) h in
+    let taken = with_primary_connection (λ c. record c { taken = c.taken ++ frame ∷ [] }) h in
     elim (taking frame h taken) [
       | Ok done ↦ succeeding done.0 done.1
-      | Err error ↦ (reply.Refused error.0, (follows (closing (with_outward (λ c. record c { refused = true }) error.1))).history)
+      | Err error ↦ (reply.Refused error.0, (follows (closing (with_primary_connection (λ c. record c { refused = true }) error.1))).history)
     ]
 
 -- when the next frame is not taken, in order
 abbrev pub ack_in_tests : PrimaryHistory → Option Received → Bool → List Test
-ack_in_tests h frame starved =
-    let c = outward h in
-    (c.closed, NotConnected) ∷ (not c.begun && starved, NoMemory) ∷ (is_none frame, NothingThere) ∷ []
+ack_in_tests h frame out_of_memory =
+    let c = primary_connection h in
+    (c.closed, NotConnected) ∷ (not c.begun && out_of_memory, NoMemory) ∷ (is_none frame, NothingThere) ∷ []
 
 -- the next frame that the link has for this end, or none
 abbrev pub ack_in : Option Received → Bool → PrimaryHistory → Reply × PrimaryHistory
-ack_in frame starved h = tested h (ack_in_tests h frame starved) (λ _. elim frame [
+ack_in frame out_of_memory h = tested h (ack_in_tests h frame out_of_memory) (λ _. elim frame [
   | None ↦ (reply.Refused NothingThere, h)
   | Some taken ↦ take_frame taken h
 ])

@@ -7,7 +7,7 @@ use Rattle.blocks.specs.declared.command.Command.TheVariants as command
 use Rattle.blocks.specs.SettingsRange.{standard}
 use Rattle.model.specs.Primary.{local_map}
 use Rattle.model.specs.PrimarySteps.{take_completed}
-use Rattle.model.specs.Secondary.{inward, pending, secondary_map, is_drained}
+use Rattle.model.specs.Secondary.{secondary_connection, pending, secondary_map, is_drained}
 use Rattle.model.specs.Pair.{Event, LocalEvent, LocalFaultEvent, SendEvent, ReceiveEvent, PeerEvent, PeerFaultEvent, AckOutEvent, AckInEvent, ClosePrimaryEvent}
 use Rattle.model.specs.Pair.{marked, differing}
 use Rattle.model.specs.Rows.{connected, replies, after, fill, refused, done, accepted, item, frame, completing, with_barrier}
@@ -77,8 +77,8 @@ fault_among_others =
 
 -- The other write of that epoch stays and may still be applied; the one of the later epoch is dropped.
 pub record OthersOfTheEpochStay : Type 0 where
-  pub before : map (λ entry. entry.0) (pending (inward (after (take 11 fault_among_others) (connected epochs_of_two)).secondary)) ≡ 0 ∷ 1 ∷ 3 ∷ []
-  pub pending : map (λ entry. entry.0) (pending (inward (after fault_among_others (connected epochs_of_two)).secondary)) ≡ 1 ∷ []
+  pub before : map (λ entry. entry.0) (pending (secondary_connection (after (take 11 fault_among_others) (connected epochs_of_two)).secondary)) ≡ 0 ∷ 1 ∷ 3 ∷ []
+  pub pending : map (λ entry. entry.0) (pending (secondary_connection (after fault_among_others (connected epochs_of_two)).secondary)) ≡ 1 ∷ []
   pub answers : replies (PeerEvent 3 ∷ PeerEvent 0 ∷ PeerEvent 1 ∷ []) (after fault_among_others (connected epochs_of_two)) ≡ refused refusal.UnknownJob ∷
       refused refusal.UnknownJob ∷ done ∷ []
   pub written : secondary_map (after (fault_among_others ++ PeerEvent 1 ∷ []) (connected epochs_of_two)).secondary 3 ≡ Some (187 ∷ [])

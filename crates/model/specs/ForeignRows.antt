@@ -5,7 +5,7 @@ use Rattle.blocks.specs.declared.refusal.Refusal.TheVariants as refusal
 use Rattle.blocks.specs.declared.outcome.Reply.{Reply}
 use Rattle.blocks.specs.declared.command.Command.TheVariants as command
 use Rattle.blocks.specs.SettingsRange.{standard}
-use Rattle.model.specs.Primary.{PrimaryHistory, outward}
+use Rattle.model.specs.Primary.{PrimaryHistory, primary_connection}
 use Rattle.model.specs.Pair.{SendEvent, ReceiveEvent, PairHistory}
 use Rattle.model.specs.Rows.{words, connected, after, fill, refused, done, frame}
 use Rattle.model.specs.Contents.{Write}
@@ -86,7 +86,7 @@ pub record AfterOneWrite : Type 0 where
   pub wrong_size : reply_of (Ok (BarrierAckFrame 1 2)) completed_one ≡ refused refusal.BadBarrierAck
   pub repeated : reply_of (Ok (WriteAckFrame (ack_of 2 1 1 0))) completed_one ≡ refused refusal.UnknownAck
   pub marks : (primary_after (Ok (BarrierAckFrame 1 2)) completed_one).marks 2 ≡ true
-  pub closed : (outward (primary_after (Ok (BarrierAckFrame 1 2)) completed_one)).closed ≡ true
+  pub closed : (primary_connection (primary_after (Ok (BarrierAckFrame 1 2)) completed_one)).closed ≡ true
   pub identifiers : (primary_after (Ok (BarrierAckFrame 1 2)) completed_one).tuple ≡ words 7 1 0 0
   pub marks_too : (primary_after (Ok (WriteAckFrame (ack_of 2 1 1 0))) completed_one).marks 2 ≡ true
   pub identifiers_too : (primary_after (Ok (WriteAckFrame (ack_of 2 1 1 0))) completed_one).tuple ≡ words 7 1 0 0
@@ -99,6 +99,7 @@ received_one = (after (fill 2 1 170 ∷ SendEvent ∷ []) (connected semisynchro
 pub record AcknowledgedOnce : Type 0 where
   pub first : reply_of (Ok (RecvAckFrame (ack_of 2 1 1 0))) received_one ≡ frame command.RecvAck
   pub second : reply_of (Ok (RecvAckFrame (ack_of 2 1 1 0))) (primary_after (Ok (RecvAckFrame (ack_of 2 1 1 0))) received_one) ≡ refused refusal.UnknownAck
-  pub closed : (outward (primary_after (Ok (RecvAckFrame (ack_of 2 1 1 0))) (primary_after (Ok (RecvAckFrame (ack_of 2 1 1 0))) received_one))).closed ≡ true
+  pub closed : (primary_connection
+      (primary_after (Ok (RecvAckFrame (ack_of 2 1 1 0))) (primary_after (Ok (RecvAckFrame (ack_of 2 1 1 0))) received_one))).closed ≡ true
   pub marks : (primary_after (Ok (RecvAckFrame (ack_of 2 1 1 0))) (primary_after (Ok (RecvAckFrame (ack_of 2 1 1 0))) received_one)).marks 2 ≡ true
   pub identifiers : (primary_after (Ok (RecvAckFrame (ack_of 2 1 1 0))) (primary_after (Ok (RecvAckFrame (ack_of 2 1 1 0))) received_one)).tuple ≡ words 7 1 0 0

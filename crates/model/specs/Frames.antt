@@ -7,7 +7,7 @@ use Rattle.blocks.specs.declared.refusal.Refusal.{Refusal}
 use Rattle.blocks.specs.declared.command.Command.{Command}
 use Rattle.blocks.specs.declared.command.Command.TheVariants as command
 use Rattle.model.specs.Contents.{Write}
-use Rattle.model.specs.Stream.{Item, WriteItem, ResyncItem, BarrierItem, SyncUuidItem, UuidsItem, first_of, number_of, contents_of}
+use Rattle.model.specs.Stream.{StreamItem, WriteItem, ResyncItem, BarrierItem, SyncUuidItem, UuidsItem, first_of, number_of, contents_of}
 
 -- What an acknowledgement names: the first block, the number of the write (0 for a resync), how many blocks, the place.
 pub record Acknowledged : Type 0 where
@@ -49,7 +49,7 @@ command_of (RsWriteAckFrame ack) = command.RsWriteAck
 command_of (BarrierAckFrame number size) = command.BarrierAck
 
 -- the frame of an item at a place of the stream
-abbrev pub frame_of : ℕ → Item → Packet
+abbrev pub frame_of : ℕ → StreamItem → Packet
 frame_of place (WriteItem write) = DataFrame write place
 frame_of place (ResyncItem block contents) = RsDataReplyFrame block contents place
 frame_of place (BarrierItem epoch) = BarrierFrame epoch
@@ -57,7 +57,7 @@ frame_of place (SyncUuidItem word) = SyncUuidFrame word
 frame_of place (UuidsItem tuple) = UuidsFrame tuple
 
 -- the item that a frame brings, where it brings one
-abbrev pub item_of : Packet → Option Item
+abbrev pub item_of : Packet → Option StreamItem
 item_of (DataFrame write place) = Some (WriteItem write)
 item_of (RsDataReplyFrame block contents place) = Some (ResyncItem block contents)
 item_of (BarrierFrame number) = Some (BarrierItem number)
@@ -71,7 +71,7 @@ item_of (RsWriteAckFrame ack) = None
 item_of (BarrierAckFrame number size) = None
 
 -- how an acknowledgement names an item
-abbrev pub naming : ℕ → Item → Acknowledged
+abbrev pub naming : ℕ → StreamItem → Acknowledged
 naming place item = record { first = first_of item; number = number_of item; count = length (contents_of item); place = place }
 
 -- The frames taken that count: the last one does not, where it was refused.
@@ -83,10 +83,10 @@ abbrev pub hello_of : Settings → Tuple → List Packet
 hello_of settings tuple = ProtocolFrame settings.protocol ∷ SizesFrame settings.blocks ∷ UuidsFrame tuple ∷ []
 
 -- the frames of these items, of which the first stands at this place
-abbrev pub frames_from : ℕ → List Item → List Packet
+abbrev pub frames_from : ℕ → List StreamItem → List Packet
 frames_from place [] = []
 frames_from place (item ∷ items) = frame_of place item ∷ frames_from (place + 1) items
 
 -- the frames of a stream
-abbrev pub frames_of : List Item → List Packet
+abbrev pub frames_of : List StreamItem → List Packet
 frames_of items = frames_from 0 items

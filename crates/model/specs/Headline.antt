@@ -5,57 +5,60 @@ use Rattle.blocks.specs.declared.tuple.Tuple.{Tuple}
 use Rattle.blocks.specs.declared.settings.Protocol.{Protocol}
 use Rattle.blocks.specs.declared.settings.Protocol.TheVariants as protocol
 use Rattle.model.specs.Contents.{BlockMap, Write, covers}
-use Rattle.model.specs.Stream.{Item, WriteItem, contents_of, IsLawful, IsBeginning, IsClosedAt, is_in, is_whole}
+use Rattle.model.specs.Stream.{StreamItem, WriteItem, contents_of, IsLawful, IsBeginning, IsClosedAt, is_in, is_whole}
 use Rattle.model.specs.Frames.{Received}
-use Rattle.model.specs.Primary.{Completion, Linked, Outward, PrimaryHistory, outward, outward_at, stands, frames_due, items_sent, local_map, unreleased}
+use Rattle.model.specs.Primary.{Completion, Linked, PrimaryConnection, PrimaryHistory, primary_connection, primary_connection_at, is_established, frames_due}
+use Rattle.model.specs.Primary.{items_sent, local_map, unreleased}
 use Rattle.model.specs.Primary.{active_extents}
-use Rattle.model.specs.Secondary.{Inward, SecondaryHistory, inward_at, items_taken, map_of, secondary_map, answers_due}
+use Rattle.model.specs.Secondary.{SecondaryConnection, SecondaryHistory, secondary_connection_at, items_taken, map_of, secondary_map, answers_due}
 use Rattle.model.specs.Pair.{same_block}
 
 -- the frames that one end of a connection pushed, as the other end reads them
-abbrev pub pushed_by : PrimaryHistory → Outward → List Received
+abbrev pub pushed_by : PrimaryHistory → PrimaryConnection → List Received
 pushed_by p c = map (λ packet. Ok packet) (take c.pushed (frames_due p.settings c))
 
 -- the acknowledgements that the other end pushed
-abbrev pub pushed_back_by : SecondaryHistory → Inward → List Received
+abbrev pub pushed_back_by : SecondaryHistory → SecondaryConnection → List Received
 pushed_back_by s d = map (λ packet. Ok packet) (take d.pushed (answers_due s.settings d))
 
 -- The link. On each connection, by its number, what one end took begins what the other pushed, both ways. Where a node never
 -- opened the connection, nothing was pushed at its end and nothing taken.
 pub record IsJoined (p : PrimaryHistory) (s : SecondaryHistory) : Type 0 where
-  pub out : (number : ℕ) → IsBeginning (inward_at s number).taken (pushed_by p (outward_at p number))
-  pub back : (number : ℕ) → IsBeginning (outward_at p number).taken (pushed_back_by s (inward_at s number))
+  pub out : (number : ℕ) → IsBeginning (secondary_connection_at s number).taken (pushed_by p (primary_connection_at p number))
+  pub back : (number : ℕ) → IsBeginning (primary_connection_at p number).taken (pushed_back_by s (secondary_connection_at s number))
 
 -- First clause: what the secondary took on each connection is a beginning of what the primary sent, and that of a lawful
 -- stream; each write has one place.
 pub record TakesABeginning (p : PrimaryHistory) (s : SecondaryHistory) : Type 0 where
-  pub taken : (number : ℕ) → IsBeginning (items_taken (inward_at s number)) (take (items_sent (outward_at p number)) (outward_at p number).stream)
-  pub lawful : (k : ℕ) (c : Outward) → slice_get p.connections k ≡ Some c → IsLawful p.settings.max_epoch c.stream
-  pub once : (k l place other : ℕ) (c d : Outward) (a b : Write) → slice_get p.connections k ≡ Some c → slice_get p.connections l ≡ Some d
+  pub taken : (number : ℕ) → IsBeginning (items_taken (secondary_connection_at s number))
+      (take (items_sent (primary_connection_at p number)) (primary_connection_at p number).stream)
+  pub lawful : (k : ℕ) (c : PrimaryConnection) → slice_get p.connections k ≡ Some c → IsLawful p.settings.max_epoch c.stream
+  pub once : (k l place other : ℕ) (c d : PrimaryConnection) (a b : Write) → slice_get p.connections k ≡ Some c → slice_get p.connections l ≡ Some d
       → slice_get c.stream place ≡ Some (WriteItem a) → slice_get d.stream other ≡ Some (WriteItem b) → a.number ≡ b.number → (k ≡ l) × (place ≡ other)
 
 -- A closed end stays as it is: the primary's connection as a whole, the secondary's but for what is still applied and dropped.
 pub record StaysClosed (p later : PrimaryHistory) : Type 0 where
-  pub same : (k : ℕ) (c : Outward) → slice_get p.connections k ≡ Some c → c.closed ≡ true → slice_get later.connections k ≡ Some c
+  pub same : (k : ℕ) (c : PrimaryConnection) → slice_get p.connections k ≡ Some c → c.closed ≡ true → slice_get later.connections k ≡ Some c
 
 -- the secondary's side of the same
 pub record StaysClosedToo (s later : SecondaryHistory) : Type 0 where
-  pub same : (k : ℕ) (c : Inward) → slice_get s.connections k ≡ Some c → c.closed ≡ true
-      → (d : Inward) × (slice_get later.connections k ≡ Some d) × (d ≡ record c { applied = d.applied; gone = d.gone })
+  pub same : (k : ℕ) (c : SecondaryConnection) → slice_get s.connections k ≡ Some c → c.closed ≡ true
+      → (d : SecondaryConnection) × (slice_get later.connections k ≡ Some d) × (d ≡ record c { applied = d.applied; gone = d.gone })
 
 -- Second clause: the secondary's disk holds every write of earlier epochs and part of one. On each connection the part
 -- applied is closed at some epoch and names blocks of items that were taken alone, and it lies over what the disk held when
 -- the connection opened.
 pub record HoldsEarlierEpochs (s : SecondaryHistory) : Type 0 where
-  pub closed_at : (k : ℕ) (d : Inward) → slice_get s.connections k ≡ Some d → (epoch : ℕ) × IsClosedAt epoch (items_taken d) d.applied
-  pub taken : (k place offset : ℕ) (d : Inward) → slice_get s.connections k ≡ Some d → is_in d.applied place offset ≡ true
-      → (item : Item) × (slice_get (items_taken d) place ≡ Some item) × (offset < length (contents_of item))
-  pub goes_on : (k block : ℕ) (d e : Inward) → slice_get s.connections k ≡ Some d → slice_get s.connections (suc k) ≡ Some e → e.base block ≡ map_of d block
-  pub begins : (block : ℕ) (d : Inward) → slice_get s.connections 0 ≡ Some d → d.base block ≡ s.opening_map block
+  pub closed_at : (k : ℕ) (d : SecondaryConnection) → slice_get s.connections k ≡ Some d → (epoch : ℕ) × IsClosedAt epoch (items_taken d) d.applied
+  pub taken : (k place offset : ℕ) (d : SecondaryConnection) → slice_get s.connections k ≡ Some d → is_in d.applied place offset ≡ true
+      → (item : StreamItem) × (slice_get (items_taken d) place ≡ Some item) × (offset < length (contents_of item))
+  pub goes_on : (k block : ℕ) (d e : SecondaryConnection) → slice_get s.connections k ≡ Some d → slice_get s.connections (suc k) ≡ Some e
+      → e.base block ≡ map_of d block
+  pub begins : (block : ℕ) (d : SecondaryConnection) → slice_get s.connections 0 ≡ Some d → d.base block ≡ s.opening_map block
 
 -- What a completion over the link promises: under A its place was sent, under B it was taken by the secondary, under C all
 -- of it is on the secondary's disk (DRBD User's Guide, "Replication modes").
-abbrev pub Promise : Protocol → Outward → Inward → Write → ℕ → Type 0
+abbrev pub Promise : Protocol → PrimaryConnection → SecondaryConnection → Write → ℕ → Type 0
 Promise protocol.A c d write place = place < items_sent c
 Promise protocol.B c d write place = place < length (items_taken d)
 Promise protocol.C c d write place = is_whole d.applied place (WriteItem write) ≡ true
@@ -64,9 +67,9 @@ Promise protocol.C c d write place = is_whole d.applied place (WriteItem write) 
 pub record KeepsPromises (p : PrimaryHistory) (s : SecondaryHistory) : Type 0 where
   pub promised : (n k place : ℕ) (entry : Completion) → slice_get p.journal n ≡ Some entry → entry.kind ≡ Linked
       → entry.home ≡ Some (record { index = k; place = place })
-      → Promise p.settings.protocol (outward_at p (suc k)) (inward_at s (suc k)) entry.write place
+      → Promise p.settings.protocol (primary_connection_at p (suc k)) (secondary_connection_at s (suc k)) entry.write place
   pub home : (n : ℕ) (entry : Completion) → slice_get p.journal n ≡ Some entry → entry.kind ≡ Linked
-      → (k : ℕ) × (place : ℕ) × (c : Outward) × (entry.home ≡ Some (record { index = k; place = place })) × (slice_get p.connections k ≡ Some c)
+      → (k : ℕ) × (place : ℕ) × (c : PrimaryConnection) × (entry.home ≡ Some (record { index = k; place = place })) × (slice_get p.connections k ≡ Some c)
       × (slice_get c.stream place ≡ Some (WriteItem entry.write))
 
 -- A block of the device is marked. Past its end nothing is.
@@ -87,7 +90,7 @@ IsGrounded p s = (list_any (λ c. c.begun) p.connections ≡ true) ⊎ Cover (op
 
 -- Fourth clause: while no stream stands, every block on which the disks differ is marked.
 abbrev pub MarksDifferences : PrimaryHistory → SecondaryHistory → Type 0
-MarksDifferences p s = IsGrounded p s → stands (outward p) ≡ false → Cover (is_marked p) (local_map p) (secondary_map s)
+MarksDifferences p s = IsGrounded p s → is_established (primary_connection p) ≡ false → Cover (is_marked p) (local_map p) (secondary_map s)
 
 -- Beside them, stream standing or not: it is marked or under an unreleased write, and those lie in as many extents as
 -- there are slots.

@@ -8,29 +8,29 @@ use Rattle.model.specs.Secondary.{SecondaryHistory}
 use Rattle.model.specs.SecondarySteps.{open_secondary, receive, peer, peer_fault, ack_out, close_secondary}
 
 -- What may happen to a primary. A fault of its disk leaves any offsets new; `room` and the frame are what its link answers,
--- where no frame says that there is none; `starved` says that a growth of memory is refused.
+-- where no frame says that there is none; `out_of_memory` says that a growth of memory is refused.
 pub data PrimaryEvent : Type 0 where
-  Opens : (sync loss : ℕ) (starved : Bool) → PrimaryEvent
-  Submits : (first : ℕ) (contents : List (List ℕ)) (starved : Bool) → PrimaryEvent
+  Opens : (sync loss : ℕ) (out_of_memory : Bool) → PrimaryEvent
+  Submits : (first : ℕ) (contents : List (List ℕ)) (out_of_memory : Bool) → PrimaryEvent
   WritesLocally : (number : ℕ) → PrimaryEvent
   FailsLocally : (number : ℕ) (offsets : List ℕ) → PrimaryEvent
-  Sends : (room starved : Bool) → PrimaryEvent
-  Takes : (frame : Option Received) (starved : Bool) → PrimaryEvent
-  Resyncs : (starved : Bool) → PrimaryEvent
-  FailsResync : (starved : Bool) → PrimaryEvent
+  Sends : (room out_of_memory : Bool) → PrimaryEvent
+  Takes : (frame : Option Received) (out_of_memory : Bool) → PrimaryEvent
+  Resyncs : (out_of_memory : Bool) → PrimaryEvent
+  FailsResync : (out_of_memory : Bool) → PrimaryEvent
   Closes : PrimaryEvent
   Receipts : (number : ℕ) → PrimaryEvent
 
 -- the history that an event leads to; what it answers is left out
 abbrev pub primary_after : PrimaryEvent → PrimaryHistory → PrimaryHistory
-primary_after (Opens sync loss starved) h = (open_primary sync loss starved h).1
-primary_after (Submits first contents starved) h = (submit first contents starved h).1
+primary_after (Opens sync loss out_of_memory) h = (open_primary sync loss out_of_memory h).1
+primary_after (Submits first contents out_of_memory) h = (submit first contents out_of_memory h).1
 primary_after (WritesLocally number) h = (local_done number h).1
 primary_after (FailsLocally number offsets) h = (local_fault number offsets h).1
-primary_after (Sends room starved) h = (send room starved h).1
-primary_after (Takes frame starved) h = (ack_in frame starved h).1
-primary_after (Resyncs starved) h = (resync_next starved h).1
-primary_after (FailsResync starved) h = (resync_fault starved h).1
+primary_after (Sends room out_of_memory) h = (send room out_of_memory h).1
+primary_after (Takes frame out_of_memory) h = (ack_in frame out_of_memory h).1
+primary_after (Resyncs out_of_memory) h = (resync_next out_of_memory h).1
+primary_after (FailsResync out_of_memory) h = (resync_fault out_of_memory h).1
 primary_after Closes h = (close_primary h).1
 primary_after (Receipts number) h = (take_completed number h).1
 
@@ -42,19 +42,19 @@ primary_run (event ∷ events) h = primary_run events (primary_after event h)
 -- What may happen to a secondary. Where it opens it has not seen so many connections that the primary opened since its last.
 pub data SecondaryEvent : Type 0 where
   OpensToo : (unseen : ℕ) → SecondaryEvent
-  Receives : (frame : Option Received) (starved : Bool) → SecondaryEvent
+  Receives : (frame : Option Received) (out_of_memory : Bool) → SecondaryEvent
   Applies : (place : ℕ) → SecondaryEvent
   FailsToApply : (place : ℕ) (offsets : List ℕ) → SecondaryEvent
-  Acknowledges : (room starved : Bool) → SecondaryEvent
+  Acknowledges : (room out_of_memory : Bool) → SecondaryEvent
   ClosesToo : SecondaryEvent
 
 -- the history that an event leads to; what it answers is left out
 abbrev pub secondary_after : SecondaryEvent → SecondaryHistory → SecondaryHistory
 secondary_after (OpensToo unseen) h = (open_secondary unseen h).1
-secondary_after (Receives frame starved) h = (receive frame starved h).1
+secondary_after (Receives frame out_of_memory) h = (receive frame out_of_memory h).1
 secondary_after (Applies place) h = (peer place h).1
 secondary_after (FailsToApply place offsets) h = (peer_fault place offsets h).1
-secondary_after (Acknowledges room starved) h = (ack_out room starved h).1
+secondary_after (Acknowledges room out_of_memory) h = (ack_out room out_of_memory h).1
 secondary_after ClosesToo h = (close_secondary h).1
 
 -- the history that these events lead to, the first of them first

@@ -10,11 +10,11 @@ use Rattle.model.specs.Contents.{BlockMap}
 use Rattle.model.specs.Stream.{contents_of, below}
 use Rattle.model.specs.Frames.{Packet, Received}
 use Rattle.model.specs.Refusals.{Test, first_refusal}
-use Rattle.model.specs.Primary.{PrimaryHistory, primary_opening, outward, frames_due, local_map}
+use Rattle.model.specs.Primary.{PrimaryHistory, primary_opening, primary_connection, frames_due, local_map}
 use Rattle.model.specs.PrimarySteps.{open_tests, open_primary, submit, local_done, local_fault, is_unfinished, accepted_at, send, resync_next, resync_fault}
 use Rattle.model.specs.PrimarySteps.{close_primary}
 use Rattle.model.specs.Acknowledgements.{ack_in}
-use Rattle.model.specs.Secondary.{SecondaryHistory, secondary_opening, inward, is_drained, items_taken, secondary_map, answers_due}
+use Rattle.model.specs.Secondary.{SecondaryHistory, secondary_opening, secondary_connection, is_drained, items_taken, secondary_map, answers_due}
 use Rattle.model.specs.SecondarySteps.{open_secondary, receive, peer, peer_fault, peer_tests, ack_out, close_secondary}
 
 -- what may happen to a pair
@@ -48,27 +48,27 @@ pair_opening settings local peer own peer_tuple marks =
 
 -- the frames that an end has pushed: the first so many of those that it owes
 abbrev pub pushed_frames : PairHistory → List Packet
-pushed_frames h = let c = outward h.primary in take c.pushed (frames_due h.primary.settings c)
+pushed_frames h = let c = primary_connection h.primary in take c.pushed (frames_due h.primary.settings c)
 
 -- what the secondary has put into the link back
 abbrev pub pushed_answers : PairHistory → List Packet
-pushed_answers h = let c = inward h.secondary in take c.pushed (answers_due h.secondary.settings c)
+pushed_answers h = let c = secondary_connection h.secondary in take c.pushed (answers_due h.secondary.settings c)
 
 -- The next frame that the other end takes, as the other end reads it: the frames are honest, so it is the packet.
 abbrev pub next_frame : PairHistory → Option Received
-next_frame h = option_map (λ packet. Ok packet) (slice_get (pushed_frames h) (length (inward h.secondary).taken))
+next_frame h = option_map (λ packet. Ok packet) (slice_get (pushed_frames h) (length (secondary_connection h.secondary).taken))
 
 -- the next frame for the primary, if there is one
 abbrev pub next_answer : PairHistory → Option Received
-next_answer h = option_map (λ packet. Ok packet) (slice_get (pushed_answers h) (length (outward h.primary).taken))
+next_answer h = option_map (λ packet. Ok packet) (slice_get (pushed_answers h) (length (primary_connection h.primary).taken))
 
 -- A direction has room while fewer than `link` of its frames are pushed and not taken.
 abbrev pub has_room : PairHistory → Bool
-has_room h = nat_lt ((outward h.primary).pushed - length (inward h.secondary).taken) h.primary.settings.link
+has_room h = nat_lt ((primary_connection h.primary).pushed - length (secondary_connection h.secondary).taken) h.primary.settings.link
 
 -- the link back has room
 abbrev pub answers_have_room : PairHistory → Bool
-answers_have_room h = nat_lt ((inward h.secondary).pushed - length (outward h.primary).taken) h.secondary.settings.link
+answers_have_room h = nat_lt ((secondary_connection h.secondary).pushed - length (primary_connection h.primary).taken) h.secondary.settings.link
 
 -- Steps.
 
@@ -82,14 +82,17 @@ on_secondary step h = let done = step h.secondary in (done.0, record h { seconda
 
 -- the answers of both ends must be closed, and the secondary drained, before the primary's own tests
 abbrev pub open_pair_tests : PairHistory → ℕ → ℕ → Bool → List Test
-open_pair_tests h sync loss starved =
-    (not ((inward h.secondary).closed && is_drained h.secondary), NotDrained) ∷ open_tests h.primary sync loss starved
+open_pair_tests h sync loss out_of_memory =
+    (not ((secondary_connection h.secondary).closed && is_drained h.secondary), NotDrained) ∷ open_tests h.primary sync loss out_of_memory
 
 -- both ends open, or none
 abbrev pub open_pair : ℕ → ℕ → Bool → PairHistory → Reply × PairHistory
-open_pair sync loss starved h = elim (first_refusal (open_pair_tests h sync loss starved)) [
+open_pair sync loss out_of_memory h = elim (first_refusal (open_pair_tests h sync loss out_of_memory)) [
   | Some refusal ↦ (reply.Refused refusal, h)
-  | None ↦ let primary = open_primary sync loss starved h.primary in (primary.0, record { primary = primary.1; secondary = (open_secondary 0 h.secondary).1 })
+  | None ↦ let primary = open_primary sync loss out_of_memory h.primary in (
+    primary.0,
+    record { primary = primary.1; secondary = (open_secondary 0 h.secondary).1 },
+  )
 ]
 
 -- A fault with more blocks kept than the write has is refused 1, after the other tests.
@@ -110,31 +113,31 @@ local_fault_kept number kept h =
 abbrev pub peer_fault_kept : ℕ → ℕ → SecondaryHistory → Reply × SecondaryHistory
 peer_fault_kept place kept h =
     elim (first_refusal (peer_tests h place ++ (
-      keeps_too_many kept (option_map (λ item. length (contents_of item)) (slice_get (items_taken (inward h)) place)),
+      keeps_too_many kept (option_map (λ item. length (contents_of item)) (slice_get (items_taken (secondary_connection h)) place)),
       BadRange,
     ) ∷ [])) [
       | Some refusal ↦ (reply.Refused refusal, h)
       | None ↦ peer_fault place (below kept) h
     ]
 
--- One event. `starved` says that its growth of memory is refused, which an event that needs none does not see.
+-- One event. `out_of_memory` says that its growth of memory is refused, which an event that needs none does not see.
 abbrev pub step : Event → Bool → PairHistory → Reply × PairHistory
-step (OpenEvent sync loss) starved h = open_pair sync loss starved h
-step (SubmitEvent first contents) starved h = on_primary (submit first contents starved) h
-step (LocalEvent number) starved h = on_primary (local_done number) h
-step (LocalFaultEvent number kept) starved h = on_primary (local_fault_kept number kept) h
-step SendEvent starved h = on_primary (send (has_room h) starved) h
-step ReceiveEvent starved h = on_secondary (receive (next_frame h) starved) h
-step (PeerEvent place) starved h = on_secondary (peer place) h
-step (PeerFaultEvent place kept) starved h = on_secondary (peer_fault_kept place kept) h
-step AckOutEvent starved h = on_secondary (ack_out (answers_have_room h) starved) h
-step AckInEvent starved h = on_primary (ack_in (next_answer h) starved) h
-step ResyncEvent starved h = on_primary (resync_next starved) h
-step ResyncFaultEvent starved h = on_primary (resync_fault starved) h
-step ClosePrimaryEvent starved h = on_primary close_primary h
-step CloseSecondaryEvent starved h = on_secondary close_secondary h
+step (OpenEvent sync loss) out_of_memory h = open_pair sync loss out_of_memory h
+step (SubmitEvent first contents) out_of_memory h = on_primary (submit first contents out_of_memory) h
+step (LocalEvent number) out_of_memory h = on_primary (local_done number) h
+step (LocalFaultEvent number kept) out_of_memory h = on_primary (local_fault_kept number kept) h
+step SendEvent out_of_memory h = on_primary (send (has_room h) out_of_memory) h
+step ReceiveEvent out_of_memory h = on_secondary (receive (next_frame h) out_of_memory) h
+step (PeerEvent place) out_of_memory h = on_secondary (peer place) h
+step (PeerFaultEvent place kept) out_of_memory h = on_secondary (peer_fault_kept place kept) h
+step AckOutEvent out_of_memory h = on_secondary (ack_out (answers_have_room h) out_of_memory) h
+step AckInEvent out_of_memory h = on_primary (ack_in (next_answer h) out_of_memory) h
+step ResyncEvent out_of_memory h = on_primary (resync_next out_of_memory) h
+step ResyncFaultEvent out_of_memory h = on_primary (resync_fault out_of_memory) h
+step ClosePrimaryEvent out_of_memory h = on_primary close_primary h
+step CloseSecondaryEvent out_of_memory h = on_secondary close_secondary h
 
--- A run: events one after another, each with whether it is starved; the replies, and the history in the end.
+-- A run: events one after another, each with whether it is out of memory; the replies, and the history in the end.
 abbrev pub run : List (Event × Bool) → PairHistory → List Reply × PairHistory
 run [] h = ([], h)
 run (event ∷ events) h = let done = step event.0 event.1 h in let rest = run events done.1 in (done.0 ∷ rest.0, rest.1)

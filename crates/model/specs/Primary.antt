@@ -8,7 +8,7 @@ use Rattle.blocks.specs.declared.settings.Settings.{Settings}
 use Rattle.blocks.specs.declared.settings.Protocol.{Protocol}
 use Rattle.blocks.specs.declared.settings.Protocol.TheVariants as protocol
 use Rattle.model.specs.Contents.{BlockMap, Write, covers, Layer, overlay, extent_of}
-use Rattle.model.specs.Stream.{Item, WriteItem, ResyncItem, SyncUuidItem, UuidsItem, epoch_of, placed, below}
+use Rattle.model.specs.Stream.{StreamItem, WriteItem, ResyncItem, SyncUuidItem, UuidsItem, epoch_of, placed, below}
 use Rattle.model.specs.Frames.{Packet, RecvAckFrame, WriteAckFrame, RsWriteAckFrame, BarrierAckFrame, Acknowledged, Received, hello_of, frames_of, naming}
 use Rattle.model.specs.Frames.{counting}
 
@@ -27,24 +27,24 @@ pub record Accepted : Type 0 where
   pub outcome : LocalOutcome
 
 -- How a write was completed: over the link, or without it.
-pub data Kind : Type 0 where
-  Linked : Kind
-  Alone : Kind
+pub data CompletionKind : Type 0 where
+  Linked : CompletionKind
+  Alone : CompletionKind
 
 -- an entry of the journal of completions
 pub record Completion : Type 0 where
   pub write : Write
-  pub kind : Kind
+  pub kind : CompletionKind
   pub home : Option StreamPosition
 
 -- One connection at the primary's end: its two words, the tuple that its hello names, its stream, how many frames were
 -- pushed, those that were taken, whether the last of them was refused as a protocol error, whether the stream has begun,
 -- and whether the end is closed.
-pub record Outward : Type 0 where
+pub record PrimaryConnection : Type 0 where
   pub sync : ℕ
   pub loss : ℕ
   pub hello : Tuple
-  pub stream : List Item
+  pub stream : List StreamItem
   pub pushed : ℕ
   pub taken : List Received
   pub refused : Bool
@@ -63,7 +63,7 @@ pub record PrimaryHistory : Type 0 where
   pub receipts : List ℕ
   pub tuple : Tuple
   pub peer : Option Tuple
-  pub connections : List Outward
+  pub connections : List PrimaryConnection
 
 -- an opening: nothing has happened yet
 abbrev pub primary_opening : Settings → BlockMap → Tuple → (ℕ → Bool) → PrimaryHistory
@@ -82,8 +82,8 @@ primary_opening settings disk tuple marks = record {
 }
 
 -- a connection at its beginning: its two words, and the tuple of its hello
-abbrev pub new_outward : ℕ → ℕ → Tuple → Outward
-new_outward sync loss hello = record {
+abbrev pub new_primary_connection : ℕ → ℕ → Tuple → PrimaryConnection
+new_primary_connection sync loss hello = record {
   sync = sync;
   loss = loss;
   hello = hello;
@@ -96,8 +96,8 @@ new_outward sync loss hello = record {
 }
 
 -- The last connection, or a closed one where there was none.
-abbrev pub no_outward : Tuple → Outward
-no_outward t = record { sync = 0; loss = 0; hello = t; stream = []; pushed = 0; taken = []; refused = false; begun = false; closed = true }
+abbrev pub no_primary_connection : Tuple → PrimaryConnection
+no_primary_connection t = record { sync = 0; loss = 0; hello = t; stream = []; pushed = 0; taken = []; refused = false; begun = false; closed = true }
 
 -- the last one, or else the first argument
 abbrev pub last_of : {X : Type 0} → X → List X → X
@@ -105,14 +105,14 @@ last_of none [] = none
 last_of none (x ∷ xs) = last_of x xs
 
 -- the last connection, open or closed
-abbrev pub outward : PrimaryHistory → Outward
-outward h = last_of (no_outward h.tuple) h.connections
+abbrev pub primary_connection : PrimaryHistory → PrimaryConnection
+primary_connection h = last_of (no_primary_connection h.tuple) h.connections
 
 -- The end of a connection by its number, the first being 1: a closed one on which nothing happened, where this node never
 -- opened that connection.
-abbrev pub outward_at : PrimaryHistory → ℕ → Outward
-outward_at h zero = no_outward h.tuple
-outward_at h (suc k) = unwrap_or (slice_get h.connections k) (no_outward h.tuple)
+abbrev pub primary_connection_at : PrimaryHistory → ℕ → PrimaryConnection
+primary_connection_at h zero = no_primary_connection h.tuple
+primary_connection_at h (suc k) = unwrap_or (slice_get h.connections k) (no_primary_connection h.tuple)
 
 -- the index of the last connection, from 0
 abbrev pub last_index : {X : Type 0} → List X → ℕ
@@ -125,25 +125,25 @@ change_last f (x ∷ []) = f x ∷ []
 change_last f (x ∷ y ∷ xs) = x ∷ change_last f (y ∷ xs)
 
 -- changes the last connection
-abbrev pub with_outward : (Outward → Outward) → PrimaryHistory → PrimaryHistory
-with_outward f h = record h { connections = change_last f h.connections }
+abbrev pub with_primary_connection : (PrimaryConnection → PrimaryConnection) → PrimaryHistory → PrimaryHistory
+with_primary_connection f h = record h { connections = change_last f h.connections }
 
 -- A stream stands while the end is open and its stream has begun.
-abbrev pub stands : Outward → Bool
-stands c = not c.closed && c.begun
+abbrev pub is_established : PrimaryConnection → Bool
+is_established c = not c.closed && c.begun
 
 -- Frames.
 
 -- all frames that the end owes: its hello, and then its stream
-abbrev pub frames_due : Settings → Outward → List Packet
+abbrev pub frames_due : Settings → PrimaryConnection → List Packet
 frames_due settings c = hello_of settings c.hello ++ frames_of c.stream
 
 -- how many items were sent: what was pushed after the three frames of the hello
-abbrev pub items_sent : Outward → ℕ
+abbrev pub items_sent : PrimaryConnection → ℕ
 items_sent c = c.pushed - 3
 
 -- the frames taken that count
-abbrev pub accepted_frames : Outward → List Received
+abbrev pub accepted_frames : PrimaryConnection → List Received
 accepted_frames c = counting c.refused c.taken
 
 -- Acknowledgements.
@@ -173,24 +173,24 @@ is_barrier_ack epoch (Ok (BarrierAckFrame number size)) = number == epoch
 is_barrier_ack epoch _ = false
 
 -- the peer has said that it received the item
-abbrev pub was_received : Outward → ℕ → Item → Bool
+abbrev pub was_received : PrimaryConnection → ℕ → StreamItem → Bool
 was_received c place item = list_any (is_recv_ack (naming place item)) (accepted_frames c)
 
 -- the peer has said that the write is on its disk
-abbrev pub was_written : Outward → ℕ → Item → Bool
+abbrev pub was_written : PrimaryConnection → ℕ → StreamItem → Bool
 was_written c place item = list_any (is_write_ack (naming place item)) (accepted_frames c)
 
 -- the peer has said that the block of a resync is on its disk
-abbrev pub was_resynced : Outward → ℕ → Item → Bool
+abbrev pub was_resynced : PrimaryConnection → ℕ → StreamItem → Bool
 was_resynced c place item = list_any (is_rs_write_ack (naming place item)) (accepted_frames c)
 
 -- the peer has said that all of the epoch is applied
-abbrev pub barrier_acknowledged : Outward → ℕ → Bool
+abbrev pub barrier_acknowledged : PrimaryConnection → ℕ → Bool
 barrier_acknowledged c epoch = list_any (is_barrier_ack epoch) (accepted_frames c)
 
 -- The write at a place is answered: under A once it was sent, under B once the peer has received it, under C once it is
 -- on the peer's disk (DRBD User's Guide, "Replication modes").
-abbrev pub is_answered_by : Protocol → Outward → ℕ → Item → Bool
+abbrev pub is_answered_by : Protocol → PrimaryConnection → ℕ → StreamItem → Bool
 is_answered_by protocol.A c place item = nat_lt place (items_sent c)
 is_answered_by protocol.B c place item = was_received c place item
 is_answered_by protocol.C c place item = was_written c place item
@@ -301,30 +301,30 @@ active_extents h = active_extents_of (unreleased h)
 -- Resync.
 
 -- the item begins a resync
-abbrev pub is_sync_start : Item → Bool
+abbrev pub is_sync_start : StreamItem → Bool
 is_sync_start (SyncUuidItem word) = true
 is_sync_start _ = false
 
 -- the item ends a resync
-abbrev pub is_sync_end : Item → Bool
+abbrev pub is_sync_end : StreamItem → Bool
 is_sync_end (UuidsItem tuple) = true
 is_sync_end _ = false
 
 -- the item is a block of a resync
-abbrev pub is_resync : Item → Bool
+abbrev pub is_resync : StreamItem → Bool
 is_resync (ResyncItem block contents) = true
 is_resync _ = false
 
 -- A stream is in a resync once it has its SYNC_UUID and until it has its closing UUIDS.
-abbrev pub in_resync : List Item → Bool
+abbrev pub in_resync : List StreamItem → Bool
 in_resync items = list_any is_sync_start items && not (list_any is_sync_end items)
 
 -- a resync runs at the source
-abbrev pub resync_runs : Outward → Bool
-resync_runs c = stands c && in_resync c.stream
+abbrev pub resync_runs : PrimaryConnection → Bool
+resync_runs c = is_established c && in_resync c.stream
 
 -- the items of the resync that the peer has not acknowledged
-abbrev pub under_way : Outward → List (ℕ × Item)
+abbrev pub under_way : PrimaryConnection → List (ℕ × StreamItem)
 under_way c = filter (λ entry. is_resync entry.1 && not (was_resynced c entry.0 entry.1)) (placed c.stream)
 
 -- the marked blocks of the device, rising

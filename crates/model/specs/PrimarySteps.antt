@@ -12,12 +12,14 @@ use Rattle.blocks.specs.declared.outcome.What.TheVariants as what
 use Rattle.blocks.specs.declared.outcome.Reply.{Reply}
 use Rattle.blocks.specs.declared.outcome.Reply.TheVariants as reply
 use Rattle.model.specs.Contents.{Write, covers, overlap, is_range, extent_of}
-use Rattle.model.specs.Stream.{Item, WriteItem, ResyncItem, BarrierItem, UuidsItem, number_of, is_write, last_epoch, epoch_size, items_of_epoch, within}
+use Rattle.model.specs.Stream.{StreamItem, WriteItem, ResyncItem, BarrierItem, UuidsItem, number_of, is_write, last_epoch, epoch_size, items_of_epoch, within}
 use Rattle.model.specs.Frames.{command_of}
 use Rattle.model.specs.Identifiers.{are_fresh, lost, sync_end}
 use Rattle.model.specs.Refusals.{Test, first_refusal}
-use Rattle.model.specs.Primary.{LocalOutcome, Waiting, OnDisk, Failed, Accepted, Linked, Alone, Completion, Outward, PrimaryHistory, new_outward, outward, last_index}
-use Rattle.model.specs.Primary.{with_outward, stands, frames_due, was_resynced, is_answered, is_waiting, is_open, completes, unreleased, open_writes, local_map}
+use Rattle.model.specs.Primary.{LocalOutcome, Waiting, OnDisk, Failed, Accepted, Linked, Alone, Completion, PrimaryConnection, PrimaryHistory}
+use Rattle.model.specs.Primary.{new_primary_connection, primary_connection, last_index}
+use Rattle.model.specs.Primary.{with_primary_connection, is_established, frames_due, was_resynced, is_answered, is_waiting, is_open, completes, unreleased}
+use Rattle.model.specs.Primary.{open_writes, local_map}
 use Rattle.model.specs.Primary.{active_extents, is_resync, resync_runs, under_way, marked_blocks, free_block}
 use Rattle.model.specs.Marks.{marking, marking_unreleased, releasing}
 
@@ -43,7 +45,7 @@ abbrev pub with_completions : PrimaryHistory → PrimaryHistory
 with_completions h = record h { journal = h.journal ++ map (completion_of h) (newly_completed h) }
 
 -- a write that is completed or failed, or a resync item that is acknowledged
-abbrev pub is_settled : PrimaryHistory → Outward → ℕ × Item → Bool
+abbrev pub is_settled : PrimaryHistory → PrimaryConnection → ℕ × StreamItem → Bool
 is_settled h c entry =
     list_any (λ accepted. (is_write entry.1 && (accepted.write.number == number_of entry.1)) && not (is_open h accepted)) h.writes
     || (is_resync entry.1 && was_resynced c entry.0 entry.1)
@@ -51,19 +53,19 @@ is_settled h c entry =
 -- The last epoch is over: one of its items is settled, or it has as many writes as may be.
 abbrev pub epoch_is_over : PrimaryHistory → Bool
 epoch_is_over h =
-    let c = outward h in
-    stands c && (list_any (is_settled h c) (items_of_epoch c.stream (last_epoch c.stream)) || nat_le h.settings.max_epoch
+    let c = primary_connection h in
+    is_established c && (list_any (is_settled h c) (items_of_epoch c.stream (last_epoch c.stream)) || nat_le h.settings.max_epoch
     (epoch_size c.stream (last_epoch c.stream)))
 
 -- an item goes to the end of the stream
-abbrev pub appending : Item → PrimaryHistory → PrimaryHistory
-appending item h = with_outward (λ c. record c { stream = c.stream ++ item ∷ [] }) h
+abbrev pub appending : StreamItem → PrimaryHistory → PrimaryHistory
+appending item h = with_primary_connection (λ c. record c { stream = c.stream ++ item ∷ [] }) h
 
 -- A running resync is over: no block is marked, and none is under way.
 abbrev pub resync_is_over : PrimaryHistory → Bool
-resync_is_over h = elim (resync_runs (outward h)) [
+resync_is_over h = elim (resync_runs (primary_connection h)) [
   | false ↦ false
-  | true ↦ (length (marked_blocks h) == 0) && (length (under_way (outward h)) == 0)
+  | true ↦ (length (marked_blocks h) == 0) && (length (under_way (primary_connection h)) == 0)
 ]
 
 -- the end of a resync at its source
@@ -82,7 +84,7 @@ abbrev pub follows : PrimaryHistory → Followed
 follows h =
     let completed = with_completions h in
     let numbers = map (λ accepted. accepted.write.number) (newly_completed h) in
-    let epoch = last_epoch (outward completed).stream in
+    let epoch = last_epoch (primary_connection completed).stream in
     let over = epoch_is_over completed in
     let parted : PrimaryHistory = elim over [ true ↦ appending (BarrierItem epoch) completed | false ↦ completed ] in
     followed_with (resync_is_over parted) parted numbers (if over then Some epoch else None)
@@ -105,17 +107,17 @@ known_tuples h = elim h.peer [ None ↦ h.tuple ∷ [] | Some peer ↦ h.tuple �
 
 -- when an opening is refused, in order
 abbrev pub open_tests : PrimaryHistory → ℕ → ℕ → Bool → List Test
-open_tests h sync loss starved =
-    (not (outward h).closed, NotDrained) ∷ (not (are_fresh sync loss (known_tuples h)), UsedIdentifier)
-    ∷ (nat_le 4294967295 (length h.connections), StreamFull) ∷ (starved, NoMemory) ∷ []
+open_tests h sync loss out_of_memory =
+    (not (primary_connection h).closed, NotDrained) ∷ (not (are_fresh sync loss (known_tuples h)), UsedIdentifier)
+    ∷ (nat_le 4294967295 (length h.connections), StreamFull) ∷ (out_of_memory, NoMemory) ∷ []
 
 -- a new connection, with its words and the tuple of its hello
 abbrev pub opened : PrimaryHistory → ℕ → ℕ → PrimaryHistory
-opened h sync loss = record h { connections = h.connections ++ new_outward sync loss h.tuple ∷ [] }
+opened h sync loss = record h { connections = h.connections ++ new_primary_connection sync loss h.tuple ∷ [] }
 
 -- the primary opens its end
 abbrev pub open_primary : ℕ → ℕ → Bool → PrimaryHistory → Reply × PrimaryHistory
-open_primary sync loss starved h = tested h (open_tests h sync loss starved) (λ _. succeeding what.Nothing (opened h sync loss))
+open_primary sync loss out_of_memory h = tested h (open_tests h sync loss out_of_memory) (λ _. succeeding what.Nothing (opened h sync loss))
 
 -- Submit.
 
@@ -123,7 +125,7 @@ open_primary sync loss starved h = tested h (open_tests h sync loss starved) (λ
 abbrev pub conflict : PrimaryHistory → Write → Option ℕ
 conflict h write =
     if list_any (λ entry. elim entry.1 as (λ _. Bool) [ ResyncItem block contents ↦ covers write block | _ ↦ false ])
-    (elim (stands (outward h)) [ true ↦ under_way (outward h) | false ↦ [] ])
+    (elim (is_established (primary_connection h)) [ true ↦ under_way (primary_connection h) | false ↦ [] ])
     then Some 0 else slice_get (map (λ accepted. accepted.write.number) (filter (λ accepted. overlap accepted.write write) (open_writes h))) 0
 
 -- no slot can be had: the extent has no unreleased write, and as many others have one as there are slots
@@ -137,19 +139,19 @@ submission h first contents = record { number = suc (length h.writes); first = f
 
 -- when a submission is refused, in order
 abbrev pub submit_tests : PrimaryHistory → ℕ → List (List ℕ) → Bool → List Test
-submit_tests h first contents starved =
-    let c = outward h in
+submit_tests h first contents out_of_memory =
+    let c = primary_connection h in
     let met = conflict h (submission h first contents) in
-    (not (is_range h.settings first (length contents)), BadRange) ∷ (not (stands c) && (h.tuple.bitmap == 0), NotConnected)
+    (not (is_range h.settings first (length contents)), BadRange) ∷ (not (is_established c) && (h.tuple.bitmap == 0), NotConnected)
     ∷ (nat_le 1048576 (length h.writes), JournalFull) ∷ (nat_le h.settings.backlog (length (unreleased h)), LogFull)
     ∷ (is_some met, Conflict (unwrap_or met 0)) ∷ (activity_is_full h (extent_of first), ActivityFull)
-    ∷ (stands c && nat_le 4294967288 (length c.stream), StreamFull) ∷ (starved, NoMemory) ∷ []
+    ∷ (is_established c && nat_le 4294967288 (length c.stream), StreamFull) ∷ (out_of_memory, NoMemory) ∷ []
 
 -- With a stream the write takes its next place; without one its range is marked.
 abbrev pub submitted_with : (has_stream : Bool) → PrimaryHistory → ℕ → List (List ℕ) → PrimaryHistory
 submitted_with has_stream h first contents =
     let write = submission h first contents in
-    let c = outward h in
+    let c = primary_connection h in
     elim has_stream [
       | true ↦ appending (WriteItem write)
           (record h {
@@ -168,11 +170,11 @@ submitted_with has_stream h first contents =
 
 -- the write is accepted
 abbrev pub submitted : PrimaryHistory → ℕ → List (List ℕ) → PrimaryHistory
-submitted h first contents = submitted_with (stands (outward h)) h first contents
+submitted h first contents = submitted_with (is_established (primary_connection h)) h first contents
 
 -- the primary accepts a write
 abbrev pub submit : ℕ → List (List ℕ) → Bool → PrimaryHistory → Reply × PrimaryHistory
-submit first contents starved h = tested h (submit_tests h first contents starved)
+submit first contents out_of_memory h = tested h (submit_tests h first contents out_of_memory)
     (λ _. succeeding (what.Write (suc (length h.writes))) (submitted h first contents))
 
 -- The local disk.
@@ -216,14 +218,14 @@ local_fault number offsets h = tested h ((not (is_unfinished h number), UnknownJ
 
 -- when sending is refused, in order
 abbrev pub send_tests : PrimaryHistory → Bool → Bool → List Test
-send_tests h room starved =
-    let c = outward h in
-    (c.closed, NotConnected) ∷ (nat_le (length (frames_due h.settings c)) c.pushed, NothingThere) ∷ (starved, NoMemory) ∷ (not room, LinkFull) ∷ []
+send_tests h room out_of_memory =
+    let c = primary_connection h in
+    (c.closed, NotConnected) ∷ (nat_le (length (frames_due h.settings c)) c.pushed, NothingThere) ∷ (out_of_memory, NoMemory) ∷ (not room, LinkFull) ∷ []
 
 -- what the next frame is called, with the place of a stream's item
 abbrev pub sending : PrimaryHistory → What
 sending h =
-    let c = outward h in
+    let c = primary_connection h in
     elim (slice_get (frames_due h.settings c) c.pushed) [
       | None ↦ what.Nothing
       | Some packet ↦ what.Frame (command_of packet) (if nat_lt c.pushed 3 then None else Some (c.pushed - 3))
@@ -231,37 +233,43 @@ sending h =
 
 -- the primary sends the next frame that it owes
 abbrev pub send : Bool → Bool → PrimaryHistory → Reply × PrimaryHistory
-send room starved h = tested h (send_tests h room starved) (λ _. succeeding (sending h) (with_outward (λ c. record c { pushed = suc c.pushed }) h))
+send room out_of_memory h = tested h (send_tests h room out_of_memory)
+    (λ _. succeeding (sending h) (with_primary_connection (λ c. record c { pushed = suc c.pushed }) h))
 
 -- Resync.
 
 -- when a resync block is refused, in order
 abbrev pub resync_tests : PrimaryHistory → Bool → List Test
-resync_tests h starved =
-    let c = outward h in
+resync_tests h out_of_memory =
+    let c = primary_connection h in
     (c.closed, NotConnected) ∷ (not (resync_runs c) || (nat_lt 0 (length (under_way c)) || is_none (free_block h)), NothingToDo)
-    ∷ (nat_le 4294967288 (length c.stream), StreamFull) ∷ (starved, NoMemory) ∷ []
+    ∷ (nat_le 4294967288 (length c.stream), StreamFull) ∷ (out_of_memory, NoMemory) ∷ []
 
 -- The lowest free marked block is read and appended in one step, with what the local disk has now.
 abbrev pub resync_next : Bool → PrimaryHistory → Reply × PrimaryHistory
-resync_next starved h = tested h (resync_tests h starved) (λ _. elim (free_block h) [
+resync_next out_of_memory h = tested h (resync_tests h out_of_memory) (λ _. elim (free_block h) [
   | None ↦ (reply.Refused NothingToDo, h)
-  | Some block ↦ succeeding (what.Block (record { 0 = block }) (length (outward h).stream)) (appending (ResyncItem block (unwrap_or (local_map h block) [])) h)
+  | Some block ↦ succeeding (what.Block (record { 0 = block }) (length (primary_connection h).stream))
+      (appending (ResyncItem block (unwrap_or (local_map h block) [])) h)
 ])
 
 -- the local disk fails the read
 abbrev pub resync_fault : Bool → PrimaryHistory → Reply × PrimaryHistory
-resync_fault starved h = tested h (resync_tests h starved) (λ _. (reply.Refused ReadFault, h))
+resync_fault out_of_memory h = tested h (resync_tests h out_of_memory) (λ _. (reply.Refused ReadFault, h))
 
 -- Close: unreleased writes are marked, the tuple goes by `lost` if the stream had begun, and then there is no connection.
 abbrev pub closing : PrimaryHistory → PrimaryHistory
 closing h =
-    let c = outward h in
-    with_outward (λ c. record c { closed = true }) (record h { marks = marking_unreleased h; tuple = if c.begun then lost c.loss h.tuple else h.tuple })
+    let c = primary_connection h in
+    with_primary_connection (λ c. record c { closed = true }) (record h {
+      marks = marking_unreleased h;
+      tuple = if c.begun then lost c.loss h.tuple
+          else h.tuple;
+    })
 
 -- It tells how many writes were completed by it.
 abbrev pub close_primary : PrimaryHistory → Reply × PrimaryHistory
-close_primary h = tested h (((outward h).closed, NotConnected) ∷ [])
+close_primary h = tested h (((primary_connection h).closed, NotConnected) ∷ [])
     (λ _. let after = follows (closing h) in (reply.Closed (length after.completed), after.history))
 
 -- Receipts: a completed write's entry, once; 8 for a failed write, once; 9 while it is open.

@@ -5,14 +5,14 @@ use Rattle.std.specs.List.{list_any, list_all}
 use Rattle.blocks.specs.declared.tuple.Tuple.{Tuple}
 use Rattle.blocks.specs.declared.settings.Settings.{Settings}
 use Rattle.model.specs.Contents.{BlockMap, overlay}
-use Rattle.model.specs.Stream.{Item, has_blocks, epoch_of, placed, barriers_in, below, Part, is_whole, layers_of}
+use Rattle.model.specs.Stream.{StreamItem, has_blocks, epoch_of, placed, barriers_in, below, Part, is_whole, layers_of}
 use Rattle.model.specs.Frames.{Packet, Received, item_of, hello_of, counting}
 use Rattle.model.specs.Primary.{last_of, change_last, in_resync}
 
 -- One connection at the secondary's end: its number, the disk and the tuple as they were when the end opened, the frames that were
 -- taken, whether the last of them was refused as a protocol error, the part of the stream that is applied, the places that
 -- failed or were dropped, the acknowledgements due, how many frames were pushed, and whether the end is closed.
-pub record Inward : Type 0 where
+pub record SecondaryConnection : Type 0 where
   pub number : ℕ
   pub base : BlockMap
   pub hello : Tuple
@@ -31,7 +31,7 @@ pub record SecondaryHistory : Type 0 where
   pub opening_tuple : Tuple
   pub tuple : Tuple
   pub consistent : Bool
-  pub connections : List Inward
+  pub connections : List SecondaryConnection
 
 -- An opening: a new secondary is consistent unless its current identifier is zero.
 abbrev pub secondary_opening : Settings → BlockMap → Tuple → SecondaryHistory
@@ -45,8 +45,8 @@ secondary_opening settings disk tuple = record {
 }
 
 -- a connection at its beginning: its number, what the disk holds then, and the tuple of its hello
-abbrev pub new_inward : ℕ → BlockMap → Tuple → Inward
-new_inward number base hello = record {
+abbrev pub new_secondary_connection : ℕ → BlockMap → Tuple → SecondaryConnection
+new_secondary_connection number base hello = record {
   number = number;
   base = base;
   hello = hello;
@@ -60,8 +60,8 @@ new_inward number base hello = record {
 }
 
 -- an end that was never open: a closed one on which nothing happened
-abbrev pub no_inward : SecondaryHistory → Inward
-no_inward h = record {
+abbrev pub no_secondary_connection : SecondaryHistory → SecondaryConnection
+no_secondary_connection h = record {
   number = 0;
   base = h.opening_map;
   hello = h.tuple;
@@ -75,82 +75,82 @@ no_inward h = record {
 }
 
 -- the last connection, or a closed one where there was none
-abbrev pub inward : SecondaryHistory → Inward
-inward h = last_of (no_inward h) h.connections
+abbrev pub secondary_connection : SecondaryHistory → SecondaryConnection
+secondary_connection h = last_of (no_secondary_connection h) h.connections
 
 -- The end of a connection by its number, the first being 1: a closed one on which nothing happened, where this node never
 -- opened that connection.
-abbrev pub inward_at : SecondaryHistory → ℕ → Inward
-inward_at h number = unwrap_or (find (λ c. c.number == number) h.connections) (no_inward h)
+abbrev pub secondary_connection_at : SecondaryHistory → ℕ → SecondaryConnection
+secondary_connection_at h number = unwrap_or (find (λ c. c.number == number) h.connections) (no_secondary_connection h)
 
 -- changes the last connection
-abbrev pub with_inward : (Inward → Inward) → SecondaryHistory → SecondaryHistory
-with_inward f h = record h { connections = change_last f h.connections }
+abbrev pub with_secondary_connection : (SecondaryConnection → SecondaryConnection) → SecondaryHistory → SecondaryHistory
+with_secondary_connection f h = record h { connections = change_last f h.connections }
 
 -- The stream's frames that were taken and not refused.
-abbrev pub accepted_of : Inward → List Received
+abbrev pub accepted_of : SecondaryConnection → List Received
 accepted_of c = drop 3 (counting c.refused c.taken)
 
 -- the item of a frame, if it is one
-abbrev pub received_item : Received → Option Item
+abbrev pub received_item : Received → Option StreamItem
 received_item (Ok packet) = item_of packet
 received_item (Err fault) = None
 
 -- the items taken, in their places
-abbrev pub items_taken : Inward → List Item
+abbrev pub items_taken : SecondaryConnection → List StreamItem
 items_taken c = filter_map received_item (accepted_of c)
 
 -- Pending: taken, and not applied, failed or dropped.
-abbrev pub is_pending : Inward → ℕ × Item → Bool
+abbrev pub is_pending : SecondaryConnection → ℕ × StreamItem → Bool
 is_pending c entry = (has_blocks entry.1 && not (is_whole c.applied entry.0 entry.1)) && not (list_any (λ place. place == entry.0) c.gone)
 
 -- what was taken and is neither applied nor dropped, with its places
-abbrev pub pending : Inward → List (ℕ × Item)
+abbrev pub pending : SecondaryConnection → List (ℕ × StreamItem)
 pending c = filter (is_pending c) (placed (items_taken c))
 
 -- the lowest pending place
 abbrev pub next_pending : SecondaryHistory → Option ℕ
-next_pending h = option_map (λ entry. entry.0) (slice_get (pending (inward h)) 0)
+next_pending h = option_map (λ entry. entry.0) (slice_get (pending (secondary_connection h)) 0)
 
 -- Drained: nothing is pending.
 abbrev pub is_drained : SecondaryHistory → Bool
-is_drained h = length (pending (inward h)) == 0
+is_drained h = length (pending (secondary_connection h)) == 0
 
 -- the disk: what is applied on the last connection, over what it held when the connection opened
-abbrev pub map_of : Inward → BlockMap
+abbrev pub map_of : SecondaryConnection → BlockMap
 map_of c = overlay c.base (layers_of (items_taken c) c.applied)
 
 -- the secondary's disk now
 abbrev pub secondary_map : SecondaryHistory → BlockMap
-secondary_map h = map_of (inward h)
+secondary_map h = map_of (secondary_connection h)
 
 -- all frames that the end owes: its hello, and then its acknowledgements
-abbrev pub answers_due : Settings → Inward → List Packet
+abbrev pub answers_due : Settings → SecondaryConnection → List Packet
 answers_due settings c = hello_of settings c.hello ++ c.due
 
 -- every write and resync item up to the end of an epoch is applied
-abbrev pub is_applied_to : Inward → ℕ → Bool
+abbrev pub is_applied_to : SecondaryConnection → ℕ → Bool
 is_applied_to c epoch =
     let items = items_taken c in
     list_all (λ entry. not (nat_le (epoch_of items entry.0) epoch && has_blocks entry.1) || is_whole c.applied entry.0 entry.1) (placed items)
 
 -- whether the stream taken is in a resync
-abbrev pub is_in_resync : Inward → Bool
+abbrev pub is_in_resync : SecondaryConnection → Bool
 is_in_resync c = in_resync (items_taken c)
 
 -- Usage: whether the secondary may be used as it is, and how far it is whole (this project's rule).
 
 -- An item is done: all of it was applied by one write of the disk that did not fail. An item that failed is not, even if all
 -- its blocks reached the disk.
-abbrev pub is_done : Inward → ℕ × Item → Bool
+abbrev pub is_done : SecondaryConnection → ℕ × StreamItem → Bool
 is_done c entry = is_whole c.applied entry.0 entry.1 && not (list_any (λ place. place == entry.0) c.gone)
 
 -- every write and resync item up to the end of an epoch is done
-abbrev pub is_done_to : Inward → ℕ → Bool
+abbrev pub is_done_to : SecondaryConnection → ℕ → Bool
 is_done_to c epoch =
     let items = items_taken c in
     list_all (λ entry. not (nat_le (epoch_of items entry.0) epoch && has_blocks entry.1) || is_done c entry) (placed items)
 
 -- The greatest epoch whose barrier was taken on the last connection, and up to whose end every item is done; 0 where none is.
 abbrev pub whole : SecondaryHistory → ℕ
-whole h = let c = inward h in last_of 0 (filter (is_done_to c) (map suc (below (barriers_in (items_taken c)))))
+whole h = let c = secondary_connection h in last_of 0 (filter (is_done_to c) (map suc (below (barriers_in (items_taken c)))))

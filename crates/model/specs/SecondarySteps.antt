@@ -14,13 +14,15 @@ use Rattle.blocks.specs.declared.outcome.Reply.{Reply}
 use Rattle.blocks.specs.declared.outcome.Reply.TheVariants as reply
 use Rattle.blocks.specs.declared.command.Command.TheVariants as command
 use Rattle.model.specs.Contents.{is_range}
-use Rattle.model.specs.Stream.{Item, WriteItem, ResyncItem, number_of, contents_of, epoch_of, last_epoch, epoch_size, items_of_epoch, items_meet, barriers_in}
+use Rattle.model.specs.Stream.{StreamItem, WriteItem, ResyncItem, number_of, contents_of, epoch_of, last_epoch, epoch_size, items_of_epoch, items_meet}
+use Rattle.model.specs.Stream.{barriers_in}
 use Rattle.model.specs.Stream.{below, within}
 use Rattle.model.specs.Frames.{Packet, DataFrame, RsDataReplyFrame, BarrierFrame, ProtocolFrame, UuidsFrame, SizesFrame, SyncUuidFrame, RecvAckFrame}
 use Rattle.model.specs.Frames.{WriteAckFrame, RsWriteAckFrame, BarrierAckFrame, Received, command_of, naming}
 use Rattle.model.specs.Refusals.{Test, first_refusal, done_with}
 use Rattle.model.specs.Acknowledgements.{same_protocol}
-use Rattle.model.specs.Secondary.{Inward, SecondaryHistory, new_inward, inward, with_inward, secondary_map, items_taken, pending, is_drained, answers_due, is_applied_to}
+use Rattle.model.specs.Secondary.{SecondaryConnection, SecondaryHistory, new_secondary_connection, secondary_connection, with_secondary_connection}
+use Rattle.model.specs.Secondary.{secondary_map, items_taken, pending, is_drained, answers_due, is_applied_to}
 use Rattle.model.specs.Secondary.{is_in_resync}
 
 -- What follows an effect in the same step: each barrier taken is acknowledged once all of the epochs up to it are applied.
@@ -31,21 +33,21 @@ is_barrier_answer epoch (BarrierAckFrame number size) = number == epoch
 is_barrier_answer epoch _ = false
 
 -- the barriers taken that are to be acknowledged now, rising
-abbrev pub barriers_to_answer : Inward → List ℕ
+abbrev pub barriers_to_answer : SecondaryConnection → List ℕ
 barriers_to_answer c =
     filter (λ epoch. is_applied_to c epoch && not (list_any (is_barrier_answer epoch) c.due)) (map suc (below (barriers_in (items_taken c))))
 
 -- the acknowledgement of an epoch, with the number of its writes
-abbrev pub barrier_answer : Inward → ℕ → Packet
+abbrev pub barrier_answer : SecondaryConnection → ℕ → Packet
 barrier_answer c epoch = BarrierAckFrame epoch (epoch_size (items_taken c) epoch)
 
 -- After its close nothing more becomes due.
-abbrev pub answering : Inward → Inward
+abbrev pub answering : SecondaryConnection → SecondaryConnection
 answering c = elim c.closed [ true ↦ c | false ↦ record c { due = c.due ++ map (barrier_answer c) (barriers_to_answer c) } ]
 
 -- a step that succeeded, and the acknowledgements that became due
 abbrev pub succeeding_secondary : What → SecondaryHistory → Reply × SecondaryHistory
-succeeding_secondary done h = (reply.Ok (done_with done), with_inward answering h)
+succeeding_secondary done h = (reply.Ok (done_with done), with_secondary_connection answering h)
 
 -- the first test that holds refuses the step, which then changes nothing
 abbrev pub tested_secondary : SecondaryHistory → List Test → (Unit {0} → Reply × SecondaryHistory) → Reply × SecondaryHistory
@@ -55,17 +57,17 @@ tested_secondary h tests done = elim (first_refusal tests) [ Some refusal ↦ (r
 
 -- when an opening is refused: an end is open, or items are pending
 abbrev pub open_secondary_tests : SecondaryHistory → List Test
-open_secondary_tests h = (not ((inward h).closed && is_drained h), NotDrained) ∷ []
+open_secondary_tests h = (not ((secondary_connection h).closed && is_drained h), NotDrained) ∷ []
 
 -- The number of the next connection: one more than the last one's, and more where the primary opened others between that
 -- this node never saw.
 abbrev pub next_number : ℕ → SecondaryHistory → ℕ
-next_number unseen h = suc ((inward h).number + unseen)
+next_number unseen h = suc ((secondary_connection h).number + unseen)
 
 -- a new connection lies over what the disk holds now
 abbrev pub opened_secondary : ℕ → SecondaryHistory → SecondaryHistory
 opened_secondary unseen h =
-    record h { connections = h.connections ++ new_inward (next_number unseen h) (secondary_map h) h.tuple ∷ [] }
+    record h { connections = h.connections ++ new_secondary_connection (next_number unseen h) (secondary_map h) h.tuple ∷ [] }
 
 -- the secondary opens its end, and has not seen so many connections of the primary since its last one
 abbrev pub open_secondary : ℕ → SecondaryHistory → Reply × SecondaryHistory
@@ -87,11 +89,11 @@ checking_hello (suc (suc n)) (UuidsFrame peer) h = Ok (what.Frame command.Uuids 
 checking_hello n packet h = Err BadCommand
 
 -- the number is above those of all writes that were taken on this connection
-abbrev pub is_above : ℕ → List Item → Bool
+abbrev pub is_above : ℕ → List StreamItem → Bool
 is_above number items = list_all (λ item. nat_lt (number_of item) number) items
 
 -- no item of the last epoch shares a block with it
-abbrev pub is_apart : Item → List Item → Bool
+abbrev pub is_apart : StreamItem → List StreamItem → Bool
 is_apart item items = not (list_any (λ entry. items_meet entry.1 item) (items_of_epoch items (last_epoch items)))
 
 -- the last of the checks: the place is the next one, and the item may stand there
@@ -103,10 +105,10 @@ abbrev pub adopting : Tuple → Bool → SecondaryHistory → SecondaryHistory
 adopting tuple consistent h = record h { tuple = tuple; consistent = consistent }
 
 -- Under B a taken write is acknowledged at once.
-abbrev pub receiving : ℕ → Item → SecondaryHistory → SecondaryHistory
+abbrev pub receiving : ℕ → StreamItem → SecondaryHistory → SecondaryHistory
 receiving place item h = elim h.settings.protocol [
   | protocol.A ↦ h
-  | protocol.B ↦ with_inward (λ c. record c { due = c.due ++ RecvAckFrame (naming place item) ∷ [] }) h
+  | protocol.B ↦ with_secondary_connection (λ c. record c { due = c.due ++ RecvAckFrame (naming place item) ∷ [] }) h
   | protocol.C ↦ h
 ]
 
@@ -115,7 +117,7 @@ abbrev pub has_place : ℕ → Bool
 has_place place = nat_lt place 4294967295
 
 -- An item of the stream, judged on the history before it was taken, where `place` is the next place.
-abbrev pub checking_item : Packet → ℕ → Inward → SecondaryHistory → Checked
+abbrev pub checking_item : Packet → ℕ → SecondaryConnection → SecondaryHistory → Checked
 checking_item (DataFrame write at) place c h =
     let items = items_taken c in
     checked_if ((((at == place) && has_place place) && is_range h.settings write.first (length write.contents))
@@ -135,7 +137,7 @@ checking_item (UuidsFrame tuple) place c h =
 checking_item packet place c h = Err BadCommand
 
 -- a frame is judged as one of the hello, and then as an item
-abbrev pub checking : Received → Inward → SecondaryHistory → Checked
+abbrev pub checking : Received → SecondaryConnection → SecondaryHistory → Checked
 checking (Err fault) c h = Err fault
 checking (Ok packet) c h =
     elim (nat_lt (length c.taken) 3) [ true ↦ checking_hello (length c.taken) packet h | false ↦ checking_item packet (length (items_taken c)) c h ]
@@ -143,21 +145,21 @@ checking (Ok packet) c h =
 -- A protocol error: the frame counts as taken, and the end closes. Its items stay.
 abbrev pub take_item : Received → SecondaryHistory → Reply × SecondaryHistory
 take_item frame h =
-    let taken = with_inward (λ c. record c { taken = c.taken ++ frame ∷ [] }) h in
-    elim (checking frame (inward h) taken) [
+    let taken = with_secondary_connection (λ c. record c { taken = c.taken ++ frame ∷ [] }) h in
+    elim (checking frame (secondary_connection h) taken) [
       | Ok done ↦ succeeding_secondary done.0 done.1
-      | Err refusal ↦ (reply.Refused refusal, with_inward (λ c. record c { refused = true; closed = true }) taken)
+      | Err refusal ↦ (reply.Refused refusal, with_secondary_connection (λ c. record c { refused = true; closed = true }) taken)
     ]
 
 -- when the next frame is not taken, in order
 abbrev pub receive_tests : SecondaryHistory → Option Received → Bool → List Test
-receive_tests h frame starved =
-    let c = inward h in
-    (c.closed, NotConnected) ∷ (nat_le h.settings.pending (length (pending c)), PendingFull) ∷ (starved, NoMemory) ∷ (is_none frame, NothingThere) ∷ []
+receive_tests h frame out_of_memory =
+    let c = secondary_connection h in
+    (c.closed, NotConnected) ∷ (nat_le h.settings.pending (length (pending c)), PendingFull) ∷ (out_of_memory, NoMemory) ∷ (is_none frame, NothingThere) ∷ []
 
 -- the next frame that the link has for this end, or none
 abbrev pub receive : Option Received → Bool → SecondaryHistory → Reply × SecondaryHistory
-receive frame starved h = tested_secondary h (receive_tests h frame starved) (λ _. elim frame [
+receive frame out_of_memory h = tested_secondary h (receive_tests h frame out_of_memory) (λ _. elim frame [
   | None ↦ (reply.Refused NothingThere, h)
   | Some taken ↦ take_item taken h
 ])
@@ -165,19 +167,19 @@ receive frame starved h = tested_secondary h (receive_tests h frame starved) (λ
 -- The disk.
 
 -- the item at this place is pending
-abbrev pub is_pending_at : Inward → ℕ → Bool
+abbrev pub is_pending_at : SecondaryConnection → ℕ → Bool
 is_pending_at c place = list_any (λ entry. entry.0 == place) (pending c)
 
 -- an item of an earlier epoch is pending
-abbrev pub has_earlier : Inward → ℕ → Bool
+abbrev pub has_earlier : SecondaryConnection → ℕ → Bool
 has_earlier c place = let items = items_taken c in list_any (λ entry. nat_lt (epoch_of items entry.0) (epoch_of items place)) (pending c)
 
 -- when applying is refused: not pending, or an earlier epoch is not applied
 abbrev pub peer_tests : SecondaryHistory → ℕ → List Test
-peer_tests h place = (not (is_pending_at (inward h) place), UnknownJob) ∷ (has_earlier (inward h) place, EpochOpen) ∷ []
+peer_tests h place = (not (is_pending_at (secondary_connection h) place), UnknownJob) ∷ (has_earlier (secondary_connection h) place, EpochOpen) ∷ []
 
 -- how many blocks the item at a place has
-abbrev pub blocks_at : List Item → ℕ → ℕ
+abbrev pub blocks_at : List StreamItem → ℕ → ℕ
 blocks_at items place = elim (slice_get items place) [ None ↦ 0 | Some item ↦ length (contents_of item) ]
 
 -- so many blocks of an item, as pairs of its place and their offsets
@@ -185,14 +187,14 @@ abbrev pub offsets_at : ℕ → List ℕ → List (ℕ × ℕ)
 offsets_at place offsets = map (λ offset. (place, offset)) offsets
 
 -- Applying a write is acknowledged under C, and applying a resync item always.
-abbrev pub applied_answer : Protocol → ℕ → Item → List Packet
+abbrev pub applied_answer : Protocol → ℕ → StreamItem → List Packet
 applied_answer asked place (WriteItem write) =
     elim asked [ protocol.A ↦ [] | protocol.B ↦ [] | protocol.C ↦ WriteAckFrame (naming place (WriteItem write)) ∷ [] ]
 applied_answer asked place (ResyncItem block contents) = RsWriteAckFrame (naming place (ResyncItem block contents)) ∷ []
 applied_answer asked place _ = []
 
 -- an item is on the disk, and its acknowledgement is due
-abbrev pub applied_with : Option Item → Protocol → ℕ → Inward → Inward
+abbrev pub applied_with : Option StreamItem → Protocol → ℕ → SecondaryConnection → SecondaryConnection
 applied_with found asked place c = elim found [
   | None ↦ c
   | Some item ↦ record c {
@@ -202,16 +204,17 @@ applied_with found asked place c = elim found [
 ]
 
 -- the item at this place is on the disk
-abbrev pub applying : Protocol → ℕ → Inward → Inward
+abbrev pub applying : Protocol → ℕ → SecondaryConnection → SecondaryConnection
 applying asked place c = applied_with (slice_get (items_taken c) place) asked place c
 
 -- the secondary's disk does an item
 abbrev pub peer : ℕ → SecondaryHistory → Reply × SecondaryHistory
-peer place h = tested_secondary h (peer_tests h place) (λ _. succeeding_secondary what.Nothing (with_inward (applying h.settings.protocol place) h))
+peer place h = tested_secondary h (peer_tests h place)
+    (λ _. succeeding_secondary what.Nothing (with_secondary_connection (applying h.settings.protocol place) h))
 
 -- A fault of the disk: these offsets of the item reached it, the end closes, and the pending items of later epochs are
 -- dropped.
-abbrev pub failing : ℕ → List ℕ → Inward → Inward
+abbrev pub failing : ℕ → List ℕ → SecondaryConnection → SecondaryConnection
 failing place offsets c =
     let items = items_taken c in
     record c {
@@ -222,28 +225,31 @@ failing place offsets c =
 
 -- the secondary's disk fails an item
 abbrev pub peer_fault : ℕ → List ℕ → SecondaryHistory → Reply × SecondaryHistory
-peer_fault place offsets h = tested_secondary h (peer_tests h place) (λ _. (reply.Ok (done_with what.Nothing), with_inward (failing place offsets) h))
+peer_fault place offsets h = tested_secondary h (peer_tests h place)
+    (λ _. (reply.Ok (done_with what.Nothing), with_secondary_connection (failing place offsets) h))
 
 -- Pushing an acknowledgement. `room` is what the link answers.
 
 -- when sending is refused, in order
 abbrev pub ack_out_tests : SecondaryHistory → Bool → Bool → List Test
-ack_out_tests h room starved =
-    let c = inward h in
-    (c.closed, NotConnected) ∷ (nat_le (length (answers_due h.settings c)) c.pushed, NothingThere) ∷ (starved, NoMemory) ∷ (not room, LinkFull) ∷ []
+ack_out_tests h room out_of_memory =
+    let c = secondary_connection h in
+    (c.closed, NotConnected) ∷ (nat_le (length (answers_due h.settings c)) c.pushed, NothingThere) ∷ (out_of_memory, NoMemory) ∷ (not room, LinkFull) ∷ []
 
 -- what the next acknowledgement is
 abbrev pub answering_with : SecondaryHistory → What
 answering_with h =
-    let c = inward h in
+    let c = secondary_connection h in
     elim (slice_get (answers_due h.settings c) c.pushed) [ None ↦ what.Nothing | Some packet ↦ what.Frame (command_of packet) None ]
 
 -- the secondary sends an acknowledgement
 abbrev pub ack_out : Bool → Bool → SecondaryHistory → Reply × SecondaryHistory
-ack_out room starved h =
-    tested_secondary h (ack_out_tests h room starved) (λ _. (reply.Ok (done_with (answering_with h)), with_inward (λ c. record c { pushed = suc c.pushed }) h))
+ack_out room out_of_memory h =
+    tested_secondary h (ack_out_tests h room out_of_memory)
+    (λ _. (reply.Ok (done_with (answering_with h)), with_secondary_connection (λ c. record c { pushed = suc c.pushed }) h))
 
 -- Close: no frame is taken or sent from then on. Items stay pending.
 abbrev pub close_secondary : SecondaryHistory → Reply × SecondaryHistory
 close_secondary h =
-    tested_secondary h (((inward h).closed, NotConnected) ∷ []) (λ _. (reply.Ok (done_with what.Nothing), with_inward (λ c. record c { closed = true }) h))
+    tested_secondary h (((secondary_connection h).closed, NotConnected) ∷ [])
+    (λ _. (reply.Ok (done_with what.Nothing), with_secondary_connection (λ c. record c { closed = true }) h))

@@ -7,8 +7,9 @@ use Rattle.blocks.specs.declared.refusal.Refusal.{Refusal}
 use Rattle.blocks.specs.declared.refusal.Refusal.TheVariants.{ReadFault, StrangeReceipt, NotDrained}
 use Rattle.model.specs.Stream.{has_blocks, placed, below}
 use Rattle.model.specs.Refusals.{Test, first_refusal}
-use Rattle.model.specs.Primary.{Kind, Linked, Alone, Completion, PrimaryHistory, outward, items_sent, local_map, next_local}
-use Rattle.model.specs.Secondary.{Inward, SecondaryHistory, inward, inward_at, items_taken, secondary_map, is_drained, is_done}
+use Rattle.model.specs.Primary.{CompletionKind, Linked, Alone, Completion, PrimaryHistory, primary_connection, items_sent, local_map, next_local}
+use Rattle.model.specs.Secondary.{SecondaryConnection, SecondaryHistory, secondary_connection, secondary_connection_at, items_taken, secondary_map, is_drained}
+use Rattle.model.specs.Secondary.{is_done}
 use Rattle.model.specs.Pair.{same_block}
 use Rattle.model.specs.Headline.{is_marked}
 
@@ -18,7 +19,7 @@ pub record Receipt : Type 0 where
   pub number : ℕ
   pub first : ℕ
   pub count : ℕ
-  pub kind : Kind
+  pub kind : CompletionKind
   pub home : Option StreamPosition
 
 -- the receipt of an entry of the journal
@@ -32,7 +33,7 @@ receipt_of entry = record {
 }
 
 -- two kinds of completion are the same
-abbrev pub same_kind : Kind → Kind → Bool
+abbrev pub same_kind : CompletionKind → CompletionKind → Bool
 same_kind Linked Linked = true
 same_kind Alone Alone = true
 same_kind _ _ = false
@@ -56,7 +57,7 @@ has_strange journal earlier (receipt ∷ receipts) =
 
 -- Both ends are closed, nothing is pending, and the local disk has done or failed every write.
 abbrev pub is_at_rest : PrimaryHistory → SecondaryHistory → Bool
-is_at_rest p s = ((outward p).closed && (inward s).closed) && (is_drained s && is_none (next_local p))
+is_at_rest p s = ((primary_connection p).closed && (secondary_connection s).closed) && (is_drained s && is_none (next_local p))
 
 -- A settlement: how many items of the primary's last connection were sent, taken and applied, how many receipts are
 -- confirmed, and on how many blocks that are not marked the disks differ.
@@ -68,7 +69,7 @@ pub record Settlement : Type 0 where
   pub unmarked : ℕ
 
 -- how many writes and resync items are applied; one that failed is not
-abbrev pub applied_items : Inward → ℕ
+abbrev pub applied_items : SecondaryConnection → ℕ
 applied_items d = length (filter (λ entry. has_blocks entry.1 && is_done d entry) (placed (items_taken d)))
 
 -- on how many blocks that are not marked the disks differ, where a block that only one of them has counts as differing
@@ -80,9 +81,9 @@ unmarked_differences p s =
 -- the numbers of a settlement, read off both histories
 abbrev pub settlement : PrimaryHistory → SecondaryHistory → List Receipt → Settlement
 settlement p s receipts =
-    let d = inward_at s (length p.connections) in
+    let d = secondary_connection_at s (length p.connections) in
     record {
-      sent = items_sent (outward p);
+      sent = items_sent (primary_connection p);
       taken = length (items_taken d);
       applied = applied_items d;
       confirmed = length receipts;

@@ -3,15 +3,17 @@ use Rattle.std.specs.Prelude.{ℕ, suc, ◌*◌, nat_lt, nat_le, Bool, true, fal
 use Rattle.std.specs.List.{list_any}
 use Rattle.blocks.specs.declared.settings.Protocol.{Protocol}
 use Rattle.model.specs.Stream.{is_write, has_blocks, last_epoch, items_of_epoch, placed, below}
-use Rattle.model.specs.Primary.{PrimaryHistory, Outward, outward, stands, items_sent, is_answered_by, barrier_acknowledged, open_writes, resync_runs}
+use Rattle.model.specs.Primary.{PrimaryHistory, PrimaryConnection, primary_connection, is_established, items_sent, is_answered_by, barrier_acknowledged}
+use Rattle.model.specs.Primary.{open_writes, resync_runs}
 use Rattle.model.specs.Primary.{marked_blocks}
-use Rattle.model.specs.Secondary.{SecondaryHistory, Inward, inward, pending, whole}
+use Rattle.model.specs.Secondary.{SecondaryHistory, SecondaryConnection, secondary_connection, pending, whole}
 
 -- writes of the standing connection that were sent and are not answered
 abbrev pub unanswered : PrimaryHistory → ℕ
 unanswered h =
-    let c = outward h in
-    if stands c then length (filter (λ entry. is_write entry.1 && (nat_lt entry.0 (items_sent c) && not (is_answered_by h.settings.protocol c entry.0 entry.1)))
+    let c = primary_connection h in
+    if is_established c then length
+    (filter (λ entry. is_write entry.1 && (nat_lt entry.0 (items_sent c) && not (is_answered_by h.settings.protocol c entry.0 entry.1)))
     (placed c.stream)) else 0
 
 -- accepted writes that are neither completed nor failed
@@ -21,8 +23,8 @@ incomplete h = length (open_writes h)
 -- epochs of the standing connection that have a write or a resync item, and whose BARRIER_ACK was not taken
 abbrev pub open_epochs : PrimaryHistory → ℕ
 open_epochs h =
-    let c = outward h in
-    if stands c
+    let c = primary_connection h in
+    if is_established c
     then length (filter (λ epoch. list_any (λ entry. has_blocks entry.1) (items_of_epoch c.stream epoch) && not (barrier_acknowledged c epoch))
     (map suc (below (last_epoch c.stream))))
     else 0
@@ -71,7 +73,7 @@ pub record PrimaryLine : Type 0 where
   pub oos : ℕ
 
 -- the primary's words, by what its connection has come to
-abbrev pub primary_words : Outward → Words
+abbrev pub primary_words : PrimaryConnection → Words
 primary_words c =
     if c.closed then record { link = StandAlone; own_role = Primary; other_role = Unknown; own_disk = UpToDate; other_disk = DUnknown }
     else if not c.begun then record { link = WFReportParams; own_role = Primary; other_role = Unknown; own_disk = UpToDate; other_disk = DUnknown }
@@ -81,7 +83,7 @@ primary_words c =
 -- the primary's status line (DRBD User's Guide, "Performance indicators")
 abbrev pub primary_line : PrimaryHistory → PrimaryLine
 primary_line h = record {
-  words = primary_words (outward h);
+  words = primary_words (primary_connection h);
   protocol = h.settings.protocol;
   pe = unanswered h;
   ap = incomplete h;
@@ -90,7 +92,7 @@ primary_line h = record {
 }
 
 -- The secondary's hello is done when it has taken three frames and sent three.
-abbrev pub hello_is_done : Inward → Bool
+abbrev pub hello_is_done : SecondaryConnection → Bool
 hello_is_done c = nat_le 3 (length c.taken) && nat_le 3 c.pushed
 
 -- The secondary's line: whether it may be used as it is, and how far it is whole, stand at its end.
@@ -102,7 +104,7 @@ pub record SecondaryLine : Type 0 where
   pub whole : ℕ
 
 -- the secondary's words, by whether it is consistent and what its connection has come to
-abbrev pub secondary_words : Bool → Inward → Words
+abbrev pub secondary_words : Bool → SecondaryConnection → Words
 secondary_words consistent c =
     if c.closed || not (hello_is_done c)
     then record {
@@ -119,9 +121,9 @@ secondary_words consistent c =
 -- the secondary's status line
 abbrev pub secondary_line : SecondaryHistory → SecondaryLine
 secondary_line h = record {
-  words = secondary_words h.consistent (inward h);
+  words = secondary_words h.consistent (secondary_connection h);
   protocol = h.settings.protocol;
-  pending = length (pending (inward h));
+  pending = length (pending (secondary_connection h));
   usable = h.consistent;
   whole = whole h;
 }

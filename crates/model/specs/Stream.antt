@@ -6,15 +6,15 @@ use Rattle.model.specs.Contents.{Write, Layer, ranges_meet}
 pub use Rattle.blocks.specs.Ranges.{below}
 
 -- What goes over a connection in order, after the hello (`drbd_protocol.h`; places: this project's).
-pub data Item : Type 0 where
-  WriteItem : (write : Write) → Item
-  ResyncItem : (block : ℕ) (contents : List ℕ) → Item
-  BarrierItem : (epoch : ℕ) → Item
-  SyncUuidItem : (word : ℕ) → Item
-  UuidsItem : (tuple : Tuple) → Item
+pub data StreamItem : Type 0 where
+  WriteItem : (write : Write) → StreamItem
+  ResyncItem : (block : ℕ) (contents : List ℕ) → StreamItem
+  BarrierItem : (epoch : ℕ) → StreamItem
+  SyncUuidItem : (word : ℕ) → StreamItem
+  UuidsItem : (tuple : Tuple) → StreamItem
 
 -- the item ends an epoch
-abbrev pub is_barrier : Item → Bool
+abbrev pub is_barrier : StreamItem → Bool
 is_barrier (WriteItem write) = false
 is_barrier (ResyncItem block contents) = false
 is_barrier (BarrierItem epoch) = true
@@ -22,7 +22,7 @@ is_barrier (SyncUuidItem word) = false
 is_barrier (UuidsItem tuple) = false
 
 -- the item is a write
-abbrev pub is_write : Item → Bool
+abbrev pub is_write : StreamItem → Bool
 is_write (WriteItem write) = true
 is_write (ResyncItem block contents) = false
 is_write (BarrierItem epoch) = false
@@ -30,7 +30,7 @@ is_write (SyncUuidItem word) = false
 is_write (UuidsItem tuple) = false
 
 -- The first block and the contents of a write or a resync item. The other items have no blocks.
-abbrev pub first_of : Item → ℕ
+abbrev pub first_of : StreamItem → ℕ
 first_of (WriteItem write) = write.first
 first_of (ResyncItem block contents) = block
 first_of (BarrierItem epoch) = 0
@@ -38,7 +38,7 @@ first_of (SyncUuidItem word) = 0
 first_of (UuidsItem tuple) = 0
 
 -- the number of a write; the other items have none, and 0 stands for that
-abbrev pub number_of : Item → ℕ
+abbrev pub number_of : StreamItem → ℕ
 number_of (WriteItem write) = write.number
 number_of (ResyncItem block contents) = 0
 number_of (BarrierItem epoch) = 0
@@ -46,7 +46,7 @@ number_of (SyncUuidItem word) = 0
 number_of (UuidsItem tuple) = 0
 
 -- the blocks that an item puts on a disk
-abbrev pub contents_of : Item → List (List ℕ)
+abbrev pub contents_of : StreamItem → List (List ℕ)
 contents_of (WriteItem write) = write.contents
 contents_of (ResyncItem block contents) = contents ∷ []
 contents_of (BarrierItem epoch) = []
@@ -54,49 +54,49 @@ contents_of (SyncUuidItem word) = []
 contents_of (UuidsItem tuple) = []
 
 -- a write or a resync item: what is applied to the peer's disk
-abbrev pub has_blocks : Item → Bool
+abbrev pub has_blocks : StreamItem → Bool
 has_blocks item = nat_lt 0 (length (contents_of item))
 
 -- how many barriers there are
-abbrev pub barriers_in : List Item → ℕ
+abbrev pub barriers_in : List StreamItem → ℕ
 barriers_in items = length (filter is_barrier items)
 
 -- The epoch of a place: one more than the number of barriers before it.
-abbrev pub epoch_of : List Item → ℕ → ℕ
+abbrev pub epoch_of : List StreamItem → ℕ → ℕ
 epoch_of items place = suc (barriers_in (take place items))
 
 -- the epoch that goes on at the end of a stream
-abbrev pub last_epoch : List Item → ℕ
+abbrev pub last_epoch : List StreamItem → ℕ
 last_epoch items = suc (barriers_in items)
 
 -- the items from a place on, each with its place
-abbrev pub placed_from : ℕ → List Item → List (ℕ × Item)
+abbrev pub placed_from : ℕ → List StreamItem → List (ℕ × StreamItem)
 placed_from place [] = []
 placed_from place (item ∷ items) = (place, item) ∷ placed_from (suc place) items
 
 -- the items with their places
-abbrev pub placed : List Item → List (ℕ × Item)
+abbrev pub placed : List StreamItem → List (ℕ × StreamItem)
 placed items = placed_from 0 items
 
 -- the items of one epoch, with their places
-abbrev pub items_of_epoch : List Item → ℕ → List (ℕ × Item)
+abbrev pub items_of_epoch : List StreamItem → ℕ → List (ℕ × StreamItem)
 items_of_epoch items epoch = filter (λ entry. epoch_of items entry.0 == epoch) (placed items)
 
 -- The size of an epoch is the number of its writes. Resync items are not counted.
-abbrev pub epoch_size : List Item → ℕ → ℕ
+abbrev pub epoch_size : List StreamItem → ℕ → ℕ
 epoch_size items epoch = length (filter (λ entry. is_write entry.1) (items_of_epoch items epoch))
 
 -- whether two items share a block
-abbrev pub items_meet : Item → Item → Bool
+abbrev pub items_meet : StreamItem → StreamItem → Bool
 items_meet a b = ranges_meet (first_of a) (length (contents_of a)) (first_of b) (length (contents_of b))
 
 -- A stream as it has to be: barriers are numbered from 1, numbers of writes rise, the items of an epoch share no
 -- block, and no epoch has more writes than may be.
-pub record IsLawful (max_epoch : ℕ) (items : List Item) : Type 0 where
+pub record IsLawful (max_epoch : ℕ) (items : List StreamItem) : Type 0 where
   pub barriers : (place epoch : ℕ) → slice_get items place ≡ Some (BarrierItem epoch) → epoch ≡ epoch_of items place
   pub rising : (place later : ℕ) (a b : Write) → place < later → slice_get items place ≡ Some (WriteItem a) → slice_get items later ≡ Some (WriteItem b)
       → a.number < b.number
-  pub apart : (place later : ℕ) (a b : Item) → place < later → epoch_of items place ≡ epoch_of items later → slice_get items place ≡ Some a
+  pub apart : (place later : ℕ) (a b : StreamItem) → place < later → epoch_of items place ≡ epoch_of items later → slice_get items place ≡ Some a
       → slice_get items later ≡ Some b → items_meet a b ≡ false
   pub small : (epoch : ℕ) → epoch_size items epoch ≤ max_epoch
 
@@ -113,23 +113,23 @@ abbrev pub within : ℕ → List ℕ → List ℕ
 within count offsets = filter (λ offset. nat_lt offset count) offsets
 
 -- whether a part has all blocks of an item
-abbrev pub is_whole : Part → ℕ → Item → Bool
+abbrev pub is_whole : Part → ℕ → StreamItem → Bool
 is_whole part place item = list_all (λ offset. is_in part place offset) (below (length (contents_of item)))
 
 -- The part has all of the epochs before `epoch` and nothing of those after it.
-pub record IsClosedAt (epoch : ℕ) (items : List Item) (part : Part) : Type 0 where
-  pub before : (place offset : ℕ) (item : Item) → slice_get items place ≡ Some item → epoch_of items place < epoch → offset < length (contents_of item)
+pub record IsClosedAt (epoch : ℕ) (items : List StreamItem) (part : Part) : Type 0 where
+  pub before : (place offset : ℕ) (item : StreamItem) → slice_get items place ≡ Some item → epoch_of items place < epoch → offset < length (contents_of item)
       → is_in part place offset ≡ true
   pub after : (place offset : ℕ) → is_in part place offset ≡ true → epoch_of items place ≤ epoch
 
 -- what the items of a part lay over a disk, in the order of the stream
-abbrev pub layers_from : ℕ → List Item → Part → List Layer
+abbrev pub layers_from : ℕ → List StreamItem → Part → List Layer
 layers_from place [] part = []
 layers_from place (item ∷ items) part =
     record { first = first_of item; contents = contents_of item; laid = λ offset. is_in part place offset } ∷ layers_from (suc place) items part
 
 -- what the items of a part lay over a disk, from the first place on
-abbrev pub layers_of : List Item → Part → List Layer
+abbrev pub layers_of : List StreamItem → Part → List Layer
 layers_of items part = layers_from 0 items part
 
 -- a list that another one begins with

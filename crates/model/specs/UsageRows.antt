@@ -4,8 +4,8 @@ use Rattle.blocks.specs.declared.settings.Protocol.TheVariants as protocol
 use Rattle.blocks.specs.declared.refusal.Refusal.TheVariants.{StrangeReceipt, NotDrained, ReadFault}
 use Rattle.blocks.specs.SettingsRange.{standard}
 use Rattle.model.specs.Contents.{filled}
-use Rattle.model.specs.Primary.{Linked, Alone, PrimaryHistory, primary_opening, no_outward, outward_at}
-use Rattle.model.specs.Secondary.{SecondaryHistory, secondary_opening, inward, inward_at, secondary_map, whole}
+use Rattle.model.specs.Primary.{Linked, Alone, PrimaryHistory, primary_opening, no_primary_connection, primary_connection_at}
+use Rattle.model.specs.Secondary.{SecondaryHistory, secondary_opening, secondary_connection, secondary_connection_at, secondary_map, whole}
 use Rattle.model.specs.LocalRuns.{Opens, Closes, primary_run, OpensToo, ClosesToo, secondary_run}
 use Rattle.model.specs.Pair.{Event, LocalEvent, SendEvent, ReceiveEvent, PeerEvent, PeerFaultEvent, AckOutEvent, AckInEvent, ClosePrimaryEvent}
 use Rattle.model.specs.Pair.{CloseSecondaryEvent, PairHistory}
@@ -41,13 +41,13 @@ passed_one_over = secondary_run (OpensToo 0 ∷ ClosesToo ∷ OpensToo 1 ∷ [])
 
 -- what a look-up by number says then
 pub record NeverOpened : Type 0 where
-  pub number : (inward passed_one_over).number ≡ 3
-  pub stands : (inward_at passed_one_over 3).closed ≡ false
-  pub first : (inward_at passed_one_over 1).number ≡ 1
-  pub unseen : (inward_at passed_one_over 2).closed ≡ true
-  pub untaken : (inward_at passed_one_over 2).taken ≡ []
-  pub there : (outward_at alone_twice 2).sync ≡ 9
-  pub beyond : outward_at alone_twice 3 ≡ no_outward (words 1 0 0 0)
+  pub number : (secondary_connection passed_one_over).number ≡ 3
+  pub is_open : (secondary_connection_at passed_one_over 3).closed ≡ false
+  pub first : (secondary_connection_at passed_one_over 1).number ≡ 1
+  pub unseen : (secondary_connection_at passed_one_over 2).closed ≡ true
+  pub untaken : (secondary_connection_at passed_one_over 2).taken ≡ []
+  pub there : (primary_connection_at alone_twice 2).sync ≡ 9
+  pub beyond : primary_connection_at alone_twice 3 ≡ no_primary_connection (words 1 0 0 0)
 
 -- A write that the peer's disk fails after all of its blocks, with both ends closed then.
 abbrev pub failed_item : PairHistory

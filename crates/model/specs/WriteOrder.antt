@@ -3,8 +3,8 @@ use Rattle.std.specs.Prelude.{ℕ, suc, ◌≡◌, ◌<◌, ◌≤◌, ◌==◌,
 use Rattle.std.specs.List.{list_any}
 use Rattle.model.specs.Contents.{BlockMap, Layer, overlay}
 use Rattle.model.specs.Stream.{epoch_of}
-use Rattle.model.specs.Primary.{Accepted, PrimaryHistory, outward_at, is_failed, is_sync_end}
-use Rattle.model.specs.Secondary.{SecondaryHistory, inward, items_taken, secondary_map, whole}
+use Rattle.model.specs.Primary.{Accepted, PrimaryHistory, primary_connection_at, is_failed, is_sync_end}
+use Rattle.model.specs.Secondary.{SecondaryHistory, secondary_connection, items_taken, secondary_map, whole}
 
 -- A set of blocks of accepted writes: a write's number and an offset in it.
 abbrev pub Blocks : Type 0
@@ -38,8 +38,8 @@ base_of p s block = elim (has_adopted s) [ true ↦ p.opening_map block | false 
 abbrev pub HasWholeEpochs : PrimaryHistory → SecondaryHistory → Blocks → Type 0
 HasWholeEpochs p s set =
     (n k place offset : ℕ) (accepted : Accepted) → slice_get p.writes n ≡ Some accepted → accepted.home ≡ Some (record { index = k; place = place })
-    → suc k ≡ (inward s).number
-    → epoch_of (outward_at p (suc k)).stream place ≤ whole s → offset < length accepted.write.contents → set accepted.write.number offset ≡ true
+    → suc k ≡ (secondary_connection s).number
+    → epoch_of (primary_connection_at p (suc k)).stream place ≤ whole s → offset < length accepted.write.contents → set accepted.write.number offset ≡ true
 
 -- Such a set: it is ordered, the secondary's disk is that set of the accepted writes over the base, and it has the epochs that
 -- the secondary is whole to.

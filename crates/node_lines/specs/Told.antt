@@ -5,9 +5,9 @@ use Rattle.model.specs.Status.{DUnknown, Words}
 
 -- the primary's
 abbrev pub primary_words_by : Bool → Bool → Bool → Words
-primary_words_by is_open stands is_resync =
+primary_words_by is_open is_established is_resync =
     if not is_open then record { link = StandAlone; own_role = Primary; other_role = Unknown; own_disk = UpToDate; other_disk = DUnknown }
-    else if not stands then record { link = WFReportParams; own_role = Primary; other_role = Unknown; own_disk = UpToDate; other_disk = DUnknown }
+    else if not is_established then record { link = WFReportParams; own_role = Primary; other_role = Unknown; own_disk = UpToDate; other_disk = DUnknown }
     else if is_resync then record { link = SyncSource; own_role = Primary; other_role = Secondary; own_disk = UpToDate; other_disk = Inconsistent }
     else record { link = Connected; own_role = Primary; other_role = Secondary; own_disk = UpToDate; other_disk = UpToDate }
 

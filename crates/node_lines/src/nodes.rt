@@ -6,9 +6,9 @@ ghost use Rattle.model.specs.Primary.{PrimaryHistory};
 ghost use Rattle.model.specs.Secondary.{SecondaryHistory};
 ghost use Rattle.model.specs.Status.{primary_line, secondary_line};
 ghost use Rattle.primary.specs.State as here;
-ghost use Rattle.primary_steps.specs.Node as local;
+ghost use Rattle.primary_protocol.specs.Node as local;
 ghost use Rattle.secondary.specs.State as there;
-ghost use Rattle.secondary_steps.specs.Node as peer;
+ghost use Rattle.secondary_protocol.specs.Node as peer;
 ghost use Rattle.node_lines.specs.Lines.{primary_line_of, secondary_line_of};
 ghost use Rattle.node_lines.specs.Text.{primary_text, secondary_text};
 ghost use Rattle.node_lines.specs.Told.{primary_words_by, secondary_words_by};
@@ -56,7 +56,11 @@ fn primary_state<O: FrameOut + Drop, I: FrameIn + Drop, S: Store + Drop>(
     ensures { (h : PrimaryHistory) → local.NodeHas (here.node primary.now) h → primary_line_of result ≡ primary_line h }
 {
     PrimaryLine {
-        words: primary_words(primary.is_open(), primary.stands(), primary.is_resync()),
+        words: primary_words(
+            primary.is_open(),
+            primary.is_established(),
+            primary.is_resync(),
+        ),
         protocol: primary.settings().protocol,
         pe: u64::from(primary.unanswered()),
         ap: u64::from(primary.incomplete()),
@@ -86,12 +90,12 @@ fn secondary_state<O: FrameOut + Drop, I: FrameIn + Drop, S: Store + Drop>(
 }
 
 // The primary's words: whether its end is open, its stream has begun, and a resync goes on.
-fn primary_words(is_open: bool, stands: bool, is_resync: bool) -> Words
-    ensures { words_of result ≡ primary_words_by is_open stands is_resync }
+fn primary_words(is_open: bool, is_established: bool, is_resync: bool) -> Words
+    ensures { words_of result ≡ primary_words_by is_open is_established is_resync }
 {
     let (link, other_role, other_disk) = if !is_open {
         (LinkState::StandAlone, Role::Unknown, DiskState::DUnknown)
-    } else if !stands {
+    } else if !is_established {
         (
             LinkState::WFReportParams,
             Role::Unknown,

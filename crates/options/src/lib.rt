@@ -1,4 +1,4 @@
-//! What the program may be asked to do, in plain values: a run of a session, with the plan of its writes, or a server.
+//! Orders to the program, in plain values: a run of a session, with the plan of its writes, or a server.
 #![tactic(auto)]
 
 mod plan;

@@ -1,4 +1,4 @@
-//! What a run of a session is to do.
+//! The order for a run of a session.
 use blocks::Protocol;
 
 /// What a run is to do.

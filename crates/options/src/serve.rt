@@ -1,4 +1,4 @@
-//! What a server is to do.
+//! The order for a server.
 use blocks::Protocol;
 use std::net::SocketAddr;
 

@@ -1,4 +1,4 @@
-//! What goes over a link as one.
+//! Frames, the units that go over a link.
 ghost use Rattle.std.specs.Prelude.{◌≡◌, ◌<◌, ◌≤◌, length};
 
 use crate::short::Short;

@@ -1,4 +1,4 @@
-//! What the grammar of the frames promises, whoever reads or writes them. These functions do nothing: each
+//! Laws of the grammar of frames, whoever reads or writes them. These functions do nothing: each
 //! contract is a law over the same definitions that the contracts of [`encode`](crate::encode),
 //! [`decode`](crate::decode) and [`Decoder::feed`](crate::Decoder::feed) cite.
 ghost use Rattle.std.specs.Prelude.{◌≡◌, ℕ, List, ◌++◌, Option, Result, Ok};

@@ -1,4 +1,4 @@
-//! What a frame says.
+//! Packets, the meanings of frames.
 ghost use Rattle.std.specs.Prelude.{◌≡◌};
 ghost use Rattle.packets.specs.Table.{command_of};
 

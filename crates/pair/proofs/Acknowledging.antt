@@ -4,20 +4,20 @@ use Rattle.std.specs.Prelude.{option_map, is_none}
 use Rattle.blocks.specs.declared.refusal.Refusal.{Refusal}
 use Rattle.blocks.specs.declared.outcome.Done.{Done}
 use Rattle.blocks.specs.declared.outcome.Reply.TheVariants as reply
-use Rattle.endpoint.specs.Calls.{TookOne, is_starved, pushed_of, taken_of}
-use Rattle.endpoint.specs.Incoming.{IncomingState}
-use Rattle.endpoint.specs.Outgoing.{OutgoingState}
+use Rattle.endpoint.specs.Calls.{TookOne, is_out_of_memory, pushed_of, taken_of}
+use Rattle.endpoint.specs.PacketReceiver.{PacketReceiverState}
+use Rattle.endpoint.specs.PacketSender.{PacketSenderState}
 use Rattle.endpoint.specs.Lending.{GivenOut, GivenBack, LaidBack, LaidIn, without_queue}
 use Rattle.link.specs.Directions.{QueueState}
 use Rattle.model.specs.Frames.{Packet, Received}
 use Rattle.model.specs.LocalRuns.{Takes as TakesFrame}
 use Rattle.model.specs.Pair.{AckInEvent}
-use Rattle.pair_steps.specs.Carried.{Gave, IsTold}
-use Rattle.pair_steps.specs.State.{IsDirection, IsPairStep}
-use Rattle.pair_steps.proofs.Lending.{comes-back, gave-none, gave-over, pushed-back, pushed-lent, taken-given, taken-laid}
-use Rattle.pair_steps.proofs.Takings.{acknowledges-step}
-use Rattle.primary_steps.specs.Node as primary
-use Rattle.primary_steps.specs.Steps.{replied}
+use Rattle.pair_protocol.specs.Carried.{Gave, IsTold}
+use Rattle.pair_protocol.specs.State.{IsDirection, IsPairStep}
+use Rattle.pair_protocol.proofs.Lending.{comes-back, gave-none, gave-over, pushed-back, pushed-lent, taken-given, taken-laid}
+use Rattle.pair_protocol.proofs.Takings.{acknowledges-step}
+use Rattle.primary_protocol.specs.Node as primary
+use Rattle.primary_protocol.specs.Steps.{replied}
 use Rattle.primary.specs.Calls.{TakesOne}
 use Rattle.primary.specs.State.{PrimaryView}
 use Rattle.primary.specs.State as local
@@ -27,8 +27,8 @@ use Rattle.pair.specs.State.{PairView, IsPairView, state}
 use Rattle.pair.proofs.Pairing.{view-kept-back}
 
 -- one frame more stands where one was taken
-grew : (one : Received) (old new : Option IncomingState) → TookOne one old new → taken_of new ≡ taken_of old ++ one ∷ []
-grew one old new took = ap taken_of took.after ∙ ap (λ (o : Option IncomingState). taken_of o ++ one ∷ []) (sym took.there)
+grew : (one : Received) (old new : Option PacketReceiverState) → TookOne one old new → taken_of new ≡ taken_of old ++ one ∷ []
+grew one old new took = ap taken_of took.after ∙ ap (λ (o : Option PacketReceiverState). taken_of o ++ one ∷ []) (sym took.there)
 
 -- a secondary whose queue is lent is the same node
 lent-node : (v w : SecondaryView) → w.outgoing ≡ option_map without_queue v.outgoing → w ≡ record v { outgoing = w.outgoing } → peer.node w ≡ peer.node v
@@ -42,16 +42,17 @@ module _ (v : PairView) (a : SecondaryView) (b : PrimaryView) (result : Result D
       × (one.frame ≡ None)
   none-given = gave-none v.secondary.core.settings.link (state v).back one.frame result a.outgoing b.incoming was.pair.back given one.link
 
-  pub acknowledge-none-step : IsPairStep AckInEvent (is_starved result) (state v) (replied reply.Ok result) (state (record { secondary = a; primary = b }))
+  pub acknowledge-none-step : IsPairStep AckInEvent (is_out_of_memory result) (state v) (replied reply.Ok result)
+      (state (record { secondary = a; primary = b }))
   acknowledge-none-step = acknowledges-step (state v) (state (record { secondary = a; primary = b })) result one.frame none-given.0 one.step
       (λ frame is. absurd (let nothing : Some frame ≡ None = sym is ∙ none-given.2 in cc)) (sym (lent-node v.secondary a given.left same))
 
   pub acknowledge-none-is : IsPairView (record { secondary = a; primary = b })
-  acknowledge-none-is = view-kept-back AckInEvent (is_starved result) v (record { secondary = a; primary = b })
+  acknowledge-none-is = view-kept-back AckInEvent (is_out_of_memory result) v (record { secondary = a; primary = b })
       (replied reply.Ok result) was acknowledge-none-step none-given.1
-      (subst (λ (o : Option OutgoingState). IsDirection v.primary.core.settings.link (record { out = o; inn = a.incoming }))
+      (subst (λ (o : Option PacketSenderState). IsDirection v.primary.core.settings.link (record { out = o; inn = a.incoming }))
       (sym (ap (λ (x : PrimaryView). x.outgoing) rest))
-      (subst (λ (i : Option IncomingState). IsDirection v.primary.core.settings.link (record { out = v.primary.outgoing; inn = i }))
+      (subst (λ (i : Option PacketReceiverState). IsDirection v.primary.core.settings.link (record { out = v.primary.outgoing; inn = i }))
       (sym (ap (λ (x : SecondaryView). x.incoming) same)) was.pair.there))
       (ap (λ (x : SecondaryView). x.steady) same ∙ was.peer) (ap (λ (x : PrimaryView). x.steady) rest ∙ was.local)
 
@@ -73,10 +74,11 @@ module _ (v : PairView) (a e : SecondaryView) (b c d : PrimaryView) (q back : Qu
   after : local.node d ≡ local.node c
   after = ap local.node d_is ∙ ap (λ (l : List Received). record (local.node c) { taken = l }) (ap taken_of gave.left ∙ taken-given c.incoming)
 
-  steps : primary.NodeSteps (TakesFrame one.frame (is_none one.frame && is_starved result)) (local.node v.primary) (replied reply.Ok result) (local.node d)
-  steps = subst (λ (n : primary.NodeState). primary.NodeSteps (TakesFrame one.frame (is_none one.frame && is_starved result)) n (replied reply.Ok result)
+  steps : primary.NodeSteps (TakesFrame one.frame (is_none one.frame && is_out_of_memory result)) (local.node v.primary) (replied reply.Ok result)
+      (local.node d)
+  steps = subst (λ (n : primary.NodeState). primary.NodeSteps (TakesFrame one.frame (is_none one.frame && is_out_of_memory result)) n (replied reply.Ok result)
       (local.node d)) before
-      (subst (λ (n : primary.NodeState). primary.NodeSteps (TakesFrame one.frame (is_none one.frame && is_starved result)) (local.node b)
+      (subst (λ (n : primary.NodeState). primary.NodeSteps (TakesFrame one.frame (is_none one.frame && is_out_of_memory result)) (local.node b)
       (replied reply.Ok result) n) (sym after) one.step)
 
   grows : (frame : Received) → one.frame ≡ Some frame → (local.node d).taken ≡ (local.node v.primary).taken ++ frame ∷ []
@@ -87,14 +89,15 @@ module _ (v : PairView) (a e : SecondaryView) (b c d : PrimaryView) (q back : Qu
   kept = sym (ap peer.node e_is ∙ ap (λ (l : List Packet). record (peer.node a) { pushed = l }) (ap pushed_of over ∙ pushed-back back a.outgoing)
       ∙ lent-node v.secondary a given.left a_is)
 
-  pub acknowledge-step : IsPairStep AckInEvent (is_starved result) (state v) (replied reply.Ok result) (state (record { secondary = e; primary = d }))
+  pub acknowledge-step : IsPairStep AckInEvent (is_out_of_memory result) (state v) (replied reply.Ok result) (state (record { secondary = e; primary = d }))
   acknowledge-step = acknowledges-step (state v) (state (record { secondary = e; primary = d })) result one.frame both.0 steps grows kept
 
   pub acknowledge-is : IsPairView (record { secondary = e; primary = d })
-  acknowledge-is = view-kept-back AckInEvent (is_starved result) v (record { secondary = e; primary = d }) (replied reply.Ok result) was acknowledge-step both.1
-      (subst (λ (o : Option OutgoingState). IsDirection v.primary.core.settings.link (record { out = o; inn = e.incoming }))
+  acknowledge-is = view-kept-back AckInEvent (is_out_of_memory result) v (record { secondary = e; primary = d }) (replied reply.Ok result) was acknowledge-step
+      both.1
+      (subst (λ (o : Option PacketSenderState). IsDirection v.primary.core.settings.link (record { out = o; inn = e.incoming }))
       (sym (ap (λ (x : PrimaryView). x.outgoing) d_is ∙ ap (λ (x : PrimaryView). x.outgoing) c_is ∙ ap (λ (x : PrimaryView). x.outgoing) b_is))
-      (subst (λ (i : Option IncomingState). IsDirection v.primary.core.settings.link (record { out = v.primary.outgoing; inn = i }))
+      (subst (λ (i : Option PacketReceiverState). IsDirection v.primary.core.settings.link (record { out = v.primary.outgoing; inn = i }))
       (sym (ap (λ (x : SecondaryView). x.incoming) e_is ∙ ap (λ (x : SecondaryView). x.incoming) a_is)) was.pair.there))
       (ap (λ (x : SecondaryView). x.steady) e_is ∙ ap (λ (x : SecondaryView). x.steady) a_is ∙ was.peer)
       (ap (λ (x : PrimaryView). x.steady) d_is ∙ ap (λ (x : PrimaryView). x.steady) c_is ∙ ap (λ (x : PrimaryView). x.steady) b_is ∙ was.local)

@@ -7,28 +7,29 @@ use Rattle.blocks.specs.declared.outcome.Reply.{Reply}
 use Rattle.blocks.specs.declared.outcome.Reply.TheVariants as reply
 use Rattle.endpoint.specs.Calls as link
 use Rattle.model.specs.Pair.{Event}
-use Rattle.pair_steps.specs.State.{IsPairStep, PairState, is_starved}
+use Rattle.pair_protocol.specs.State.{IsPairStep, PairState, is_out_of_memory}
 
 -- memory was refused in both or in neither
-pub starved-alike : (R : Type 0) (e : Refusal) → link.is_starved {R = R} (Err e) ≡ is_starved (reply.Refused e)
-starved-alike R NoMemory = refl
-starved-alike R e = refl
+pub out-of-memory-alike : (R : Type 0) (e : Refusal) → link.is_out_of_memory {R = R} (Err e) ≡ is_out_of_memory (reply.Refused e)
+out-of-memory-alike R NoMemory = refl
+out-of-memory-alike R e = refl
 
 -- a call that is done
 pub ok-step : {R : Type 0} (tell : Result R Refusal → Reply) (event : Event) (p q : PairState) (result : Result R Refusal) (done : R) (said : Reply)
     → result ≡ Ok done → tell (Ok done) ≡ said
-    → IsPairStep event (link.is_starved result) p (tell result) q → IsPairStep event false p said q
+    → IsPairStep event (link.is_out_of_memory result) p (tell result) q → IsPairStep event false p said q
 ok-step {R} tell event p q result done said is told steps =
-    subst (λ (r : Reply). IsPairStep event false p r q) told (subst (λ (r : Result R Refusal). IsPairStep event (link.is_starved r) p (tell r) q) is steps)
+    subst (λ (r : Reply). IsPairStep event false p r q) told
+    (subst (λ (r : Result R Refusal). IsPairStep event (link.is_out_of_memory r) p (tell r) q) is steps)
 
 -- one that is refused
 pub err-step : {R : Type 0} (tell : Result R Refusal → Reply) (event : Event) (p q : PairState) (result : Result R Refusal) (e : Refusal)
     → tell (Err e) ≡ reply.Refused e → result ≡ Err e
-    → IsPairStep event (link.is_starved result) p (tell result) q → IsPairStep event (is_starved (reply.Refused e)) p (reply.Refused e) q
+    → IsPairStep event (link.is_out_of_memory result) p (tell result) q → IsPairStep event (is_out_of_memory (reply.Refused e)) p (reply.Refused e) q
 err-step {R} tell event p q result e told is steps =
-    subst (λ b. IsPairStep event b p (reply.Refused e) q) (starved-alike R e)
-    (subst (λ (r : Reply). IsPairStep event (link.is_starved {R = R} (Err e)) p r q) told
-    (subst (λ (r : Result R Refusal). IsPairStep event (link.is_starved r) p (tell r) q) is steps))
+    subst (λ b. IsPairStep event b p (reply.Refused e) q) (out-of-memory-alike R e)
+    (subst (λ (r : Reply). IsPairStep event (link.is_out_of_memory {R = R} (Err e)) p r q) told
+    (subst (λ (r : Result R Refusal). IsPairStep event (link.is_out_of_memory r) p (tell r) q) is steps))
 
 -- What is known of one answer.
 

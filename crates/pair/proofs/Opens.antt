@@ -9,19 +9,19 @@ use Rattle.blocks.specs.declared.outcome.Reply.{Reply}
 use Rattle.blocks.specs.declared.outcome.Reply.TheVariants as reply
 use Rattle.blocks.specs.declared.outcome.What.TheVariants as what
 use Rattle.link.specs.Directions.{InState, OutState, IsUnused, room_in, frames_in}
-use Rattle.endpoint.specs.Calls.{is_starved}
-use Rattle.endpoint.specs.Incoming.{incoming}
-use Rattle.endpoint.specs.Outgoing.{outgoing}
+use Rattle.endpoint.specs.Calls.{is_out_of_memory}
+use Rattle.endpoint.specs.PacketReceiver.{incoming}
+use Rattle.endpoint.specs.PacketSender.{outgoing}
 use Rattle.model.specs.Pair.{PairHistory, open_pair_tests}
-use Rattle.model.specs.Primary.{PrimaryHistory, outward}
+use Rattle.model.specs.Primary.{PrimaryHistory, primary_connection}
 use Rattle.model.specs.PrimarySteps.{known_tuples, open_primary, open_tests, opened, succeeding}
 use Rattle.model.specs.Refusals.{done_with, first_refusal}
-use Rattle.model.specs.Secondary.{SecondaryHistory, inward, is_drained}
+use Rattle.model.specs.Secondary.{SecondaryHistory, secondary_connection, is_drained}
 use Rattle.model.specs.SecondarySteps.{open_secondary, opened_secondary, succeeding_secondary}
-use Rattle.pair_steps.specs.State.{AreEnds, PairHas}
-use Rattle.pair_steps.proofs.Rooms.{number-is}
+use Rattle.pair_protocol.specs.State.{AreEnds, PairHas}
+use Rattle.pair_protocol.proofs.Rooms.{number-is}
 use Rattle.pair.specs.State.{PairView, state}
-use Rattle.laws.proofs.Rules.Memory.{open-refused, open-starved}
+use Rattle.laws.proofs.Rules.Memory.{open-refused, open-out-of-memory}
 use Rattle.laws.proofs.Lists.Tests.{test-passed}
 use Rattle.std.proofs.Common.{drop}
 use Rattle.std.proofs.lemmas.Bool.{leb-false}
@@ -58,25 +58,25 @@ new-ends s t capacity unused = rw (unused.sending, unused.taking) (record {
 -- Which test refuses.
 
 -- the secondary's own test passes, so the primary's decide
-pub past-first : (sync loss : ℕ) (starved : Bool) (h : PairHistory) → (inward h.secondary).closed ≡ true → is_drained h.secondary ≡ true
-    → first_refusal (open_pair_tests h sync loss starved) ≡ first_refusal (open_tests h.primary sync loss starved)
-past-first sync loss starved h closed drained =
-    ap (λ b. first_refusal ((not (b && is_drained h.secondary), NotDrained) ∷ open_tests h.primary sync loss starved)) closed
-    ∙ ap (λ b. first_refusal ((not b, NotDrained) ∷ open_tests h.primary sync loss starved)) drained
+pub past-first : (sync loss : ℕ) (out_of_memory : Bool) (h : PairHistory) → (secondary_connection h.secondary).closed ≡ true → is_drained h.secondary ≡ true
+    → first_refusal (open_pair_tests h sync loss out_of_memory) ≡ first_refusal (open_tests h.primary sync loss out_of_memory)
+past-first sync loss out_of_memory h closed drained =
+    ap (λ b. first_refusal ((not (b && is_drained h.secondary), NotDrained) ∷ open_tests h.primary sync loss out_of_memory)) closed
+    ∙ ap (λ b. first_refusal ((not b, NotDrained) ∷ open_tests h.primary sync loss out_of_memory)) drained
 
 -- a refusal but for memory is one with it
 pub may-not : (sync loss : ℕ) (e : Refusal) (h : PrimaryHistory) → Some e ≡ first_refusal (open_tests h sync loss false)
-    → first_refusal (open_tests h sync loss (is_starved {R = Done} (Err e))) ≡ Some e
-may-not sync loss e h is = open-refused h sync loss (is_starved {R = Done} (Err e)) e (sym is)
+    → first_refusal (open_tests h sync loss (is_out_of_memory {R = Done} (Err e))) ≡ Some e
+may-not sync loss e h is = open-refused h sync loss (is_out_of_memory {R = Done} (Err e)) e (sym is)
 
 pub no-link : (sync loss : ℕ) (h : PrimaryHistory) → first_refusal (open_tests h sync loss false) ≡ None
     → first_refusal (open_tests h sync loss true) ≡ Some NoMemory
-no-link sync loss h is = open-starved h sync loss is
+no-link sync loss h is = open-out-of-memory h sync loss is
 
 -- what the primary's step was refused for
-pub was-refused : (sync loss : ℕ) (starved : Bool) (e : Refusal) (h : PrimaryHistory) → reply.Refused e ≡ (open_primary sync loss starved h).0
-    → first_refusal (open_tests h sync loss starved) ≡ Some e
-was-refused sync loss starved e h said = go (first_refusal (open_tests h sync loss starved)) said
+pub was-refused : (sync loss : ℕ) (out_of_memory : Bool) (e : Refusal) (h : PrimaryHistory) → reply.Refused e ≡ (open_primary sync loss out_of_memory h).0
+    → first_refusal (open_tests h sync loss out_of_memory) ≡ Some e
+was-refused sync loss out_of_memory e h said = go (first_refusal (open_tests h sync loss out_of_memory)) said
   where
     go : (v : Option Refusal) → reply.Refused e ≡
         (elim v as (λ _. Reply × PrimaryHistory) [ Some refusal ↦ (reply.Refused refusal, h) | None ↦ succeeding what.Nothing (opened h sync loss) ]).0
@@ -85,9 +85,9 @@ was-refused sync loss starved e h said = go (first_refusal (open_tests h sync lo
     go None said = absurd (cc)
 
 -- it was not refused
-was-done : (sync loss : ℕ) (starved : Bool) (h : PrimaryHistory) → reply.Ok (done_with what.Nothing) ≡ (open_primary sync loss starved h).0
-    → first_refusal (open_tests h sync loss starved) ≡ None
-was-done sync loss starved h said = go (first_refusal (open_tests h sync loss starved)) said
+was-done : (sync loss : ℕ) (out_of_memory : Bool) (h : PrimaryHistory) → reply.Ok (done_with what.Nothing) ≡ (open_primary sync loss out_of_memory h).0
+    → first_refusal (open_tests h sync loss out_of_memory) ≡ None
+was-done sync loss out_of_memory h said = go (first_refusal (open_tests h sync loss out_of_memory)) said
   where
     go : (v : Option Refusal) → reply.Ok (done_with what.Nothing) ≡
         (elim v as (λ _. Reply × PrimaryHistory) [ Some refusal ↦ (reply.Refused refusal, h) | None ↦ succeeding what.Nothing (opened h sync loss) ]).0
@@ -99,7 +99,8 @@ was-done sync loss starved h said = go (first_refusal (open_tests h sync loss st
 pub counted : (v : PairView) (sync loss : ℕ) (h : PairHistory) → PairHas (state v) h
     → reply.Ok (done_with what.Nothing) ≡ (open_primary sync loss false h.primary).0 → v.secondary.core.number < 4294967295
 counted v sync loss h has said =
-    let one = test-passed (not (outward h.primary).closed) NotDrained (drop 1 (open_tests h.primary sync loss false)) (was-done sync loss false h.primary said) in
+    let one = test-passed (not (primary_connection h.primary).closed) NotDrained (drop 1 (open_tests h.primary sync loss false))
+    (was-done sync loss false h.primary said) in
     let two = test-passed (not (are_fresh sync loss (known_tuples h.primary))) UsedIdentifier (drop 2 (open_tests h.primary sync loss false)) one.1 in
     let three = test-passed (nat_le 4294967295 (length h.primary.connections)) StreamFull (drop 3 (open_tests h.primary sync loss false)) two.1 in
     let few = leb-false 4294967295 (length h.primary.connections) three.0 in
@@ -108,9 +109,10 @@ counted v sync loss h has said =
     omega (arith, few, number, count)
 
 -- A drained secondary whose end is closed is not refused.
-pub never-refused : (e : Refusal) (h : SecondaryHistory) → (inward h).closed ≡ true → is_drained h ≡ true → reply.Refused e ≡ (open_secondary 0 h).0 → ⊥
+pub never-refused : (e : Refusal) (h : SecondaryHistory) → (secondary_connection h).closed ≡ true → is_drained h ≡ true
+    → reply.Refused e ≡ (open_secondary 0 h).0 → ⊥
 never-refused e h closed drained said =
-    go (first_refusal ((not ((inward h).closed && is_drained h), NotDrained) ∷ []))
+    go (first_refusal ((not ((secondary_connection h).closed && is_drained h), NotDrained) ∷ []))
     (ap (λ b. first_refusal ((not (b && is_drained h), NotDrained) ∷ [])) closed ∙ ap (λ b. first_refusal ((not b, NotDrained) ∷ [])) drained) said
   where
     go : (v : Option Refusal) → v ≡ None

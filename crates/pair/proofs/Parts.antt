@@ -18,13 +18,13 @@ use Rattle.model.specs.Pair.{pair_opening, same_block}
 use Rattle.model.specs.Primary.{primary_opening}
 use Rattle.model.specs.Rows.{words}
 use Rattle.model.specs.Secondary.{secondary_opening}
-use Rattle.endpoint.specs.Incoming.{IncomingState}
-use Rattle.endpoint.specs.Outgoing.{OutgoingState}
-use Rattle.pair_steps.specs.State.{IsDirection, PairHas, PairState, WasHonest}
+use Rattle.endpoint.specs.PacketReceiver.{PacketReceiverState}
+use Rattle.endpoint.specs.PacketSender.{PacketSenderState}
+use Rattle.pair_protocol.specs.State.{IsDirection, PairHas, PairState, WasHonest}
 use Rattle.laws.proofs.Blocks.SameBlocks.{equal-same}
-use Rattle.pair_steps.proofs.Opening.{pair-opening-has}
-use Rattle.primary_steps.specs.Node as primary
-use Rattle.secondary_steps.specs.Node as secondary
+use Rattle.pair_protocol.proofs.Opening.{pair-opening-has}
+use Rattle.primary_protocol.specs.Node as primary
+use Rattle.secondary_protocol.specs.Node as secondary
 use Rattle.primary.specs.State.{PrimaryView}
 use Rattle.primary.specs.State as local
 use Rattle.secondary.specs.State.{SecondaryView}
@@ -41,8 +41,9 @@ pub disk-of : (blocks : ℕ) (disk : List (List ℕ)) → length disk ≡ blocks
 disk-of blocks disk size block = some-get disk block ∙ ap (nat_lt block) size
 
 -- no link yet
-none-there : (capacity : ℕ) (o : Option OutgoingState) (i : Option IncomingState) → o ≡ None → i ≡ None → IsDirection capacity (record { out = o; inn = i })
-none-there capacity o i out inn = subst (λ (x : Option OutgoingState). IsDirection capacity (record { out = x; inn = i })) (sym out) inn
+none-there : (capacity : ℕ) (o : Option PacketSenderState) (i : Option PacketReceiverState) → o ≡ None → i ≡ None
+    → IsDirection capacity (record { out = o; inn = i })
+none-there capacity o i out inn = subst (λ (x : Option PacketSenderState). IsDirection capacity (record { out = x; inn = i })) (sym out) inn
 
 -- two new nodes
 pub parts-have : (v : PairView) (settings : Settings) (here there : List (List ℕ)) (own peer_tuple : Tuple) (marks : ℕ → Bool) → IsInRange settings

@@ -3,20 +3,20 @@ use Rattle.std.proofs.Common.{◌≡◌, ◌&&◌, ◌++◌, ◌∷◌, [], List
 use Rattle.std.specs.Prelude.{option_map, is_none}
 use Rattle.blocks.specs.declared.refusal.Refusal.{Refusal}
 use Rattle.blocks.specs.declared.outcome.Done.{Done}
-use Rattle.endpoint.specs.Calls.{TookOne, is_starved, pushed_of, taken_of}
-use Rattle.endpoint.specs.Incoming.{IncomingState}
-use Rattle.endpoint.specs.Outgoing.{OutgoingState}
+use Rattle.endpoint.specs.Calls.{TookOne, is_out_of_memory, pushed_of, taken_of}
+use Rattle.endpoint.specs.PacketReceiver.{PacketReceiverState}
+use Rattle.endpoint.specs.PacketSender.{PacketSenderState}
 use Rattle.endpoint.specs.Lending.{GivenOut, GivenBack, LaidBack, LaidIn, without_queue}
 use Rattle.link.specs.Directions.{QueueState}
 use Rattle.model.specs.Frames.{Packet, Received}
 use Rattle.model.specs.LocalRuns.{Receives}
 use Rattle.model.specs.Pair.{ReceiveEvent}
-use Rattle.pair_steps.specs.Carried.{Gave, IsTold}
-use Rattle.pair_steps.specs.State.{IsDirection, IsPairStep}
-use Rattle.pair_steps.proofs.Lending.{comes-back, gave-none, gave-over, pushed-back, pushed-lent, taken-given, taken-laid}
-use Rattle.pair_steps.proofs.Takings.{receives-step}
-use Rattle.secondary_steps.specs.Node as secondary
-use Rattle.secondary_steps.specs.Steps.{replied}
+use Rattle.pair_protocol.specs.Carried.{Gave, IsTold}
+use Rattle.pair_protocol.specs.State.{IsDirection, IsPairStep}
+use Rattle.pair_protocol.proofs.Lending.{comes-back, gave-none, gave-over, pushed-back, pushed-lent, taken-given, taken-laid}
+use Rattle.pair_protocol.proofs.Takings.{receives-step}
+use Rattle.secondary_protocol.specs.Node as secondary
+use Rattle.secondary_protocol.specs.Steps.{replied}
 use Rattle.primary.specs.State.{PrimaryView}
 use Rattle.primary.specs.State as local
 use Rattle.secondary.specs.Calls.{ReceivesOne}
@@ -26,8 +26,8 @@ use Rattle.pair.specs.State.{PairView, IsPairView, state}
 use Rattle.pair.proofs.Pairing.{view-kept}
 
 -- one frame more stands where one was taken
-grew : (one : Received) (old new : Option IncomingState) → TookOne one old new → taken_of new ≡ taken_of old ++ one ∷ []
-grew one old new took = ap taken_of took.after ∙ ap (λ (o : Option IncomingState). taken_of o ++ one ∷ []) (sym took.there)
+grew : (one : Received) (old new : Option PacketReceiverState) → TookOne one old new → taken_of new ≡ taken_of old ++ one ∷ []
+grew one old new took = ap taken_of took.after ∙ ap (λ (o : Option PacketReceiverState). taken_of o ++ one ∷ []) (sym took.there)
 
 -- a primary whose queue is lent is the same node
 lent-node : (v w : PrimaryView) → w.outgoing ≡ option_map without_queue v.outgoing → w ≡ record v { outgoing = w.outgoing } → local.node w ≡ local.node v
@@ -41,16 +41,18 @@ module _ (v : PairView) (a : PrimaryView) (b : SecondaryView) (result : Result D
       × (one.frame ≡ None)
   none-given = gave-none v.primary.core.settings.link (state v).there one.frame result a.outgoing b.incoming was.pair.there given one.link
 
-  pub receive-none-step : IsPairStep ReceiveEvent (is_starved result) (state v) (replied (λ done. done) result) (state (record { primary = a; secondary = b }))
+  pub receive-none-step : IsPairStep ReceiveEvent (is_out_of_memory result) (state v) (replied (λ done. done) result)
+      (state (record { primary = a; secondary = b }))
   receive-none-step = receives-step (state v) (state (record { primary = a; secondary = b })) result one.frame none-given.0 one.step
       (λ frame is. absurd (let nothing : Some frame ≡ None = sym is ∙ none-given.2 in cc)) (sym (lent-node v.primary a given.left same))
 
   pub receive-none-is : IsPairView (record { primary = a; secondary = b })
-  receive-none-is = view-kept ReceiveEvent (is_starved result) v (record { primary = a; secondary = b }) (replied (λ done. done) result) was receive-none-step
+  receive-none-is = view-kept ReceiveEvent (is_out_of_memory result) v (record { primary = a; secondary = b })
+      (replied (λ done. done) result) was receive-none-step
       none-given.1
-      (subst (λ (o : Option OutgoingState). IsDirection v.secondary.core.settings.link (record { out = o; inn = a.incoming }))
+      (subst (λ (o : Option PacketSenderState). IsDirection v.secondary.core.settings.link (record { out = o; inn = a.incoming }))
       (sym (ap (λ (x : SecondaryView). x.outgoing) rest))
-      (subst (λ (i : Option IncomingState). IsDirection v.secondary.core.settings.link (record { out = v.secondary.outgoing; inn = i }))
+      (subst (λ (i : Option PacketReceiverState). IsDirection v.secondary.core.settings.link (record { out = v.secondary.outgoing; inn = i }))
       (sym (ap (λ (x : PrimaryView). x.incoming) same)) was.pair.back))
       (ap (λ (x : PrimaryView). x.steady) same ∙ was.local) (ap (λ (x : SecondaryView). x.steady) rest ∙ was.peer)
 
@@ -72,11 +74,11 @@ module _ (v : PairView) (a e : PrimaryView) (b c d : SecondaryView) (q back : Qu
   after : peer.node d ≡ peer.node c
   after = ap peer.node d_is ∙ ap (λ (l : List Received). record (peer.node c) { taken = l }) (ap taken_of gave.left ∙ taken-given c.incoming)
 
-  steps : secondary.NodeSteps (Receives one.frame (is_none one.frame && is_starved result)) (peer.node v.secondary) (replied (λ done. done) result)
+  steps : secondary.NodeSteps (Receives one.frame (is_none one.frame && is_out_of_memory result)) (peer.node v.secondary) (replied (λ done. done) result)
       (peer.node d)
-  steps = subst (λ (n : secondary.NodeState). secondary.NodeSteps (Receives one.frame (is_none one.frame && is_starved result)) n
+  steps = subst (λ (n : secondary.NodeState). secondary.NodeSteps (Receives one.frame (is_none one.frame && is_out_of_memory result)) n
       (replied (λ done. done) result) (peer.node d)) before
-      (subst (λ (n : secondary.NodeState). secondary.NodeSteps (Receives one.frame (is_none one.frame && is_starved result)) (peer.node b)
+      (subst (λ (n : secondary.NodeState). secondary.NodeSteps (Receives one.frame (is_none one.frame && is_out_of_memory result)) (peer.node b)
       (replied (λ done. done) result) n) (sym after) one.step)
 
   grows : (frame : Received) → one.frame ≡ Some frame → (peer.node d).taken ≡ (peer.node v.secondary).taken ++ frame ∷ []
@@ -87,14 +89,15 @@ module _ (v : PairView) (a e : PrimaryView) (b c d : SecondaryView) (q back : Qu
   kept = sym (ap local.node e_is ∙ ap (λ (l : List Packet). record (local.node a) { pushed = l }) (ap pushed_of over ∙ pushed-back back a.outgoing)
       ∙ lent-node v.primary a given.left a_is)
 
-  pub receive-step : IsPairStep ReceiveEvent (is_starved result) (state v) (replied (λ done. done) result) (state (record { primary = e; secondary = d }))
+  pub receive-step : IsPairStep ReceiveEvent (is_out_of_memory result) (state v) (replied (λ done. done) result) (state (record { primary = e; secondary = d }))
   receive-step = receives-step (state v) (state (record { primary = e; secondary = d })) result one.frame both.0 steps grows kept
 
   pub receive-is : IsPairView (record { primary = e; secondary = d })
-  receive-is = view-kept ReceiveEvent (is_starved result) v (record { primary = e; secondary = d }) (replied (λ done. done) result) was receive-step both.1
-      (subst (λ (o : Option OutgoingState). IsDirection v.secondary.core.settings.link (record { out = o; inn = e.incoming }))
+  receive-is = view-kept ReceiveEvent (is_out_of_memory result) v (record { primary = e; secondary = d }) (replied (λ done. done) result) was receive-step
+      both.1
+      (subst (λ (o : Option PacketSenderState). IsDirection v.secondary.core.settings.link (record { out = o; inn = e.incoming }))
       (sym (ap (λ (x : SecondaryView). x.outgoing) d_is ∙ ap (λ (x : SecondaryView). x.outgoing) c_is ∙ ap (λ (x : SecondaryView). x.outgoing) b_is))
-      (subst (λ (i : Option IncomingState). IsDirection v.secondary.core.settings.link (record { out = v.secondary.outgoing; inn = i }))
+      (subst (λ (i : Option PacketReceiverState). IsDirection v.secondary.core.settings.link (record { out = v.secondary.outgoing; inn = i }))
       (sym (ap (λ (x : PrimaryView). x.incoming) e_is ∙ ap (λ (x : PrimaryView). x.incoming) a_is)) was.pair.back))
       (ap (λ (x : PrimaryView). x.steady) e_is ∙ ap (λ (x : PrimaryView). x.steady) a_is ∙ was.local)
       (ap (λ (x : SecondaryView). x.steady) d_is ∙ ap (λ (x : SecondaryView). x.steady) c_is ∙ ap (λ (x : SecondaryView). x.steady) b_is ∙ was.peer)

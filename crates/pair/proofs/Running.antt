@@ -5,8 +5,8 @@ use Rattle.std.proofs.Math.Seq.{take-suc, take-length}
 use Rattle.std.proofs.lemmas.List.{length-append, length-take-le}
 use Rattle.blocks.specs.declared.outcome.Reply.{Reply}
 use Rattle.model.specs.Pair as model
-use Rattle.pair_steps.specs.State.{IsPairStep, Ran, is_starved}
-use Rattle.pair_steps.proofs.Running.{ran-none, ran-more}
+use Rattle.pair_protocol.specs.State.{IsPairStep, Ran, is_out_of_memory}
+use Rattle.pair_protocol.proofs.Running.{ran-none, ran-more}
 use Rattle.pair.specs.declared.event.Event.{Event}
 use Rattle.pair.specs.Events.{event_of}
 use Rattle.pair.specs.Running.{HasRun}
@@ -33,7 +33,7 @@ none-ran events replies len capacity p none empty room = record {
 -- one event more
 pub one-ran : (events : List Event) (count : ℕ) (replies after : List Reply) (len capacity later : ℕ) (start now next : PairView) (event : Event) (one : Reply)
     → HasRun events count replies len capacity start now → count < length events
-    → event ≡ slice_index_or events count event → IsPairStep (event_of event) (is_starved one) (state now) one (state next) → after ≡ replies ++ one ∷ []
+    → event ≡ slice_index_or events count event → IsPairStep (event_of event) (is_out_of_memory one) (state now) one (state next) → after ≡ replies ++ one ∷ []
     → later ≡ len + 1 → HasRun events (count + 1) after later capacity start next
 one-ran events count replies after len capacity later start now next event one was within item step grown more = record {
   ran = subst (λ (l : List model.Event). Ran l after (state start) (state next)) (sym listed)

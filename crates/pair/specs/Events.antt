@@ -1,5 +1,5 @@
 -- What the events of a pair stand for.
-use Rattle.primary_steps.specs.Transitions.{whole_blocks}
+use Rattle.primary_protocol.specs.Transitions.{whole_blocks}
 use Rattle.model.specs.Pair as model
 use Rattle.pair.specs.declared.event.Event.{Event}
 use Rattle.pair.specs.declared.event.Event.TheVariants as event

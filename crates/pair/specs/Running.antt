@@ -1,7 +1,7 @@
 -- A run, as far as it has come.
 use Rattle.std.specs.Prelude.{ℕ, ◌≡◌, ◌≤◌, List, length, map, take}
 use Rattle.blocks.specs.declared.outcome.Reply.{Reply}
-use Rattle.pair_steps.specs.State.{Ran}
+use Rattle.pair_protocol.specs.State.{Ran}
 use Rattle.pair.specs.declared.event.Event.{Event}
 use Rattle.pair.specs.Events.{event_of}
 use Rattle.pair.specs.State.{PairView, state}

@@ -2,7 +2,7 @@
 use Rattle.std.specs.Prelude.{◌≡◌, true}
 use Rattle.primary.specs.State.{PrimaryView}
 use Rattle.secondary.specs.State.{SecondaryView}
-use Rattle.pair_steps.specs.State.{IsPair, PairState}
+use Rattle.pair_protocol.specs.State.{IsPair, PairState}
 
 -- both nodes
 pub record PairView : Type 0 where

@@ -1,13 +1,13 @@
 //! Taking a frame: the direction's queue is lent to the side that takes, for the one call.
 ghost use Rattle.std.specs.Prelude.{◌≡◌};
 ghost use Rattle.blocks.specs.declared.outcome.Reply.TheVariants as reply;
-ghost use Rattle.endpoint.specs.Calls.{is_starved};
+ghost use Rattle.endpoint.specs.Calls.{is_out_of_memory};
 ghost use Rattle.model.specs.Pair.{AckInEvent, ReceiveEvent};
 ghost use Rattle.pair.specs.State.{state};
-ghost use Rattle.pair_steps.specs.Carried.{IsTold};
-ghost use Rattle.pair_steps.specs.State.{IsPairStep};
-ghost use Rattle.primary_steps.specs.Steps.{replied};
-ghost use Rattle.secondary_steps.specs.Steps as from_secondary;
+ghost use Rattle.pair_protocol.specs.Carried.{IsTold};
+ghost use Rattle.pair_protocol.specs.State.{IsPairStep};
+ghost use Rattle.primary_protocol.specs.Steps.{replied};
+ghost use Rattle.secondary_protocol.specs.Steps as from_secondary;
 
 use crate::{LocalNode, Pair, PeerNode};
 use blocks::{Done, Refusal};
@@ -16,7 +16,7 @@ use endpoint::joined;
 impl Pair {
     // The secondary takes the next frame of the primary.
     pub(crate) fn receive(&mut self) -> Result<Done, Refusal>
-        ensures step { IsPairStep ReceiveEvent (is_starved result) (state self.old) (from_secondary.replied (λ done. done) result) (state self.new) }
+        ensures step { IsPairStep ReceiveEvent (is_out_of_memory result) (state self.old) (from_secondary.replied (λ done. done) result) (state self.new) }
     {
         let Some(queue) = self.primary.give_outward() else {
             return self.secondary.receive();
@@ -33,7 +33,7 @@ impl Pair {
 
     // The primary takes the next acknowledgement of the secondary.
     pub(crate) fn ack_in(&mut self) -> Result<Done, Refusal>
-        ensures step { IsPairStep AckInEvent (is_starved result) (state self.old) (replied reply.Ok result) (state self.new) }
+        ensures step { IsPairStep AckInEvent (is_out_of_memory result) (state self.old) (replied reply.Ok result) (state self.new) }
     {
         let Some(queue) = self.secondary.give_outward() else {
             return self.primary.ack_in();

@@ -1,11 +1,11 @@
 //! Opening a connection.
 ghost use Rattle.std.specs.Prelude.{◌≡◌};
 ghost use Rattle.blocks.specs.declared.outcome.Reply.TheVariants as reply;
-ghost use Rattle.endpoint.specs.Calls.{is_starved};
+ghost use Rattle.endpoint.specs.Calls.{is_out_of_memory};
 ghost use Rattle.model.specs.Pair.{OpenEvent};
 ghost use Rattle.pair.specs.State.{state};
-ghost use Rattle.pair_steps.specs.State.{IsPairStep};
-ghost use Rattle.primary_steps.specs.Steps.{replied};
+ghost use Rattle.pair_protocol.specs.State.{IsPairStep};
+ghost use Rattle.primary_protocol.specs.Steps.{replied};
 
 use crate::Pair;
 use blocks::{Done, Refusal, What};
@@ -14,7 +14,7 @@ use link::PlainLink;
 impl Pair {
     // Both ends open with a new link, or none.
     pub(crate) fn open(&mut self, sync: u64, loss: u64) -> Result<Done, Refusal>
-        ensures step { IsPairStep (OpenEvent sync loss) (is_starved result) (state self.old) (replied reply.Ok result) (state self.new) }
+        ensures step { IsPairStep (OpenEvent sync loss) (is_out_of_memory result) (state self.old) (replied reply.Ok result) (state self.new) }
     {
         if self.secondary.is_open() || !self.secondary.is_drained() {
             return Err(Refusal::NotDrained);

@@ -6,7 +6,7 @@ ghost use Rattle.model.specs.Headline.{IsGrounded};
 ghost use Rattle.model.specs.Pair.{pair_opening};
 ghost use Rattle.pair.specs.Openings.{CanPair, zero_filled};
 ghost use Rattle.pair.specs.State.{state};
-ghost use Rattle.pair_steps.specs.State.{PairHas, WasHonest};
+ghost use Rattle.pair_protocol.specs.State.{PairHas, WasHonest};
 
 use blocks::{FaultStore, MemStore, Refusal, Settings, Store, Tuple};
 use link::{PlainIn, PlainOut};
@@ -21,8 +21,8 @@ pub type LocalNode = Primary<PlainOut, PlainIn, FaultStore>;
 /// The secondary of a pair.
 pub type PeerNode = Secondary<PlainOut, PlainIn, FaultStore>;
 
-/// A primary and a secondary over two disks in memory, and the link between them. Some history is had, and
-/// the queue of each direction rests at its sending end.
+/// A primary and a secondary over two disks in memory, and the link between them. Invariant: the pair has
+/// some history of the model (`PairHas`), and the queue of each direction rests at its sending end.
 #[derive(Drop)]
 pub struct Pair {
     pub(crate) alloc: Global,

@@ -6,7 +6,7 @@ ghost use Rattle.model.specs.Headline.{is_marked};
 ghost use Rattle.model.specs.Pair.{PairHistory, differs, tuples};
 ghost use Rattle.pair.specs.Reading.{disk_at, size_of};
 ghost use Rattle.pair.specs.State.{state};
-ghost use Rattle.pair_steps.specs.State.{PairHas};
+ghost use Rattle.pair_protocol.specs.State.{PairHas};
 
 use crate::{LocalNode, Pair, PeerNode, Side};
 use blocks::{Block, Refusal, Store, Tuple};

@@ -6,7 +6,7 @@ ghost use Rattle.model.specs.Pair.{PairHistory, run};
 ghost use Rattle.model.specs.WriteOrder.{IsUnharmed, KeepsWriteOrder};
 ghost use Rattle.pair.specs.Events.{event_of};
 ghost use Rattle.pair.specs.State.{state};
-ghost use Rattle.pair_steps.specs.State.{PairHas, WasHonest, answered};
+ghost use Rattle.pair_protocol.specs.State.{PairHas, WasHonest, answered};
 
 use crate::{Event, Pair};
 use blocks::{Refusal, Reply};

@@ -7,11 +7,11 @@ ghost use Rattle.model.specs.Pair.{AckOutEvent, ClosePrimaryEvent, CloseSecondar
 ghost use Rattle.model.specs.WriteOrder.{IsUnharmed, KeepsWriteOrder};
 ghost use Rattle.pair.specs.Events.{event_of};
 ghost use Rattle.pair.specs.State.{state};
-ghost use Rattle.pair_steps.specs.State.{IsPairStep, PairHas, WasHonest, is_starved};
-ghost use Rattle.primary_steps.specs.Steps.{replied};
-ghost use Rattle.secondary_steps.specs.Steps as from_secondary;
-ghost use Rattle.secondary_steps.specs.Steps.{plainly};
-ghost use Rattle.primary_steps.specs.Transitions.{whole_blocks};
+ghost use Rattle.pair_protocol.specs.State.{IsPairStep, PairHas, WasHonest, is_out_of_memory};
+ghost use Rattle.primary_protocol.specs.Steps.{replied};
+ghost use Rattle.secondary_protocol.specs.Steps as from_secondary;
+ghost use Rattle.secondary_protocol.specs.Steps.{plainly};
+ghost use Rattle.primary_protocol.specs.Transitions.{whole_blocks};
 
 use crate::carry::{told_back, told_there};
 use crate::{Event, Pair};
@@ -21,28 +21,28 @@ use bytes::Bytes;
 impl Pair {
     // The primary accepts a write.
     fn submit(&mut self, first: u64, contents: &Bytes) -> Result<(u64, Done), Refusal>
-        ensures step { IsPairStep (SubmitEvent first (whole_blocks contents.now)) (link.is_starved result) (state self.old) (replied (λ told. reply.Ok told.1) result) (state self.new) }
+        ensures step { IsPairStep (SubmitEvent first (whole_blocks contents.now)) (link.is_out_of_memory result) (state self.old) (replied (λ told. reply.Ok told.1) result) (state self.new) }
     {
         self.primary.submit(first, contents)
     }
 
     // The primary's disk does a write.
     fn local(&mut self, number: u64) -> Result<Done, Refusal>
-        ensures step { IsPairStep (LocalEvent number) (link.is_starved result) (state self.old) (replied reply.Ok result) (state self.new) }
+        ensures step { IsPairStep (LocalEvent number) (link.is_out_of_memory result) (state self.old) (replied reply.Ok result) (state self.new) }
     {
         self.primary.local(number)
     }
 
     // It fails a write.
     fn local_fault(&mut self, number: u64, kept: u64) -> Result<Done, Refusal>
-        ensures step { IsPairStep (LocalFaultEvent number kept) (link.is_starved result) (state self.old) (replied reply.Ok result) (state self.new) }
+        ensures step { IsPairStep (LocalFaultEvent number kept) (link.is_out_of_memory result) (state self.old) (replied reply.Ok result) (state self.new) }
     {
         self.primary.local_fault(number, kept)
     }
 
     // The primary sends a frame.
     fn send(&mut self) -> Result<Done, Refusal>
-        ensures step { IsPairStep SendEvent (link.is_starved result) (state self.old) (replied reply.Ok result) (state self.new) }
+        ensures step { IsPairStep SendEvent (link.is_out_of_memory result) (state self.old) (replied reply.Ok result) (state self.new) }
     {
         let done = self.primary.send();
         told_there(&self.primary, &self.secondary);
@@ -51,21 +51,21 @@ impl Pair {
 
     // The secondary's disk does an item.
     fn peer(&mut self, place: u32) -> Result<Done, Refusal>
-        ensures step { IsPairStep (PeerEvent place) (link.is_starved result) (state self.old) (from_secondary.replied (λ done. done) result) (state self.new) }
+        ensures step { IsPairStep (PeerEvent place) (link.is_out_of_memory result) (state self.old) (from_secondary.replied (λ done. done) result) (state self.new) }
     {
         self.secondary.peer(place)
     }
 
     // It fails an item.
     fn peer_fault(&mut self, place: u32, kept: u64) -> Result<Done, Refusal>
-        ensures step { IsPairStep (PeerFaultEvent place kept) (link.is_starved result) (state self.old) (from_secondary.replied (λ done. done) result) (state self.new) }
+        ensures step { IsPairStep (PeerFaultEvent place kept) (link.is_out_of_memory result) (state self.old) (from_secondary.replied (λ done. done) result) (state self.new) }
     {
         self.secondary.peer_fault(place, kept)
     }
 
     // The secondary sends an acknowledgement.
     fn ack_out(&mut self) -> Result<Done, Refusal>
-        ensures step { IsPairStep AckOutEvent (link.is_starved result) (state self.old) (from_secondary.replied (λ done. done) result) (state self.new) }
+        ensures step { IsPairStep AckOutEvent (link.is_out_of_memory result) (state self.old) (from_secondary.replied (λ done. done) result) (state self.new) }
     {
         let done = self.secondary.ack_out();
         told_back(&self.primary, &self.secondary);
@@ -74,28 +74,28 @@ impl Pair {
 
     // The primary copies a block.
     fn resync(&mut self) -> Result<Done, Refusal>
-        ensures step { IsPairStep ResyncEvent (link.is_starved result) (state self.old) (replied reply.Ok result) (state self.new) }
+        ensures step { IsPairStep ResyncEvent (link.is_out_of_memory result) (state self.old) (replied reply.Ok result) (state self.new) }
     {
         self.primary.resync_next()
     }
 
     // The primary's disk fails the read of a block.
     fn resync_fault(&mut self) -> Result<Done, Refusal>
-        ensures step { IsPairStep ResyncFaultEvent (link.is_starved result) (state self.old) (replied reply.Ok result) (state self.new) }
+        ensures step { IsPairStep ResyncFaultEvent (link.is_out_of_memory result) (state self.old) (replied reply.Ok result) (state self.new) }
     {
         self.primary.resync_fault()
     }
 
     // The primary closes its end.
     fn close_primary(&mut self) -> Result<u32, Refusal>
-        ensures step { IsPairStep ClosePrimaryEvent (link.is_starved result) (state self.old) (replied reply.Closed result) (state self.new) }
+        ensures step { IsPairStep ClosePrimaryEvent (link.is_out_of_memory result) (state self.old) (replied reply.Closed result) (state self.new) }
     {
         self.primary.close()
     }
 
     // The secondary closes its end.
     fn close_secondary(&mut self) -> Result<(), Refusal>
-        ensures step { IsPairStep CloseSecondaryEvent (link.is_starved result) (state self.old) (from_secondary.replied plainly result) (state self.new) }
+        ensures step { IsPairStep CloseSecondaryEvent (link.is_out_of_memory result) (state self.old) (from_secondary.replied plainly result) (state self.new) }
     {
         self.secondary.close()
     }
@@ -103,17 +103,17 @@ impl Pair {
     /// One event, and the reply to it. It is the event's step, on whichever history the pair had; memory was
     /// refused where the reply is 7.
     pub fn step(&mut self, event: &Event) -> Reply
-        ensures step { IsPairStep (event_of event.now) (is_starved result) (state self.old) result (state self.new) }
+        ensures step { IsPairStep (event_of event.now) (is_out_of_memory result) (state self.old) result (state self.new) }
         // Where the identifiers of its opening were honest, they still were.
         ensures honest { (h : PairHistory) → PairHas (state self.old) h → WasHonest h
-            → WasHonest (step (event_of event.now) (is_starved result) h).1 }
+            → WasHonest (step (event_of event.now) (is_out_of_memory result) h).1 }
         // Where the history was grounded, it still is.
         ensures grounded { (h : PairHistory) → PairHas (state self.old) h → IsGrounded h.primary h.secondary
-            → IsGrounded (step (event_of event.now) (is_starved result) h).1.primary (step (event_of event.now) (is_starved result) h).1.secondary }
+            → IsGrounded (step (event_of event.now) (is_out_of_memory result) h).1.primary (step (event_of event.now) (is_out_of_memory result) h).1.secondary }
         // Nothing is sent or taken after an end's close.
         ensures closed { (h : PairHistory) → PairHas (state self.old) h
-            → StaysClosed h.primary (step (event_of event.now) (is_starved result) h).1.primary
-            × StaysClosedToo h.secondary (step (event_of event.now) (is_starved result) h).1.secondary }
+            → StaysClosed h.primary (step (event_of event.now) (is_out_of_memory result) h).1.primary
+            × StaysClosedToo h.secondary (step (event_of event.now) (is_out_of_memory result) h).1.secondary }
         // What the secondary took on each connection is a beginning of the lawful stream that the primary sent.
         ensures beginning { (h : PairHistory) → PairHas (state self.new) h → TakesABeginning h.primary h.secondary }
         // The secondary's disk holds every write of earlier epochs and part of one.

@@ -76,7 +76,7 @@ fn with_blocks_in(
     Ok(frame)
 }
 
-/// The front of a frame, and then so many blocks of one byte.
+/// The front of a frame, and then `blocks` blocks filled with one byte.
 pub(crate) fn with_blocks(
     rt: &impl Abort,
     alloc: Global,

@@ -18,9 +18,9 @@ pub record PeerDiskState (X : Type 0) : Type 0 where
   pub reach : ℕ
 
 -- what was refused for want of memory
-abbrev pub is_starved : Result (Unit {0}) Refusal → Bool
-is_starved (Err NoMemory) = true
-is_starved _ = false
+abbrev pub is_out_of_memory : Result (Unit {0}) Refusal → Bool
+is_out_of_memory (Err NoMemory) = true
+is_out_of_memory _ = false
 
 module _ {X : Type 0} where
   -- what is pending at a place
@@ -67,7 +67,7 @@ module _ {X : Type 0} where
 
   -- an item is taken, unless the disk is full or there is no memory
   abbrev pub put : ℕ → ℕ → X → Bool → PeerDiskState X → Result (Unit {0}) Refusal × PeerDiskState X
-  put place epoch item starved s =
+  put place epoch item out_of_memory s =
       if nat_le s.limit (length s.pending) then (Err PendingFull, s)
-      else if starved then (Err NoMemory, s)
+      else if out_of_memory then (Err NoMemory, s)
       else (Ok tt, record s { pending = s.pending ++ record { place = place; epoch = epoch; item = item } ∷ [] })

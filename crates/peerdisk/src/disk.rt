@@ -1,7 +1,7 @@
 //! The items that wait for the secondary's disk.
 ghost use Rattle.std.specs.Prelude.{◌≡◌, ◌+◌, ◌-◌, ◌<◌, ◌≤◌, [], true, false, nat_eq, nat_le, if◌then◌else◌, length, get_or, All, None, Some, Ok, Err, OnOk, OnErr, IsOk, IfOk, IfErr, is_some, option_map, slice_get, MatchResult};
 ghost use Rattle.blocks.specs.declared.refusal.Refusal.TheVariants.{NoMemory, PendingFull};
-ghost use Rattle.peerdisk.specs.Pending.{after_fault, at_place, epoch_at, is_pending, is_starved, item_at, next, put, start, without};
+ghost use Rattle.peerdisk.specs.Pending.{after_fault, at_place, epoch_at, is_pending, is_out_of_memory, item_at, next, put, start, without};
 
 use crate::slots::{drop_holes, drop_later, put_holes, take_item};
 use blocks::Refusal;
@@ -109,8 +109,8 @@ impl<T: Drop> PeerDisk<T> {
     pub fn put(&mut self, place: u32, epoch: u32, item: T) -> Result<(), Refusal>
         requires above { All (λ p. p.place < place) self.old.pending }
         requires no_earlier { All (λ p. p.epoch ≤ epoch) self.old.pending }
-        ensures put { (result, self.new) ≡ put place epoch item (is_starved result) (record self.old { reach = self.new.reach }) }
-        ensures room { place < self.old.reach → is_starved result ≡ false }
+        ensures put { (result, self.new) ≡ put place epoch item (is_out_of_memory result) (record self.old { reach = self.new.reach }) }
+        ensures room { place < self.old.reach → is_out_of_memory result ≡ false }
     {
         self.may_put()?;
         self.reserve(place)?;

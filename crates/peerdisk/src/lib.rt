@@ -1,4 +1,4 @@
-//! What a secondary has taken and not applied yet, and which blocks the last of it covers.
+//! The items that a secondary has taken and not applied yet, and the blocks that those of the last epoch cover.
 #![tactic(auto)]
 
 mod disk;

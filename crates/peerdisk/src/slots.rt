@@ -1,4 +1,4 @@
-//! What is done to a row of slots, and to the items that lie in a slab under the slots' keys.
+//! Changes of a row of slots, and of the items that lie in a slab under the slots' keys.
 ghost use Rattle.std.specs.Prelude.{ℕ, ◌≡◌, ◌+◌, ◌<◌, ◌≤◌, ◌++◌, ◌∷◌, [], true, None, Some, filter, is_some, nat_le, length, slice_index_or, slice_set};
 ghost use Rattle.std.specs.Int.{from_bool};
 ghost use Rattle.std.specs.VecDeque.{deque_len, deque_capacity};

@@ -1,5 +1,6 @@
 -- Receipts are held against the journal by their numbers.
-use Rattle.std.proofs.Common.{ℕ, zero, suc, ◌≡◌, ◌+◌, ◌-◌, ◌<◌, ◌≤◌, inl, inr, Bool, true, false, not, ◌&&◌, ◌||◌, List, [], ◌∷◌, length, get_or, drop, replicate}
+use Rattle.std.proofs.Common.{ℕ, zero, suc, ◌≡◌, ◌+◌, ◌-◌, ◌<◌, ◌≤◌, inl, inr, Bool, true, false, not, ◌&&◌, ◌||◌, List, [], ◌∷◌, length, get_or, drop}
+use Rattle.std.proofs.Common.{replicate}
 use Rattle.std.proofs.Common.{Option, Some, None, slice_get, slice_set, refl, sym, ◌∙◌, ap, subst, arith, ◌==◌}
 use Rattle.std.specs.Prelude.{find, is_some, option_map, unwrap_or}
 use Rattle.std.specs.List.{list_any, AllByRecursion}
@@ -9,19 +10,19 @@ use Rattle.std.proofs.Math.ListN.{drop_of_length-le}
 use Rattle.std.proofs.lemmas.Option.{slice_get_within, slice_get_past}
 use Rattle.blocks.specs.Positions.{StreamPosition}
 use Rattle.model.specs.Contents.{Write}
-use Rattle.model.specs.Primary.{Kind, Linked, Alone, Accepted, Completion, PrimaryHistory, is_failed, is_completed}
+use Rattle.model.specs.Primary.{CompletionKind, Linked, Alone, Accepted, Completion, PrimaryHistory, is_failed, is_completed}
 use Rattle.model.specs.Settlement.{Receipt, receipt_of, same_kind, same_home, same_receipt, has_strange}
 use Rattle.laws.proofs.Lists.Elements.{same-at}
 use Rattle.laws.proofs.Lists.Once.{Once}
 use Rattle.laws.proofs.Lists.Picks.{pick-any, any-pick, pick-found}
 use Rattle.laws.proofs.Primary.Journal.{journal-run, JournalIsAccepted}
-use Rattle.primary_steps.specs.Core.{Fate, Open, Failed, Completed, Entry, PrimaryState}
-use Rattle.primary_steps.specs.Leaves.{Leaves, entry_of, fate_in, is_linked}
-use Rattle.primary_steps.specs.Steps.{IsReached}
-use Rattle.primary_steps.specs.Transitions.{entry_at}
-use Rattle.primary_steps.proofs.Common.Reached.{reached-ordered}
-use Rattle.primary_steps.proofs.Common.Numbers.{any-some, get-map}
-use Rattle.primary_steps.proofs.Receipts.Journal.{IsNumbered, failed-open, entry-is, write-is}
+use Rattle.primary_protocol.specs.Core.{Fate, Open, Failed, Completed, JournalEntry, PrimaryState}
+use Rattle.primary_protocol.specs.Leaves.{Leaves, entry_of, fate_in, is_linked}
+use Rattle.primary_protocol.specs.Steps.{IsReached}
+use Rattle.primary_protocol.specs.Transitions.{entry_at}
+use Rattle.primary_protocol.proofs.Common.Reached.{reached-ordered}
+use Rattle.primary_protocol.proofs.Common.Numbers.{any-some, get-map}
+use Rattle.primary_protocol.proofs.Receipts.Journal.{IsNumbered, failed-open, entry-is, write-is}
 use Rattle.primary_core.specs.Entries.{is_unconfirmed}
 use Rattle.primary.specs.Receipts.{is_entry_of, is_found, kind_of}
 use Rattle.primary.proofs.Telling.{kind-back}
@@ -97,7 +98,7 @@ module _ (s : PrimaryState) (h : PrimaryHistory) (reached : IsReached h) (left :
       → entry_at receipt.number s ≡ None → in_journal h receipt ≡ is_found receipt s
   none-there receipt none nothing =
       false_from_ne_true (in_journal h receipt) (λ listed. let home = home-of receipt listed in none home.index home.accepted home.there home.number)
-      ∙ sym (ap (λ (v : Option Entry). elim v as (λ _. Bool) [ None ↦ false | Some entry ↦ is_entry_of entry receipt ]) nothing)
+      ∙ sym (ap (λ (v : Option JournalEntry). elim v as (λ _. Bool) [ None ↦ false | Some entry ↦ is_entry_of entry receipt ]) nothing)
 
   -- where one has
   module _ (receipt : Receipt) (n : ℕ) (a : Accepted) (number : receipt.number ≡ suc n) (at : slice_get h.writes n ≡ Some a) where
@@ -149,7 +150,8 @@ module _ (s : PrimaryState) (h : PrimaryHistory) (reached : IsReached h) (left :
     is-there : in_journal h receipt ≡ is_found receipt s
     is-there =
         by-fate (is_failed a.outcome) refl (find (λ (entry : Completion). entry.write.number == a.write.number) h.journal) refl
-        ∙ sym (ap (λ (v : Option Entry). elim v as (λ _. Bool) [ None ↦ false | Some entry ↦ is_entry_of entry receipt ]) (ap (λ (m : ℕ). entry_at m s) number
+        ∙ sym (ap (λ (v : Option JournalEntry). elim v as (λ _. Bool) [ None ↦ false | Some entry ↦ is_entry_of entry receipt ])
+        (ap (λ (m : ℕ). entry_at m s) number
         ∙ entry-is h known n a at s left.rest.entries))
 
   pub journal-has : (receipt : Receipt) → in_journal h receipt ≡ is_found receipt s
@@ -165,11 +167,12 @@ module _ (s : PrimaryState) (h : PrimaryHistory) (reached : IsReached h) (left :
               let same : index ≡ n = omega (arith, is, number) in
               let wrong : Some accepted ≡ None = sym at ∙ (ap (slice_get h.writes) same ∙ none) in absurd (cc))
               (ap (λ (m : ℕ). entry_at m s) is
-              ∙ (ap (λ (l : List Entry). slice_get l n) left.rest.entries.entries ∙ (get-map (entry_of h) h.writes n ∙ ap (option_map (entry_of h)) none)))
+              ∙ (ap (λ (l : List JournalEntry). slice_get l n) left.rest.entries.entries
+              ∙ (get-map (entry_of h) h.writes n ∙ ap (option_map (entry_of h)) none)))
 
 -- Two receipts of one entry are the same.
 
-kinds : (k a b : Kind) → same_kind k a ≡ true → same_kind k b ≡ true → same_kind a b ≡ true
+kinds : (k a b : CompletionKind) → same_kind k a ≡ true → same_kind k b ≡ true → same_kind a b ≡ true
 kinds Linked Linked Linked one two = refl
 kinds Alone Alone Alone one two = refl
 kinds Linked Linked Alone one two = absurd (cc)
@@ -193,7 +196,7 @@ homes (Some k) (Some a) None one two = absurd (cc)
 equal-too : (k a b : ℕ) → (k == a) ≡ true → (k == b) ≡ true → (a == b) ≡ true
 equal-too k a b one two = eq-eqb a b (sym (eqb-true k a one) ∙ eqb-true k b two)
 
-same-of : (entry : Entry) (a b : Receipt) → is_entry_of entry a ≡ true → is_entry_of entry b ≡ true → a.number ≡ b.number → same_receipt a b ≡ true
+same-of : (entry : JournalEntry) (a b : Receipt) → is_entry_of entry a ≡ true → is_entry_of entry b ≡ true → a.number ≡ b.number → same_receipt a b ≡ true
 same-of entry a b one two number = go entry.fate one two
   where
     by : Fate → Receipt → Bool
@@ -215,13 +218,13 @@ same-of entry a b one two number = go entry.fate one two
 same-found : (s : PrimaryState) (a b : Receipt) → is_found a s ≡ true → is_found b s ≡ true → a.number ≡ b.number → same_receipt a b ≡ true
 same-found s a b one two number = go (entry_at a.number s) refl
   where
-    by : Option Entry → Receipt → Bool
+    by : Option JournalEntry → Receipt → Bool
     by v r = elim v as (λ _. Bool) [ None ↦ false | Some entry ↦ is_entry_of entry r ]
 
-    go : (v : Option Entry) → entry_at a.number s ≡ v → same_receipt a b ≡ true
-    go None is = let wrong : false ≡ true = sym (ap (λ (w : Option Entry). by w a) is) ∙ one in absurd (cc)
-    go (Some entry) is = same-of entry a b (sym (ap (λ (w : Option Entry). by w a) is)
-        ∙ one) (sym (ap (λ (m : ℕ). by (entry_at m s) b) (sym number) ∙ ap (λ (w : Option Entry). by w b) is) ∙ two) number
+    go : (v : Option JournalEntry) → entry_at a.number s ≡ v → same_receipt a b ≡ true
+    go None is = let wrong : false ≡ true = sym (ap (λ (w : Option JournalEntry). by w a) is) ∙ one in absurd (cc)
+    go (Some entry) is = same-of entry a b (sym (ap (λ (w : Option JournalEntry). by w a) is)
+        ∙ one) (sym (ap (λ (m : ℕ). by (entry_at m s) b) (sym number) ∙ ap (λ (w : Option JournalEntry). by w b) is) ∙ two) number
 
 -- The flags.
 
@@ -287,14 +290,14 @@ confirming-first s receipts flags is size = record {
 entry-there : (s : PrimaryState) (r : Receipt) → is_found r s ≡ true → is_unconfirmed r.number (replicate (length s.entries) false) ≡ true
 entry-there s r found = go r.number refl
   where
-    by : Option Entry → Bool
+    by : Option JournalEntry → Bool
     by v = elim v as (λ _. Bool) [ None ↦ false | Some entry ↦ is_entry_of entry r ]
 
     go : (m : ℕ) → r.number ≡ m → is_unconfirmed m (replicate (length s.entries) false) ≡ true
     go zero is = let wrong : false ≡ true = sym (ap (λ (m : ℕ). by (entry_at m s)) is) ∙ found in absurd (cc)
     go (suc n) is = by-place (slice_get s.entries n) refl
       where
-        by-place : (v : Option Entry) → slice_get s.entries n ≡ v → is_unconfirmed (suc n) (replicate (length s.entries) false) ≡ true
+        by-place : (v : Option JournalEntry) → slice_get s.entries n ≡ v → is_unconfirmed (suc n) (replicate (length s.entries) false) ≡ true
         by-place None none = let wrong : false ≡ true = sym (ap (λ (m : ℕ). by (entry_at m s)) is ∙ ap by none) ∙ found in absurd (cc)
         by-place (Some entry) at = unconfirmed-first n (length s.entries) (slice_get_within s.entries n entry at)
 

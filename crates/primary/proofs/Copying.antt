@@ -13,24 +13,24 @@ use Rattle.blocks.specs.declared.outcome.Done.{Done}
 use Rattle.blocks.specs.declared.outcome.Reply.TheVariants as reply
 use Rattle.bitmap.specs.Marks.{marked}
 use Rattle.resync.specs.Next.{is_free, next_block}
-use Rattle.endpoint.specs.Calls.{is_starved}
+use Rattle.endpoint.specs.Calls.{is_out_of_memory}
 use Rattle.model.specs.LocalRuns.{FailsResync, Resyncs}
 use Rattle.model.specs.Refusals.{first_refusal}
 use Rattle.laws.proofs.Lists.Picks.{pick-found, pick-filtered, pick-below}
 use Rattle.laws.proofs.Lists.Tests.{test-passed}
-use Rattle.laws.proofs.Rules.Memory.{before_last, starved-last}
+use Rattle.laws.proofs.Rules.Memory.{before_last, out-of-memory-last}
 use Rattle.primary_core.specs.Resyncing.{resync_choice}
-use Rattle.primary_core.specs.Starved as core
-use Rattle.primary_steps.specs.Core.{EndState, PrimaryState}
-use Rattle.primary_steps.specs.Transitions.{copying, resync_fault, resync_next, resync_tests}
-use Rattle.primary_steps.specs.Node.{NodeIsHad, NodeSteps, NodeState, primary_step}
-use Rattle.primary_steps.specs.Steps.{replied}
-use Rattle.primary_steps.proofs.Common.Marks.{length-marks}
-use Rattle.primary_steps.proofs.Node.Disk.{disk-size}
-use Rattle.primary_steps.proofs.Node.Disks.{copies-kept, held_in, node-copies, node-copy-fails, stays-kept}
+use Rattle.primary_core.specs.OutOfMemory as core
+use Rattle.primary_protocol.specs.Core.{EndState, PrimaryState}
+use Rattle.primary_protocol.specs.Transitions.{copying, resync_fault, resync_next, resync_tests}
+use Rattle.primary_protocol.specs.Node.{NodeIsHad, NodeSteps, NodeState, primary_step}
+use Rattle.primary_protocol.specs.Steps.{replied}
+use Rattle.primary_protocol.proofs.Common.Marks.{length-marks}
+use Rattle.primary_protocol.proofs.Node.Disk.{disk-size}
+use Rattle.primary_protocol.proofs.Node.Disks.{copies-kept, held_in, node-copies, node-copy-fails, stays-kept}
 use Rattle.primary.specs.State.{PrimaryView, IsNode, node}
 use Rattle.primary.proofs.Kept.{StepsTo, kept-is}
-use Rattle.primary.proofs.Refused.{same-starved}
+use Rattle.primary.proofs.Refused.{same-out-of-memory}
 
 -- The block that was chosen: no test refuses it.
 pub record IsChosen (s : PrimaryState) (block : ℕ) : Type 0 where
@@ -40,9 +40,9 @@ pub record IsChosen (s : PrimaryState) (block : ℕ) : Type 0 where
   pub next : next_block s.marks s.held ≡ Some block
 
 abbrev chosen_by : Option EndState → Bool → PrimaryState → Result ℕ Refusal
-chosen_by v starved s = elim v as (λ _. Result ℕ Refusal) [
+chosen_by v out_of_memory s = elim v as (λ _. Result ℕ Refusal) [
   | None ↦ Err NotConnected
-  | Some e ↦ elim (first_refusal (resync_tests starved e s)) as
+  | Some e ↦ elim (first_refusal (resync_tests out_of_memory e s)) as
       (λ _. Result ℕ Refusal) [ Some refusal ↦ Err refusal | None ↦ ok_or (next_block s.marks s.held) NothingToDo ]
 ]
 
@@ -75,9 +75,9 @@ next_from disk s e refused next = elim refused as (λ _. Result Done Refusal × 
 ]
 
 abbrev next_by : (ℕ → List ℕ) → Bool → PrimaryState → Option EndState → Result Done Refusal × PrimaryState
-next_by disk starved s v = elim v as (λ _. Result Done Refusal × PrimaryState) [
+next_by disk out_of_memory s v = elim v as (λ _. Result Done Refusal × PrimaryState) [
   | None ↦ (Err NotConnected, s)
-  | Some e ↦ next_from disk s e (first_refusal (resync_tests starved e s)) (next_block s.marks s.held)
+  | Some e ↦ next_from disk s e (first_refusal (resync_tests out_of_memory e s)) (next_block s.marks s.held)
 ]
 
 -- what a failed read does at an end, by what the tests say
@@ -85,9 +85,9 @@ abbrev fault_from : PrimaryState → Option Refusal → Result Done Refusal × P
 fault_from s refused = elim refused as (λ _. Result Done Refusal × PrimaryState) [ Some refusal ↦ (Err refusal, s) | None ↦ (Err ReadFault, s) ]
 
 abbrev fault_by : Bool → PrimaryState → Option EndState → Result Done Refusal × PrimaryState
-fault_by starved s v = elim v as (λ _. Result Done Refusal × PrimaryState) [
+fault_by out_of_memory s v = elim v as (λ _. Result Done Refusal × PrimaryState) [
   | None ↦ (Err NotConnected, s)
-  | Some e ↦ fault_from s (first_refusal (resync_tests starved e s))
+  | Some e ↦ fault_from s (first_refusal (resync_tests out_of_memory e s))
 ]
 
 -- The chosen block is copied.
@@ -103,35 +103,37 @@ chosen-fails s block c = ap (fault_by false s) c.there ∙ ap (fault_from s) c.t
 
 -- What refuses the copy of a block refuses its failed read.
 abbrev AreRefused : List (List ℕ) → Bool → PrimaryState → Refusal → Type 0
-AreRefused disk starved s e = (resync_next (held_in disk) starved s ≡ (Err e, s)) × (resync_fault starved s ≡ (Err e, s))
+AreRefused disk out_of_memory s e = (resync_next (held_in disk) out_of_memory s ≡ (Err e, s)) × (resync_fault out_of_memory s ≡ (Err e, s))
 
 -- where memory is wanting it is the last of the tests that refuses
-chosen-starved : (disk : List (List ℕ)) (s : PrimaryState) (block : ℕ) → IsChosen s block → AreRefused disk true s NoMemory
-chosen-starved disk s block c =
-    let last : first_refusal (resync_tests true c.end s) ≡ Some NoMemory = starved-last (before_last (resync_tests false c.end s)) c.tests in (
+chosen-out-of-memory : (disk : List (List ℕ)) (s : PrimaryState) (block : ℕ) → IsChosen s block → AreRefused disk true s NoMemory
+chosen-out-of-memory disk s block c =
+    let last : first_refusal (resync_tests true c.end s) ≡ Some NoMemory = out-of-memory-last (before_last (resync_tests false c.end s)) c.tests in (
       ap (next_by (held_in disk) true s) c.there ∙ ap (λ (v : Option Refusal). next_from (held_in disk) s c.end v (next_block s.marks s.held)) last,
       ap (fault_by true s) c.there ∙ ap (fault_from s) last,
     )
 
 -- what refuses the choice refuses the step
-none-chosen : (disk : List (List ℕ)) (starved : Bool) (s : PrimaryState) (e : Refusal) → resync_choice starved s ≡ Err e → AreRefused disk starved s e
-none-chosen disk starved s e is = go s.end is
+none-chosen : (disk : List (List ℕ)) (out_of_memory : Bool) (s : PrimaryState) (e : Refusal) → resync_choice out_of_memory s ≡ Err e
+    → AreRefused disk out_of_memory s e
+none-chosen disk out_of_memory s e is = go s.end is
   where
     err : (x : Refusal) → ◌≡◌ {A = Result ℕ Refusal} (Err x) (Err e) → ◌≡◌ {A = Result Done Refusal × PrimaryState} (Err x, s) (Err e, s)
     err x so = ap (λ (y : Refusal). (Err y, s)) (let same : x ≡ e = cc in same)
 
-    go : (v : Option EndState) → chosen_by v starved s ≡ Err e → (next_by (held_in disk) starved s v ≡ (Err e, s)) × (fault_by starved s v ≡ (Err e, s))
+    go : (v : Option EndState) → chosen_by v out_of_memory s ≡ Err e
+        → (next_by (held_in disk) out_of_memory s v ≡ (Err e, s)) × (fault_by out_of_memory s v ≡ (Err e, s))
     go None so = (err NotConnected so, err NotConnected so)
-    go (Some end) so = by (first_refusal (resync_tests starved end s)) refl (next_block s.marks s.held) refl so
+    go (Some end) so = by (first_refusal (resync_tests out_of_memory end s)) refl (next_block s.marks s.held) refl so
       where
-        by : (v : Option Refusal) → first_refusal (resync_tests starved end s) ≡ v → (next : Option ℕ) → next_block s.marks s.held ≡ next
+        by : (v : Option Refusal) → first_refusal (resync_tests out_of_memory end s) ≡ v → (next : Option ℕ) → next_block s.marks s.held ≡ next
             → elim v as (λ _. Result ℕ Refusal) [ Some refusal ↦ Err refusal | None ↦ ok_or next NothingToDo ] ≡ Err e
             → (next_from (held_in disk) s end v next ≡ (Err e, s)) × (fault_from s v ≡ (Err e, s))
         by (Some refusal) first next at so = (err refusal so, err refusal so)
         by None first (Some block) at wrong = absurd (cc)
         by None first None at wrong = absurd (
             let busy : Bool = not end.resync || (is_some end.under_way || is_none (next_block s.marks s.held)) in
-            let one = test-passed busy NothingToDo (drop 1 (resync_tests starved end s)) first in
+            let one = test-passed busy NothingToDo (drop 1 (resync_tests out_of_memory end s)) first in
             let two = or_parts (not end.resync) (is_some end.under_way || is_none (next_block s.marks s.held)) one.0 in
             let three = or_parts (is_some end.under_way) (is_none (next_block s.marks s.held)) two.1 in
             both_ways (is_none (next_block s.marks s.held)) three.1 (ap is_none at))
@@ -151,33 +153,34 @@ chosen-inside n block had c =
 
 -- The steps of a refused call, that of a copy and that of a failed read.
 pub record RefusedSteps (v : PrimaryView) (s : PrimaryState) (disk : List (List ℕ)) (result : Result Done Refusal) : Type 0 where
-  pub copies : NodeSteps (Resyncs (is_starved result)) (node v) (replied reply.Ok result) (record (node v) { core = s; disk = disk })
-  pub fails : NodeSteps (FailsResync (is_starved result)) (node v) (replied reply.Ok result) (record (node v) { core = s; disk = disk })
+  pub copies : NodeSteps (Resyncs (is_out_of_memory result)) (node v) (replied reply.Ok result) (record (node v) { core = s; disk = disk })
+  pub fails : NodeSteps (FailsResync (is_out_of_memory result)) (node v) (replied reply.Ok result) (record (node v) { core = s; disk = disk })
 
 module _ (v : PrimaryView) (s : PrimaryState) (disk : List (List ℕ)) (was : IsNode v) (same : s ≡ v.core) (held : disk ≡ v.disk) where
-  refused-as : (result : Result Done Refusal) (e : Refusal) → result ≡ Err e → AreRefused v.disk (is_starved {R = Done} (Err e)) v.core e
+  refused-as : (result : Result Done Refusal) (e : Refusal) → result ≡ Err e → AreRefused v.disk (is_out_of_memory {R = Done} (Err e)) v.core e
       → RefusedSteps v s disk result
   refused-as result e is refused =
       subst (RefusedSteps v s disk) (sym is) (subst₂ (λ (t : PrimaryState) (l : List (List ℕ)). RefusedSteps v t l (Err e)) (sym same) (sym held) (record {
-        copies = node-copies (is_starved {R = Done} (Err e)) (node v) (Err e) v.core (sym refused.0);
-        fails = node-copy-fails (is_starved {R = Done} (Err e)) (node v) e (sym refused.1);
+        copies = node-copies (is_out_of_memory {R = Done} (Err e)) (node v) (Err e) v.core (sym refused.0);
+        fails = node-copy-fails (is_out_of_memory {R = Done} (Err e)) (node v) e (sym refused.1);
       }))
 
   -- no block was chosen
-  pub choice-refused : (result : Result Done Refusal) (e : Refusal) → result ≡ Err e → resync_choice (core.is_starved {R = Block} (Err e)) v.core ≡ Err e
+  pub choice-refused : (result : Result Done Refusal) (e : Refusal) → result ≡ Err e → resync_choice (core.is_out_of_memory {R = Block} (Err e)) v.core ≡ Err e
       → RefusedSteps v s disk result
-  choice-refused result e is refused = refused-as result e is (none-chosen v.disk (is_starved {R = Done} (Err e)) v.core e
-      (subst (λ (b : Bool). resync_choice b v.core ≡ Err e) (same-starved Block Done e) refused))
+  choice-refused result e is refused = refused-as result e is (none-chosen v.disk (is_out_of_memory {R = Done} (Err e)) v.core e
+      (subst (λ (b : Bool). resync_choice b v.core ≡ Err e) (same-out-of-memory Block Done e) refused))
 
   -- there is no memory for its bytes
   pub memory-refused : (block : ℕ) (result : Result Done Refusal) → result ≡ Err NoMemory → resync_choice false v.core ≡ Ok block → RefusedSteps v s disk result
-  memory-refused block result is chosen = refused-as result NoMemory is (chosen-starved v.disk v.core block (is-chosen v.core block chosen))
+  memory-refused block result is chosen = refused-as result NoMemory is (chosen-out-of-memory v.disk v.core block (is-chosen v.core block chosen))
 
   -- the disk fails the read
   pub read-fails : (block : ℕ) → resync_choice false v.core ≡ Ok block
       → NodeSteps (FailsResync false) (node v) (reply.Refused ReadFault) (record (node v) { core = s; disk = disk })
   read-fails block chosen =
-      subst₂ (λ (t : PrimaryState) (l : List (List ℕ)). NodeSteps (FailsResync false) (node v) (reply.Refused ReadFault) (record (node v) { core = t; disk = l }))
+      subst₂ (λ (t : PrimaryState) (l : List (List ℕ)). NodeSteps (FailsResync false) (node v) (reply.Refused ReadFault)
+      (record (node v) { core = t; disk = l }))
       (sym same) (sym held) (node-copy-fails false (node v) ReadFault (sym (chosen-fails v.core block (is-chosen v.core block chosen))))
 
   -- a node it stays, whatever the disk counted

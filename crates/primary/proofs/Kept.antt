@@ -10,29 +10,30 @@ use Rattle.blocks.specs.declared.outcome.Reply.{Reply}
 use Rattle.model.specs.Primary.{PrimaryHistory, primary_opening}
 use Rattle.model.specs.LocalRuns.{PrimaryEvent}
 use Rattle.model.specs.Frames.{Packet, Received}
-use Rattle.endpoint.specs.Outgoing.{OutgoingState}
-use Rattle.endpoint.specs.Incoming.{IncomingState}
-use Rattle.primary_steps.specs.Core.{PrimaryState, fresh, stands}
-use Rattle.primary_steps.specs.Transitions.{due}
-use Rattle.primary_steps.specs.Node.{IsStep, NodeHas, NodeSteps}
-use Rattle.primary_steps.proofs.Node.Calls.{IsPlain, plain-still, opening-has}
-use Rattle.primary_steps.proofs.Node.Disks.{KeepsNode}
-use Rattle.primary_steps.proofs.Node.Due.{IsStill}
-use Rattle.primary_steps.proofs.Node.Runs.{node-had}
+use Rattle.endpoint.specs.PacketSender.{PacketSenderState}
+use Rattle.endpoint.specs.PacketReceiver.{PacketReceiverState}
+use Rattle.primary_protocol.specs.Core.{PrimaryState, fresh, is_established}
+use Rattle.primary_protocol.specs.Transitions.{due}
+use Rattle.primary_protocol.specs.Node.{IsStep, NodeHas, NodeSteps}
+use Rattle.primary_protocol.proofs.Node.Calls.{IsPlain, plain-still, opening-has}
+use Rattle.primary_protocol.proofs.Node.Disks.{KeepsNode}
+use Rattle.primary_protocol.proofs.Node.Due.{IsStill}
+use Rattle.primary_protocol.proofs.Node.Runs.{node-had}
 use Rattle.primary_core.specs.State.{CanBegin}
 use Rattle.primary.specs.State.{PrimaryView, IsNode, IsBegun, IsDue, IsNumbered, node}
 
 -- what went in part is still the packet that is due
 due-kept : (v : Option (List Packet)) (s t : PrimaryState) → IsStill s t → IsDue v s → IsDue v t
 due-kept None s t still was = tt
-due-kept (Some begun) s t still was = λ stands. let old = was (still.opened stands) in (old.0, still.due old.0 old.1 stands, old.2)
+due-kept (Some begun) s t still was = λ is_established. let old = was (still.opened is_established) in (old.0, still.due old.0 old.1 is_established, old.2)
 
 -- the same of a side of a link
-pub begun-kept : (v : Option OutgoingState) (s t : PrimaryState) → IsStill s t → IsBegun v s → IsBegun v t
+pub begun-kept : (v : Option PacketSenderState) (s t : PrimaryState) → IsStill s t → IsBegun v s → IsBegun v t
 begun-kept None s t still was = tt
 begun-kept (Some o) s t still was = due-kept o.partly s t still was
 
-numbered-kept : (o : Option OutgoingState) (i : Option IncomingState) (s t : PrimaryState) → t.connections ≡ s.connections → IsNumbered o i s → IsNumbered o i t
+numbered-kept : (o : Option PacketSenderState) (i : Option PacketReceiverState) (s t : PrimaryState) → t.connections ≡ s.connections → IsNumbered o i s
+    → IsNumbered o i t
 numbered-kept (Some o) (Some i) s t same was = (subst (λ n. o.number ≤ n) (sym same) was.0, subst (λ n. i.number ≤ n) (sym same) was.1)
 numbered-kept None i s t same was = tt
 numbered-kept (Some o) None s t same was = tt

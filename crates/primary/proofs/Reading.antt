@@ -1,5 +1,6 @@
 -- Which ranges of its disk a node reads.
-use Rattle.std.proofs.Common.{ℕ, ◌≡◌, ◌+◌, ◌-◌, ◌*◌, ◌/◌, ◌<◌, ◌≤◌, inl, inr, Bool, true, false, List, [], ◌∷◌, ◌++◌, length, take, drop, Some, Result, Ok, Err, slice_get, refl}
+use Rattle.std.proofs.Common.{ℕ, ◌≡◌, ◌+◌, ◌-◌, ◌*◌, ◌/◌, ◌<◌, ◌≤◌, inl, inr, Bool, true, false, List, [], ◌∷◌, ◌++◌, length, take, drop, Some, Result, Ok, Err}
+use Rattle.std.proofs.Common.{slice_get, refl}
 use Rattle.std.proofs.Common.{sym, ◌∙◌, ap, subst, arith, length-append, length-drop, append_assoc, drop-drop}
 use Rattle.std.specs.Prelude.{OnErr, OnOk}
 use Rattle.std.specs.Result.{is_err}
@@ -13,7 +14,7 @@ use Rattle.blocks.specs.declared.settings.Settings.{Settings}
 use Rattle.model.specs.Contents.{is_range}
 use Rattle.laws.proofs.Blocks.Written.{written-before, written-inside}
 use Rattle.primary_core.proofs.Submission.{range-tests, tests-range}
-use Rattle.primary_steps.proofs.Node.Disk.{disk-size}
+use Rattle.primary_protocol.proofs.Node.Disk.{disk-size}
 use Rattle.primary.specs.State.{PrimaryView, IsNode, node}
 
 -- a disk has the blocks of the device

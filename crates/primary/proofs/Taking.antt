@@ -12,19 +12,19 @@ use Rattle.packets.specs.Table.{has_blocks}
 use Rattle.model.specs.LocalRuns.{Takes}
 use Rattle.model.specs.Frames.{Packet, Received}
 use Rattle.endpoint.specs.Calls as link
-use Rattle.endpoint.specs.Calls.{is_starved, TookOne}
+use Rattle.endpoint.specs.Calls.{is_out_of_memory, TookOne}
 use Rattle.endpoint.specs.Meaning.{meaning, received}
-use Rattle.endpoint.specs.Outgoing.{OutgoingState}
-use Rattle.endpoint.specs.Incoming.{IncomingState, with_received, SameRow}
-use Rattle.primary_steps.specs.Core.{PrimaryState, stands}
-use Rattle.primary_steps.specs.Taking.{take_at, ack_in}
-use Rattle.primary_steps.specs.Node.{NodeState, NodeSteps}
-use Rattle.primary_steps.specs.Steps.{replied}
-use Rattle.primary_steps.proofs.Node.Due.{IsStill}
-use Rattle.primary_steps.proofs.Node.Runs.{node-had}
+use Rattle.endpoint.specs.PacketSender.{PacketSenderState}
+use Rattle.endpoint.specs.PacketReceiver.{PacketReceiverState, with_received, SameRow}
+use Rattle.primary_protocol.specs.Core.{PrimaryState, is_established}
+use Rattle.primary_protocol.specs.Taking.{take_at, ack_in}
+use Rattle.primary_protocol.specs.Node.{NodeState, NodeSteps}
+use Rattle.primary_protocol.specs.Steps.{replied}
+use Rattle.primary_protocol.proofs.Node.Due.{IsStill}
+use Rattle.primary_protocol.proofs.Node.Runs.{node-had}
 use Rattle.std.proofs.lemmas.Bool.{both_ways}
-use Rattle.primary_steps.proofs.Node.Faults.{takes-told}
-use Rattle.primary_steps.proofs.Node.Takes.{IsShort, node-takes, takes-still, stands-open, node-not-taken, open-short}
+use Rattle.primary_protocol.proofs.Node.Faults.{takes-told}
+use Rattle.primary_protocol.proofs.Node.Takes.{IsShort, node-takes, takes-still, established-open, node-not-taken, open-short}
 use Rattle.primary.specs.Calls.{TakesOne}
 use Rattle.primary.specs.State.{PrimaryView, IsNode, IsNumbered, node, taken_of}
 use Rattle.primary.proofs.Kept.{begun-kept}
@@ -32,35 +32,36 @@ use Rattle.primary.proofs.Kept.{begun-kept}
 -- No frame was taken.
 
 -- only room may have been made
-abbrev pub IsReadied : Option IncomingState → Option IncomingState → Type 0
-IsReadied old new = (ready : Bool) × (new ≡ option_map (λ (i : IncomingState). record i { is_ready = ready }) old)
+abbrev pub IsReadied : Option PacketReceiverState → Option PacketReceiverState → Type 0
+IsReadied old new = (ready : Bool) × (new ≡ option_map (λ (i : PacketReceiverState). record i { is_ready = ready }) old)
 
 -- nothing was done
-pub readied-same : (i : Option IncomingState) → IsReadied i i
+pub readied-same : (i : Option PacketReceiverState) → IsReadied i i
 readied-same None = (false, refl)
 readied-same (Some i) = (i.is_ready, refl)
 
 -- a side that is as it was
-pub readied-some : (old : Option IncomingState) (i j : IncomingState) → old ≡ Some i → j ≡ i → IsReadied old (Some j)
-readied-some old i j there same = subst (λ (o : Option IncomingState). IsReadied o (Some j)) (sym there) (i.is_ready, ap Some same)
+pub readied-some : (old : Option PacketReceiverState) (i j : PacketReceiverState) → old ≡ Some i → j ≡ i → IsReadied old (Some j)
+readied-some old i j there same = subst (λ (o : Option PacketReceiverState). IsReadied o (Some j)) (sym there) (i.is_ready, ap Some same)
 
-taken-same : (old new : Option IncomingState) → IsReadied old new → taken_of new ≡ taken_of old
+taken-same : (old new : Option PacketReceiverState) → IsReadied old new → taken_of new ≡ taken_of old
 taken-same None new is = ap taken_of is.1
 taken-same (Some i) new is = ap taken_of is.1
 
 -- the call says so
-pub takes-none : (v now : PrimaryView) → IsNode v → (new : Option IncomingState) (e : Refusal) (result : Result Done Refusal) → v ≡ now → result ≡ Err e
+pub takes-none : (v now : PrimaryView) → IsNode v → (new : Option PacketReceiverState) (e : Refusal) (result : Result Done Refusal) → v ≡ now → result ≡ Err e
     → IsReadied v.incoming new
-    → (e ≡ NothingThere → (before : IncomingState) × (v.incoming ≡ Some before) × IfSome before.queued (λ frames. frames ≡ []))
-    → (ack_in None (is_starved {R = Done} (Err e)) v.core).0 ≡ Err e
+    → (e ≡ NothingThere → (before : PacketReceiverState) × (v.incoming ≡ Some before) × IfSome before.queued (λ frames. frames ≡ []))
+    → (ack_in None (is_out_of_memory {R = Done} (Err e)) v.core).0 ≡ Err e
     → TakesOne result now (record v { incoming = new })
 takes-none v now before new e result is told ready empty refused =
     subst (λ (w : PrimaryView). TakesOne result w (record v { incoming = new })) is
     (subst (λ (r : Result Done Refusal). TakesOne r v (record v { incoming = new })) (sym told) (record {
       frame = None;
       link = record { took = λ frame none. absurd (cc); kept = λ none. ready; empty = λ nothing. empty (let same : e ≡ NothingThere = cc in same) };
-      step = subst (λ (l : List Received). NodeSteps (Takes None (is_starved {R = Done} (Err e))) (node v) (reply.Refused e) (record (node v) { taken = l }))
-          (sym (taken-same v.incoming new ready)) (node-not-taken (node v) (is_starved {R = Done} (Err e)) e refused);
+      step = subst (λ (l : List Received). NodeSteps (Takes None (is_out_of_memory {R = Done} (Err e))) (node v) (reply.Refused e)
+          (record (node v) { taken = l }))
+          (sym (taken-same v.incoming new ready)) (node-not-taken (node v) (is_out_of_memory {R = Done} (Err e)) e refused);
     }))
 
 -- A frame was taken.
@@ -84,7 +85,7 @@ some-queued : (v : Option (List (List ℕ))) → IfSome v (λ frames. (false ≡
 some-queued None exact = tt
 some-queued (Some frames) exact = λ is. absurd (both_ways false refl (exact.1 is))
 
-module _ (v : PrimaryView) (before : IsNode v) (i x j : IncomingState) (read : Result packets.Packet Refusal) (result : Result Done Refusal)
+module _ (v : PrimaryView) (before : IsNode v) (i x j : PacketReceiverState) (read : Result packets.Packet Refusal) (result : Result Done Refusal)
     (core : PrimaryState) (there : v.incoming ≡ Some i)
     (some : is_some v.core.end ≡ true) (readied : (ready : Bool) × (x ≡ record i { is_ready = ready })) (is : (result, core) ≡ take_at (received read) v.core)
     (taken : j ≡ with_received (received read) j.frames j.is_ready x) where
@@ -92,7 +93,7 @@ module _ (v : PrimaryView) (before : IsNode v) (i x j : IncomingState) (read : R
   after = taken ∙ ap (with_received (received read) j.frames j.is_ready) readied.1
 
   taken-more : taken_of v.incoming ++ received read ∷ [] ≡ j.taken
-  taken-more = ap (λ y. taken_of y ++ received read ∷ []) there ∙ sym (ap (λ (y : IncomingState). y.taken) after)
+  taken-more = ap (λ y. taken_of y ++ received read ∷ []) there ∙ sym (ap (λ (y : PacketReceiverState). y.taken) after)
 
   takes-step : NodeSteps (Takes (Some (received read)) false) (node v) (replied reply.Ok result) (node (record v { core = core; incoming = Some j }))
   takes-step = subst (λ (l : List Received). NodeSteps (Takes (Some (received read)) false) (node v) (replied reply.Ok result)
@@ -110,8 +111,8 @@ module _ (v : PrimaryView) (before : IsNode v) (i x j : IncomingState) (read : R
         ready = j.is_ready;
         there = there;
         after = ap Some after;
-        row = subst (λ (y : IncomingState). SameRow i y) after (subst (λ (y : IncomingState). SameRow y j) readied.1 row);
-        queued = subst (λ (y : IncomingState). IfSome y.queued (λ frames. frames ≡ [] → ⊥)) readied.1 (some-queued x.queued queued);
+        row = subst (λ (y : PacketReceiverState). SameRow i y) after (subst (λ (y : PacketReceiverState). SameRow y j) readied.1 row);
+        queued = subst (λ (y : PacketReceiverState). IfSome y.queued (λ frames. frames ≡ [] → ⊥)) readied.1 (some-queued x.queued queued);
       });
       kept = λ none. absurd (cc);
       empty = λ nothing. absurd (takes-told (node v) (received read) result core some is before.had other nothing);
@@ -127,20 +128,20 @@ module _ (v : PrimaryView) (before : IsNode v) (i x j : IncomingState) (read : R
     out_there = λ standing. before.out_there some;
     in_there = λ standing. refl;
     begun = begun-kept v.outgoing v.core core still before.begun;
-    numbered = numbered v.outgoing (subst (λ (y : Option IncomingState). IsNumbered v.outgoing y v.core) there before.numbered);
+    numbered = numbered v.outgoing (subst (λ (y : Option PacketReceiverState). IsNumbered v.outgoing y v.core) there before.numbered);
     ready = λ standing.
-        let short = open-short (received read) v.core core result some is (stands-open (node v) (received read) result core some is before.had standing) in
+        let short = open-short (received read) v.core core result some is (established-open (node v) (received read) result core some is before.had standing) in
         ready read room short.0 short.1 short.2;
   }
     where
       still : IsStill v.core core
       still = takes-still (node v) (received read) result core some is before.had
 
-      numbered : (o : Option OutgoingState) → IsNumbered o (Some i) v.core → IsNumbered o (Some j) core
+      numbered : (o : Option PacketSenderState) → IsNumbered o (Some i) v.core → IsNumbered o (Some j) core
       numbered None was = tt
       numbered (Some o) was = (
         subst (λ n. o.number ≤ n) (sym still.connections) was.0,
-        subst (λ n. n ≤ core.connections) (sym (ap (λ (y : IncomingState). y.number) after)) (subst (λ n. i.number ≤ n) (sym still.connections) was.1),
+        subst (λ n. n ≤ core.connections) (sym (ap (λ (y : PacketReceiverState). y.number) after)) (subst (λ n. i.number ≤ n) (sym still.connections) was.1),
       )
 
       ready : (r : Result packets.Packet Refusal) → IfOk r (λ p. has_blocks p ≡ false → j.is_ready ≡ true) → (packet : Packet) → received r ≡ Ok packet

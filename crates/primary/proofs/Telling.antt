@@ -8,31 +8,32 @@ use Rattle.blocks.specs.declared.refusal.Refusal.TheVariants.{NotCompleted}
 use Rattle.blocks.specs.declared.outcome.What.TheVariants as what
 use Rattle.blocks.specs.declared.outcome.Reply.TheVariants as reply
 use Rattle.model.specs.Refusals.{done_with}
-use Rattle.model.specs.Primary.{Kind, Linked, Alone}
+use Rattle.model.specs.Primary.{CompletionKind, Linked, Alone}
 use Rattle.model.specs.Settlement.{Receipt}
 use Rattle.model.specs.LocalRuns.{Receipts}
-use Rattle.primary_steps.specs.Core.{Fate, Completed, Entry, PrimaryState}
-use Rattle.primary_steps.specs.Leaves.{is_linked}
-use Rattle.primary_steps.specs.Node.{IsStep, take_receipt}
-use Rattle.primary_steps.specs.Transitions.{take_completed}
-use Rattle.primary_steps.proofs.Node.Keeps.{receipts-keeps}
-use Rattle.primary_steps.proofs.Node.Receipts.{node-receipt, node-receipted, receipt_with}
+use Rattle.primary_protocol.specs.Core.{Fate, Completed, JournalEntry, PrimaryState}
+use Rattle.primary_protocol.specs.Leaves.{is_linked}
+use Rattle.primary_protocol.specs.Node.{IsStep, take_receipt}
+use Rattle.primary_protocol.specs.Transitions.{take_completed}
+use Rattle.primary_protocol.proofs.Node.Keeps.{receipts-keeps}
+use Rattle.primary_protocol.proofs.Node.Receipts.{node-receipt, node-receipted, receipt_with}
 use Rattle.primary.specs.Receipts.{kind_of, receipt_in}
 use Rattle.primary.specs.State.{PrimaryView, IsNode, node}
 use Rattle.primary.proofs.Kept.{plain-is}
 
-pub kind-back : (k : Kind) → kind_of (is_linked k) ≡ k
+pub kind-back : (k : CompletionKind) → kind_of (is_linked k) ≡ k
 kind-back Linked = refl
 kind-back Alone = refl
 
 -- the receipt of a completed write
-receipt-as : (number : ℕ) (entry : Entry) (kind : Kind) (home : Option StreamPosition) → entry.fate ≡ Completed (is_linked kind) home
+receipt-as : (number : ℕ) (entry : JournalEntry) (kind : CompletionKind) (home : Option StreamPosition) → entry.fate ≡ Completed (is_linked kind) home
     → receipt_in number entry ≡ Some (receipt_with number entry kind home)
 receipt-as number entry kind home is =
     ap (λ (fate : Fate). receipt_in number (record entry { fate = fate })) is
     ∙ ap (λ k. Some (record (receipt_with number entry kind home) { kind = k })) (kind-back kind)
 
-module _ (v : PrimaryView) (before : IsNode v) (number : ℕ) (got : Result Entry Refusal) (core : PrimaryState) (is : (got, core) ≡ take_completed number v.core)
+module _ (v : PrimaryView) (before : IsNode v) (number : ℕ) (got : Result JournalEntry Refusal) (core : PrimaryState)
+    (is : (got, core) ≡ take_completed number v.core)
   where
     -- a node it stays
     pub receipt-is : IsNode (record v { core = core })
@@ -47,12 +48,12 @@ module _ (v : PrimaryView) (before : IsNode v) (number : ℕ) (got : Result Entr
         ∙ at in absurd (cc))
 
     -- it is told as the entry has it
-    pub receipt-given : (entry : Entry) (told : Result Receipt Refusal) → got ≡ Ok entry → told ≡ ok_or (receipt_in number entry) NotCompleted
+    pub receipt-given : (entry : JournalEntry) (told : Result Receipt Refusal) → got ≡ Ok entry → told ≡ ok_or (receipt_in number entry) NotCompleted
         → IsStep (take_receipt number) (node v) told (node (record v { core = core }))
     receipt-given entry told was said =
         node-receipt (node v) number got core is told (λ x at. let no : Ok entry ≡ Err x = sym was ∙ at in absurd (cc))
         (λ other kind home at fate.
         let both : Ok entry ≡ Ok other = sym was ∙ at in
         let same : entry ≡ other = cc in
-        said ∙ (ap (λ (e : Entry). ok_or (receipt_in number e) NotCompleted) same
+        said ∙ (ap (λ (e : JournalEntry). ok_or (receipt_in number e) NotCompleted) same
         ∙ ap (λ (r : Option Receipt). ok_or r NotCompleted) (receipt-as number other kind home fate)))

@@ -14,12 +14,13 @@ use Rattle.transferlog.specs.declared.local.Local.TheVariants.{Waiting}
 use Rattle.model.specs.LocalRuns.{FailsLocally, WritesLocally}
 use Rattle.model.specs.Pair.{local_fault_kept}
 use Rattle.model.specs.Primary.{PrimaryHistory}
-use Rattle.primary_steps.specs.Core.{PrimaryState}
-use Rattle.primary_steps.specs.Transitions.{local_done, local_fault}
-use Rattle.primary_steps.specs.Node.{IsStep, NodeState, primary_step}
-use Rattle.primary_steps.specs.Steps.{replied}
-use Rattle.primary_steps.proofs.Node.Disk.{new_offsets}
-use Rattle.primary_steps.proofs.Node.Writing.{failed-after-kept, failed-kept, fault-kept, node-failed, node-failed-after, node-wrote, write-inside, wrote-kept}
+use Rattle.primary_protocol.specs.Core.{PrimaryState}
+use Rattle.primary_protocol.specs.Transitions.{local_done, local_fault}
+use Rattle.primary_protocol.specs.Node.{IsStep, NodeState, primary_step}
+use Rattle.primary_protocol.specs.Steps.{replied}
+use Rattle.primary_protocol.proofs.Node.Disk.{new_offsets}
+use Rattle.primary_protocol.proofs.Node.Writing.{failed-after-kept, failed-kept, fault-kept, node-failed, node-failed-after, node-wrote, write-inside}
+use Rattle.primary_protocol.proofs.Node.Writing.{wrote-kept}
 use Rattle.primary.specs.State.{PrimaryView, IsNode, node}
 use Rattle.primary.proofs.Kept.{StepsTo, kept-is}
 
@@ -47,7 +48,8 @@ module _ (v : PrimaryView) (number : ℕ) (w : LogWrite) (first : ℕ) (bytes co
   pub wrote : (result, core) ≡ local_done number v.core → disk ≡ overwritten v.disk first (blocks_of 4096 bytes)
       → StepsTo (primary_step (WritesLocally number)) v (replied reply.Ok result) core disk
   wrote is held =
-      subst (StepsTo (primary_step (WritesLocally number)) v (replied reply.Ok result) core) (sym (held ∙ (λ i. overwritten v.disk (at i) (blocks i)))) (record {
+      subst (StepsTo (primary_step (WritesLocally number)) v (replied reply.Ok result) core) (sym (held ∙ (λ i. overwritten v.disk (at i) (blocks i))))
+      (record {
         steps = node-wrote number (node v) w job.0 (waiting w job.1) result core is;
         is = kept-is v core (overwritten v.disk w.first w.blocks) was (wrote-kept number (node v) w job.0 (waiting w job.1) result core was.had is);
       })

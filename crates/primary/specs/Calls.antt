@@ -6,16 +6,16 @@ use Rattle.blocks.specs.declared.outcome.Reply.TheVariants as reply
 use Rattle.model.specs.Frames.{Received}
 use Rattle.model.specs.LocalRuns.{Takes, WritesLocally, FailsLocally, Resyncs, FailsResync}
 use Rattle.endpoint.specs.Calls as link
-use Rattle.endpoint.specs.Calls.{is_starved}
-use Rattle.primary_steps.specs.Node.{NodeSteps}
-use Rattle.primary_steps.specs.Steps.{replied}
+use Rattle.endpoint.specs.Calls.{is_out_of_memory}
+use Rattle.primary_protocol.specs.Node.{NodeSteps}
+use Rattle.primary_protocol.specs.Steps.{replied}
 use Rattle.primary.specs.State.{PrimaryView, node}
 
 -- A frame was taken, or none, and that was the node's step. Memory is wanting only before a frame is taken.
 pub record TakesOne (result : Result Done Refusal) (old new : PrimaryView) : Type 0 where
   pub frame : Option Received
   pub link : link.Takes frame result old.incoming new.incoming
-  pub step : NodeSteps (Takes frame (is_none frame && is_starved result)) (node old) (replied reply.Ok result) (node new)
+  pub step : NodeSteps (Takes frame (is_none frame && is_out_of_memory result)) (node old) (replied reply.Ok result) (node new)
 
 -- The disk did the write of this number, or failed in this call, and left any of its blocks new.
 abbrev pub WritesOne : ℕ → Result Done Refusal → PrimaryView → PrimaryView → Type 0
@@ -26,5 +26,5 @@ WritesOne number result old new =
 -- The disk gave the block that a resync copies next, or failed in this call.
 abbrev pub CopiesOne : Result Done Refusal → PrimaryView → PrimaryView → Type 0
 CopiesOne result old new =
-    ((new.faults ≡ old.faults) × NodeSteps (Resyncs (is_starved result)) (node old) (replied reply.Ok result) (node new))
-    ⊎ ((old.faults < new.faults) × NodeSteps (FailsResync (is_starved result)) (node old) (replied reply.Ok result) (node new))
+    ((new.faults ≡ old.faults) × NodeSteps (Resyncs (is_out_of_memory result)) (node old) (replied reply.Ok result) (node new))
+    ⊎ ((old.faults < new.faults) × NodeSteps (FailsResync (is_out_of_memory result)) (node old) (replied reply.Ok result) (node new))

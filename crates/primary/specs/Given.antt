@@ -1,11 +1,11 @@
 -- A receipt keeps its fields.
 use Rattle.std.proofs.Common.{◌≡◌, refl, ap}
 use Rattle.primary.specs.Receipts.{kind_as, kind_from, receipt_as, receipt_from}
-use Rattle.primary.specs.declared.receipts.Kind as receipts
-use Rattle.primary.specs.declared.receipts.Kind.TheVariants as kind
+use Rattle.primary.specs.declared.receipts.CompletionKind as receipts
+use Rattle.primary.specs.declared.receipts.CompletionKind.TheVariants as kind
 use Rattle.primary.specs.declared.receipts.Receipt.TheInside.{Inside}
 
-kind_back : (k : receipts.Kind) → kind_from (kind_as k) ≡ k
+kind_back : (k : receipts.CompletionKind) → kind_from (kind_as k) ≡ k
 kind_back kind.Linked = refl
 kind_back kind.Alone = refl
 

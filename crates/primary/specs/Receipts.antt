@@ -2,16 +2,16 @@
 use Rattle.std.specs.Prelude.{ℕ, suc, Bool, true, false, ◌==◌, ◌&&◌, Option, Some, None}
 use Rattle.std.specs.Option.{option_map}
 use Rattle.blocks.specs.Positions.{StreamPosition}
-use Rattle.model.specs.Primary.{Kind, Linked, Alone}
-use Rattle.primary_steps.specs.Core.{Entry, Open, Failed, Completed, PrimaryState}
-use Rattle.primary_steps.specs.Transitions.{entry_at}
+use Rattle.model.specs.Primary.{CompletionKind, Linked, Alone}
+use Rattle.primary_protocol.specs.Core.{JournalEntry, Open, Failed, Completed, PrimaryState}
+use Rattle.primary_protocol.specs.Transitions.{entry_at}
 use Rattle.model.specs.Settlement as model
-use Rattle.primary.specs.declared.receipts.Kind as receipts
-use Rattle.primary.specs.declared.receipts.Kind.TheVariants as kind
+use Rattle.primary.specs.declared.receipts.CompletionKind as receipts
+use Rattle.primary.specs.declared.receipts.CompletionKind.TheVariants as kind
 use Rattle.primary.specs.declared.receipts.Receipt.TheInside.{Inside}
 
 -- how a write was completed
-abbrev pub kind_as : receipts.Kind → Kind
+abbrev pub kind_as : receipts.CompletionKind → CompletionKind
 kind_as kind.Linked = Linked
 kind_as kind.Alone = Alone
 
@@ -20,7 +20,7 @@ abbrev pub receipt_as : Inside → model.Receipt
 receipt_as r = record { number = r.number; first = r.first; count = r.count; kind = kind_as r.kind; home = r.home }
 
 -- and back
-abbrev pub kind_from : Kind → receipts.Kind
+abbrev pub kind_from : CompletionKind → receipts.CompletionKind
 kind_from Linked = kind.Linked
 kind_from Alone = kind.Alone
 
@@ -29,12 +29,12 @@ abbrev pub receipt_from : model.Receipt → Inside
 receipt_from r = record { number = r.number; first = r.first; count = r.count; kind = kind_from r.kind; home = r.home }
 
 -- over the link, or without the peer
-abbrev pub kind_of : Bool → Kind
+abbrev pub kind_of : Bool → CompletionKind
 kind_of true = Linked
 kind_of false = Alone
 
 -- the receipt of an accepted write, where it was completed
-abbrev pub receipt_in : ℕ → Entry → Option model.Receipt
+abbrev pub receipt_in : ℕ → JournalEntry → Option model.Receipt
 receipt_in number entry = elim entry.fate [
   | Open ↦ None
   | Failed ↦ None
@@ -48,7 +48,7 @@ receipt_in number entry = elim entry.fate [
 ]
 
 -- the receipt is that of this entry, but for the number
-abbrev pub is_entry_of : Entry → model.Receipt → Bool
+abbrev pub is_entry_of : JournalEntry → model.Receipt → Bool
 is_entry_of entry receipt = elim entry.fate [
   | Open ↦ false
   | Failed ↦ false

@@ -2,24 +2,24 @@
 use Rattle.std.specs.Prelude.{ℕ, ◌≡◌, ◌≤◌, Bool, true, List, [], ◌∷◌, Option, Some, None, IfSome, is_some, Ok}
 use Rattle.model.specs.Frames.{Packet, Received}
 pub use Rattle.endpoint.specs.Calls.{pushed_of, taken_of}
-use Rattle.endpoint.specs.Outgoing.{OutgoingState, pushing_anew}
-use Rattle.endpoint.specs.Incoming.{IncomingState, taking_anew}
-use Rattle.primary_steps.specs.Core.{PrimaryState, stands}
-use Rattle.primary_steps.specs.Transitions.{due}
-use Rattle.primary_steps.specs.Node.{NodeState, NodeIsHad}
+use Rattle.endpoint.specs.PacketSender.{PacketSenderState, pushing_anew}
+use Rattle.endpoint.specs.PacketReceiver.{PacketReceiverState, taking_anew}
+use Rattle.primary_protocol.specs.Core.{PrimaryState, is_established}
+use Rattle.primary_protocol.specs.Transitions.{due}
+use Rattle.primary_protocol.specs.Node.{NodeState, NodeIsHad}
 
 -- A node: its core, the blocks of its disk, both sides of its link where it was opened, how many of its disk's calls have
 -- failed, and whether these are known not to fail.
 pub record PrimaryView : Type 0 where
   pub core : PrimaryState
   pub disk : List (List ℕ)
-  pub outgoing : Option OutgoingState
-  pub incoming : Option IncomingState
+  pub outgoing : Option PacketSenderState
+  pub incoming : Option PacketReceiverState
   pub faults : ℕ
   pub steady : Bool
 
 -- what is seen of a node with this core, disk and link
-abbrev pub seen : PrimaryState → List (List ℕ) → Option OutgoingState → Option IncomingState → ℕ → Bool → PrimaryView
+abbrev pub seen : PrimaryState → List (List ℕ) → Option PacketSenderState → Option PacketReceiverState → ℕ → Bool → PrimaryView
 seen core disk outgoing incoming faults steady = record { core = core; disk = disk; outgoing = outgoing; incoming = incoming; faults = faults; steady = steady }
 
 -- the node as its history sees it
@@ -28,12 +28,12 @@ node v = record { core = v.core; disk = v.disk; pushed = pushed_of v.outgoing; t
 
 -- Both sides began the connection of this number, and the core opened; all else is as it was.
 pub record IsRestarted (number : ℕ) (old new : PrimaryView) : Type 0 where
-  pub before : OutgoingState
+  pub before : PacketSenderState
   pub room : Option ℕ
   pub waiting : Option ℕ
   pub out_there : old.outgoing ≡ Some before
   pub out : new.outgoing ≡ Some (record (pushing_anew number before) { room = room; waiting = waiting })
-  pub had : IncomingState
+  pub had : PacketReceiverState
   pub queued : Option (List (List ℕ))
   pub capacity : Option ℕ
   pub in_there : old.incoming ≡ Some had
@@ -45,12 +45,12 @@ abbrev pub IsDue : Option (List Packet) → PrimaryState → Type 0
 IsDue None s = Unit {0}
 IsDue (Some begun) s = is_some s.end ≡ true → (packet : Packet) × (due s ≡ Ok packet) × (begun ≡ packet ∷ [])
 
-abbrev pub IsBegun : Option OutgoingState → PrimaryState → Type 0
+abbrev pub IsBegun : Option PacketSenderState → PrimaryState → Type 0
 IsBegun None s = Unit {0}
 IsBegun (Some o) s = IsDue o.partly s
 
 -- the sides' connections are not numbered above the node's
-abbrev pub IsNumbered : Option OutgoingState → Option IncomingState → PrimaryState → Type 0
+abbrev pub IsNumbered : Option PacketSenderState → Option PacketReceiverState → PrimaryState → Type 0
 IsNumbered (Some o) (Some i) s = (o.number ≤ s.connections) × (i.number ≤ s.connections)
 IsNumbered _ _ s = Unit {0}
 
@@ -62,4 +62,4 @@ pub record IsNode (v : PrimaryView) : Type 0 where
   pub in_there : is_some v.core.end ≡ true → is_some v.incoming ≡ true
   pub begun : IsBegun v.outgoing v.core
   pub numbered : IsNumbered v.outgoing v.incoming v.core
-  pub ready : stands v.core ≡ true → IfSome v.incoming (λ i. i.is_ready ≡ true)
+  pub ready : is_established v.core ≡ true → IfSome v.incoming (λ i. i.is_ready ≡ true)

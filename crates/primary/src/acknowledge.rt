@@ -23,7 +23,7 @@ impl<O: FrameOut + Drop, I: FrameIn + Drop, S: Store + Drop> Primary<O, I, S> {
         let Some(incoming) = &mut self.incoming else {
             return Err(Refusal::NotConnected);
         };
-        if !self.core.stands() {
+        if !self.core.is_established() {
             incoming.ready()?;
         }
         let frame = incoming.take()?;

@@ -2,8 +2,8 @@
 ghost use Rattle.std.specs.Prelude.{◌≡◌};
 ghost use Rattle.blocks.specs.declared.outcome.Reply.TheVariants as reply;
 ghost use Rattle.model.specs.LocalRuns.{Closes};
-ghost use Rattle.primary_steps.specs.Node.{NodeSteps};
-ghost use Rattle.primary_steps.specs.Steps.{replied};
+ghost use Rattle.primary_protocol.specs.Node.{NodeSteps};
+ghost use Rattle.primary_protocol.specs.Steps.{replied};
 ghost use Rattle.primary.specs.State.{node};
 
 use crate::Primary;

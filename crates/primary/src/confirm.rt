@@ -2,14 +2,14 @@
 ghost use Rattle.std.specs.Prelude.{◌≡◌, [], not};
 ghost use Rattle.model.specs.Primary.{PrimaryHistory};
 ghost use Rattle.model.specs.Settlement.{has_strange, same_home};
-ghost use Rattle.primary_steps.specs.Node.{NodeHas};
+ghost use Rattle.primary_protocol.specs.Node.{NodeHas};
 ghost use Rattle.primary.specs.Receipts.{is_entry_of, is_found};
 ghost use Rattle.primary.specs.State.{node};
 
-use crate::{Kind, Primary, Receipt};
+use crate::{CompletionKind, Primary, Receipt};
 use blocks::{Store, StreamPosition};
 use link::{FrameIn, FrameOut};
-use primary_core::{Entry, Fate, PrimaryCore};
+use primary_core::{Fate, JournalEntry, PrimaryCore};
 
 impl<O: FrameOut + Drop, I: FrameIn + Drop, S: Store + Drop> Primary<O, I, S> {
     /// Whether each of these receipts is that of an entry of the journal, and none is given twice. It takes no
@@ -39,13 +39,17 @@ fn is_found(core: &PrimaryCore, receipt: &Receipt) -> bool
 }
 
 // Whether the receipt is that of this entry, but for the number.
-fn is_entry_of(entry: &Entry, receipt: &Receipt) -> bool
+fn is_entry_of(entry: &JournalEntry, receipt: &Receipt) -> bool
     ensures { result ≡ is_entry_of entry.now receipt.now }
 {
     let Fate::Completed { linked, home } = entry.fate() else {
         return false;
     };
-    let kind = if linked { Kind::Linked } else { Kind::Alone };
+    let kind = if linked {
+        CompletionKind::Linked
+    } else {
+        CompletionKind::Alone
+    };
     entry.first() == receipt.first().0
         && entry.count() == receipt.count()
         && kind == receipt.kind()

@@ -18,9 +18,9 @@ mod submit;
 mod usage;
 
 pub use blocks::{Block, Done, Refusal, Settings, Store, Tuple};
-pub use endpoint::{Incoming, Outgoing};
+pub use endpoint::{PacketReceiver, PacketSender};
 pub use link::{FrameIn, FrameOut};
 pub use parts::Unlinked;
-pub use primary_core::{Entry, Fate};
-pub use receipts::{Kind, Receipt};
+pub use primary_core::{Fate, JournalEntry};
+pub use receipts::{CompletionKind, Receipt};
 pub use state::Primary;

@@ -3,8 +3,8 @@ ghost use Rattle.std.specs.Prelude.{◌≡◌, true};
 ghost use Rattle.blocks.specs.declared.outcome.Reply.TheVariants as reply;
 ghost use Rattle.model.specs.Pair.{local_fault_kept};
 ghost use Rattle.model.specs.Primary.{PrimaryHistory, next_local};
-ghost use Rattle.primary_steps.specs.Node.{IsStep, NodeHas};
-ghost use Rattle.primary_steps.specs.Steps.{replied};
+ghost use Rattle.primary_protocol.specs.Node.{IsStep, NodeHas};
+ghost use Rattle.primary_protocol.specs.Steps.{replied};
 ghost use Rattle.primary.specs.Calls.{WritesOne};
 ghost use Rattle.primary.specs.State.{node};
 

@@ -1,19 +1,19 @@
 //! Opening a connection.
 ghost use Rattle.std.specs.Prelude.{◌≡◌, ◌<◌, Some, is_some, true, false, OnOk, OnErr, IfOk, IfErr};
-ghost use Rattle.endpoint.specs.Calls.{IsNewIn, IsNewOut, is_starved, refusal_in};
-ghost use Rattle.endpoint.specs.Incoming.{incoming};
-ghost use Rattle.endpoint.specs.Outgoing.{outgoing};
+ghost use Rattle.endpoint.specs.Calls.{IsNewIn, IsNewOut, is_out_of_memory, refusal_in};
+ghost use Rattle.endpoint.specs.PacketReceiver.{incoming};
+ghost use Rattle.endpoint.specs.PacketSender.{outgoing};
 ghost use Rattle.model.specs.LocalRuns.{Opens};
 ghost use Rattle.model.specs.Primary.{PrimaryHistory};
 ghost use Rattle.model.specs.PrimarySteps.{open_tests};
 ghost use Rattle.model.specs.Refusals.{first_refusal};
-ghost use Rattle.primary_steps.specs.Node.{NodeHas, NodeSteps};
-ghost use Rattle.primary_steps.specs.Steps.{plainly, replied};
+ghost use Rattle.primary_protocol.specs.Node.{NodeHas, NodeSteps};
+ghost use Rattle.primary_protocol.specs.Steps.{plainly, replied};
 ghost use Rattle.primary.specs.State.{IsRestarted, node};
 
 use crate::Primary;
 use blocks::{Refusal, Store};
-use endpoint::{Incoming, Outgoing};
+use endpoint::{PacketReceiver, PacketSender};
 use link::{FrameIn, FrameOut};
 
 impl<O: FrameOut + Drop, I: FrameIn + Drop, S: Store + Drop> Primary<O, I, S> {
@@ -26,7 +26,7 @@ impl<O: FrameOut + Drop, I: FrameIn + Drop, S: Store + Drop> Primary<O, I, S> {
     pub fn open(&mut self, outward: O, inward: I, sync: u64, loss: u64) -> Result<(), Refusal>
         requires outward { IsNewOut (O.state outward) }
         requires inward { IsNewIn (I.state inward) }
-        ensures step { NodeSteps (Opens sync loss (is_starved result)) (node self.old) (replied plainly result) (node self.new) }
+        ensures step { NodeSteps (Opens sync loss (is_out_of_memory result)) (node self.old) (replied plainly result) (node self.new) }
         ensures link { OnOk result (self.new ≡ record self.old {
           core = self.new.core;
           outgoing = Some (outgoing (O.state outward));
@@ -35,8 +35,8 @@ impl<O: FrameOut + Drop, I: FrameIn + Drop, S: Store + Drop> Primary<O, I, S> {
         ensures unchanged { OnErr result (self.new ≡ self.old) }
     {
         self.core.open(sync, loss)?;
-        self.outgoing = Some(Outgoing::new(outward));
-        self.incoming = Some(Incoming::new(inward));
+        self.outgoing = Some(PacketSender::new(outward));
+        self.incoming = Some(PacketReceiver::new(inward));
         Ok(())
     }
 
@@ -55,7 +55,7 @@ impl<O: FrameOut + Drop, I: FrameIn + Drop, S: Store + Drop> Primary<O, I, S> {
     pub fn reopen(&mut self, sync: u64, loss: u64) -> Result<u32, Refusal>
         requires opened { is_some self.old.outgoing ≡ true }
         requires opened_too { is_some self.old.incoming ≡ true }
-        ensures step { NodeSteps (Opens sync loss (is_starved result)) (node self.old) (replied (λ number. plainly tt) result) (node self.new) }
+        ensures step { NodeSteps (Opens sync loss (is_out_of_memory result)) (node self.old) (replied (λ number. plainly tt) result) (node self.new) }
         ensures link { IfOk result (λ number. IsRestarted number self.old self.new) }
         ensures number { IfOk result (λ number. number ≡ self.new.core.connections) }
         ensures unchanged { OnErr result (self.new ≡ self.old) }

@@ -4,7 +4,7 @@ ghost use Rattle.primary.specs.State.{IsNode};
 
 use crate::Primary;
 use blocks::Store;
-use endpoint::{Incoming, Outgoing};
+use endpoint::{PacketReceiver, PacketSender};
 use link::{FrameIn, FrameOut};
 use primary_core::PrimaryCore;
 use std::alloc::Global;
@@ -29,7 +29,13 @@ impl<S: Store + Drop> Model for Unlinked<S> {
 
 impl<O: FrameOut + Drop, I: FrameIn + Drop, S: Store + Drop> Primary<O, I, S> {
     /// The node without its link, and both sides of that, where it was opened.
-    pub fn into_parts(self) -> (Unlinked<S>, Option<Outgoing<O>>, Option<Incoming<I>>)
+    pub fn into_parts(
+        self,
+    ) -> (
+        Unlinked<S>,
+        Option<PacketSender<O>>,
+        Option<PacketReceiver<I>>,
+    )
         ensures node { result.0 ≡ record self { outgoing = None; incoming = None } }
         ensures outgoing { result.1 ≡ self.outgoing }
         ensures incoming { result.2 ≡ self.incoming }
@@ -64,8 +70,8 @@ impl<S: Store + Drop> Unlinked<S> {
     /// The node over both sides of a link. Together they have to be a node, as they are if `into_parts` gave them.
     pub fn linked<O: FrameOut + Drop, I: FrameIn + Drop>(
         self,
-        outgoing: Option<Outgoing<O>>,
-        incoming: Option<Incoming<I>>,
+        outgoing: Option<PacketSender<O>>,
+        incoming: Option<PacketReceiver<I>>,
     ) -> Primary<O, I, S>
         requires node { IsNode (record self { outgoing = outgoing; incoming = incoming }) }
         ensures { result ≡ record self { outgoing = outgoing; incoming = incoming } }

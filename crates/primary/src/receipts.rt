@@ -1,18 +1,18 @@
 //! Receipts of completed writes.
 ghost use Rattle.std.specs.Prelude.{◌≡◌};
-ghost use Rattle.primary_steps.specs.Node.{IsStep, take_receipt};
+ghost use Rattle.primary_protocol.specs.Node.{IsStep, take_receipt};
 ghost use Rattle.primary.specs.Receipts.{kind_as, receipt_in};
 ghost use Rattle.primary.specs.State.{node};
 
 use crate::Primary;
 use blocks::{Block, Refusal, Store, StreamPosition};
 use link::{FrameIn, FrameOut};
-use primary_core::{Entry, Fate};
+use primary_core::{Fate, JournalEntry};
 use std::marker::Model;
 
 /// How a write was completed.
 #[derive(Clone, Copy, Debug, PartialEq, Eq)]
-pub enum Kind {
+pub enum CompletionKind {
     /// The peer answered it, as the protocol asks.
     Linked,
     /// Without the peer.
@@ -25,7 +25,7 @@ pub struct Receipt {
     number: u64,
     first: u64,
     count: u64,
-    kind: Kind,
+    kind: CompletionKind,
     home: Option<StreamPosition>,
 }
 
@@ -46,7 +46,7 @@ impl Model for Receipt {
 
 impl Receipt {
     // The receipt of a completed write; none of one that is not.
-    fn of(number: u64, entry: &Entry) -> Option<Receipt>
+    fn of(number: u64, entry: &JournalEntry) -> Option<Receipt>
         ensures { result ≡ receipt_in number entry.now }
     {
         let Fate::Completed { linked, home } = entry.fate() else {
@@ -56,7 +56,11 @@ impl Receipt {
             number,
             first: entry.first(),
             count: entry.count(),
-            kind: if linked { Kind::Linked } else { Kind::Alone },
+            kind: if linked {
+                CompletionKind::Linked
+            } else {
+                CompletionKind::Alone
+            },
             home,
         })
     }
@@ -83,7 +87,7 @@ impl Receipt {
     }
 
     /// How it was completed.
-    pub fn kind(&self) -> Kind
+    pub fn kind(&self) -> CompletionKind
         ensures { kind_as result ≡ self.now.kind }
     {
         self.kind

@@ -2,10 +2,10 @@
 ghost use Rattle.std.specs.Prelude.{◌≡◌, true, IfErr};
 ghost use Rattle.blocks.specs.declared.outcome.Reply.TheVariants as reply;
 ghost use Rattle.blocks.specs.declared.refusal.Refusal.TheVariants.{NoMemory};
-ghost use Rattle.endpoint.specs.Calls.{is_starved};
+ghost use Rattle.endpoint.specs.Calls.{is_out_of_memory};
 ghost use Rattle.model.specs.LocalRuns.{FailsResync};
-ghost use Rattle.primary_steps.specs.Node.{NodeSteps};
-ghost use Rattle.primary_steps.specs.Steps.{replied};
+ghost use Rattle.primary_protocol.specs.Node.{NodeSteps};
+ghost use Rattle.primary_protocol.specs.Steps.{replied};
 ghost use Rattle.primary.specs.Calls.{CopiesOne};
 ghost use Rattle.primary.specs.State.{node};
 
@@ -24,7 +24,7 @@ impl<O: FrameOut + Drop, I: FrameIn + Drop, S: Store + Drop> Primary<O, I, S> {
     pub fn resync_next(&mut self) -> Result<Done, Refusal>
         ensures step { CopiesOne result self.old self.new }
         ensures works { self.old.steady ≡ true → (self.new.faults ≡ self.old.faults) × (self.new.steady ≡ true) }
-        ensures starved { IfErr result (λ e. e ≡ NoMemory → (self.new.core ≡ self.old.core) × (self.new.faults ≡ self.old.faults)) }
+        ensures out_of_memory { IfErr result (λ e. e ≡ NoMemory → (self.new.core ≡ self.old.core) × (self.new.faults ≡ self.old.faults)) }
         ensures rest { self.new ≡ record self.old {
           core = self.new.core;
           faults = self.new.faults;
@@ -47,7 +47,7 @@ impl<O: FrameOut + Drop, I: FrameIn + Drop> Primary<O, I, FaultStore> {
     /// Has the disk fail the read of the block that the resync copies next. It does what `resync_next` does
     /// then: it is refused, `ReadFault` (14) at the last. Afterwards no read is armed on the disk.
     pub fn resync_fault(&mut self) -> Result<Done, Refusal>
-        ensures step { NodeSteps (FailsResync (is_starved result)) (node self.old) (replied reply.Ok result) (node self.new) }
+        ensures step { NodeSteps (FailsResync (is_out_of_memory result)) (node self.old) (replied reply.Ok result) (node self.new) }
         ensures works { self.old.steady ≡ true → self.new.steady ≡ true }
         ensures rest { self.new ≡ record self.old { faults = self.new.faults; steady = self.new.steady } }
     {

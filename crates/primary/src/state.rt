@@ -3,26 +3,26 @@ ghost use Rattle.std.specs.Prelude.{◌≡◌, ◌⊎◌, false, None, length, s
 ghost use Rattle.blocks.specs.declared.refusal.Refusal.TheVariants.{BadSetting, NoMemory};
 ghost use Rattle.model.specs.Primary.{primary_opening};
 ghost use Rattle.primary_core.specs.State.{CanBegin};
-ghost use Rattle.primary_steps.specs.Node.{NodeHas};
+ghost use Rattle.primary_protocol.specs.Node.{NodeHas};
 ghost use Rattle.primary.specs.State.{node};
 
 use blocks::{Refusal, Settings, Store, Tuple};
-use endpoint::{Incoming, Outgoing};
+use endpoint::{PacketReceiver, PacketSender};
 use link::{FrameIn, FrameOut};
 use primary_core::PrimaryCore;
 use std::alloc::Global;
 use std::marker::Model;
 
 /// The primary node, which owns its disk. It accepts writes, has its disk do them, sends them to its peer in
-/// order, and takes what the peer acknowledges; what it may do its core decides. Some history is had, and a
-/// packet that went in part is the one that is due.
+/// order, and takes what the peer acknowledges; its core decides what it may do. Invariant: the node has some history
+/// of the model (`NodeHas`), and a partly sent packet is the one that is due.
 #[derive(Drop)]
 pub struct Primary<O: FrameOut + Drop, I: FrameIn + Drop, S: Store + Drop> {
     pub(crate) alloc: Global,
     pub(crate) core: PrimaryCore,
     pub(crate) store: S,
-    pub(crate) outgoing: Option<Outgoing<O>>,
-    pub(crate) incoming: Option<Incoming<I>>,
+    pub(crate) outgoing: Option<PacketSender<O>>,
+    pub(crate) incoming: Option<PacketReceiver<I>>,
 }
 
 impl<O: FrameOut + Drop, I: FrameIn + Drop, S: Store + Drop> Model for Primary<O, I, S> {

@@ -2,11 +2,11 @@
 ghost use Rattle.std.specs.Prelude.{◌≡◌, IfOk};
 ghost use Rattle.blocks.specs.declared.outcome.Reply.TheVariants as reply;
 ghost use Rattle.blocks.specs.declared.outcome.What.TheVariants as what;
-ghost use Rattle.endpoint.specs.Calls.{is_starved};
+ghost use Rattle.endpoint.specs.Calls.{is_out_of_memory};
 ghost use Rattle.model.specs.LocalRuns.{Submits};
-ghost use Rattle.primary_steps.specs.Node.{NodeSteps};
-ghost use Rattle.primary_steps.specs.Steps.{replied};
-ghost use Rattle.primary_steps.specs.Transitions.{whole_blocks};
+ghost use Rattle.primary_protocol.specs.Node.{NodeSteps};
+ghost use Rattle.primary_protocol.specs.Steps.{replied};
+ghost use Rattle.primary_protocol.specs.Transitions.{whole_blocks};
 ghost use Rattle.primary.specs.State.{node};
 
 use crate::Primary;
@@ -25,7 +25,7 @@ impl<O: FrameOut + Drop, I: FrameIn + Drop, S: Store + Drop> Primary<O, I, S> {
     /// extent is not active and cannot become so; `StreamFull` (6) if the stream has 4,294,967,288 items;
     /// else `NoMemory` (7) if there is no room for it and all that it may want later.
     pub fn submit(&mut self, first: u64, bytes: &Bytes) -> Result<(u64, Done), Refusal>
-        ensures step { NodeSteps (Submits first (whole_blocks bytes.now) (is_starved result)) (node self.old) (replied (λ told. reply.Ok told.1) result) (node self.new) }
+        ensures step { NodeSteps (Submits first (whole_blocks bytes.now) (is_out_of_memory result)) (node self.old) (replied (λ told. reply.Ok told.1) result) (node self.new) }
         ensures number { IfOk result (λ told. told.1.what ≡ what.Write told.0) }
         ensures rest { self.new ≡ record self.old { core = self.new.core } }
     {

@@ -1,16 +1,16 @@
 //! Read-only accessors.
 ghost use Rattle.std.specs.Prelude.{◌≡◌, length, not};
 ghost use Rattle.model.specs.Headline.{is_marked};
-ghost use Rattle.model.specs.Primary.{PrimaryHistory, items_sent, marked_blocks, outward, resync_runs, stands};
+ghost use Rattle.model.specs.Primary.{PrimaryHistory, items_sent, marked_blocks, primary_connection, resync_runs, is_established};
 ghost use Rattle.model.specs.Status.{incomplete, open_epochs, unanswered};
-ghost use Rattle.primary_steps.specs.Node.{NodeHas};
+ghost use Rattle.primary_protocol.specs.Node.{NodeHas};
 ghost use Rattle.primary.specs.State.{node};
 
 use crate::Primary;
 use blocks::{Block, Settings, Store, Tuple};
 use handshakes::HELLO_FRAMES;
 use link::{FrameIn, FrameOut};
-use primary_core::Entry;
+use primary_core::JournalEntry;
 
 impl<O: FrameOut + Drop, I: FrameIn + Drop, S: Store + Drop> Primary<O, I, S> {
     /// The settings.
@@ -43,28 +43,28 @@ impl<O: FrameOut + Drop, I: FrameIn + Drop, S: Store + Drop> Primary<O, I, S> {
 
     /// Whether the end is open.
     pub fn is_open(&self) -> bool
-        ensures { (h : PrimaryHistory) → NodeHas (node self.now) h → result ≡ not (outward h).closed }
+        ensures { (h : PrimaryHistory) → NodeHas (node self.now) h → result ≡ not (primary_connection h).closed }
     {
         self.core.is_open()
     }
 
     /// Whether the stream has begun: the hello is done.
-    pub fn stands(&self) -> bool
-        ensures { (h : PrimaryHistory) → NodeHas (node self.now) h → result ≡ stands (outward h) }
+    pub fn is_established(&self) -> bool
+        ensures { (h : PrimaryHistory) → NodeHas (node self.now) h → result ≡ is_established (primary_connection h) }
     {
-        self.core.stands()
+        self.core.is_established()
     }
 
     /// Whether a resync goes on.
     pub fn is_resync(&self) -> bool
-        ensures { (h : PrimaryHistory) → NodeHas (node self.now) h → result ≡ resync_runs (outward h) }
+        ensures { (h : PrimaryHistory) → NodeHas (node self.now) h → result ≡ resync_runs (primary_connection h) }
     {
         self.core.is_resync()
     }
 
     /// How many items were sent on the last connection.
     pub fn items_sent(&self) -> u32
-        ensures { (h : PrimaryHistory) → NodeHas (node self.now) h → result ≡ items_sent (outward h) }
+        ensures { (h : PrimaryHistory) → NodeHas (node self.now) h → result ≡ items_sent (primary_connection h) }
     {
         let pushed = match &self.outgoing {
             Some(outgoing) => outgoing.pushed(),
@@ -82,7 +82,7 @@ impl<O: FrameOut + Drop, I: FrameIn + Drop, S: Store + Drop> Primary<O, I, S> {
     }
 
     /// The journal: an entry for each accepted write, by number, the first being 1.
-    pub fn journal(&self) -> &[Entry]
+    pub fn journal(&self) -> &[JournalEntry]
         ensures { result.now ≡ self.now.core.entries }
     {
         self.core.entries()

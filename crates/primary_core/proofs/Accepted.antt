@@ -5,7 +5,7 @@ use Rattle.std.proofs.lemmas.Bool.Decides.{nat_tests}
 use Rattle.epochs.specs.Epochs.{EpochsState, placed}
 use Rattle.transferlog.specs.Log.{LogState, accepting}
 use Rattle.model.specs.Contents.{extent_of}
-use Rattle.primary_steps.specs.Core.{EndState, PrimaryState, stands}
+use Rattle.primary_protocol.specs.Core.{EndState, PrimaryState, is_established}
 use Rattle.primary_core.specs.Kept.{IsSound, owing, places_owing}
 use Rattle.primary_core.specs.State.{end_of, room_at}
 use Rattle.primary_core.specs.Submit.{taken_in}
@@ -92,7 +92,7 @@ few-places (Some e) None l at room few = let was = rw at at few in omega (arith,
 
 -- a write is taken in
 pub sound-accepted : (s : PrimaryState) (first count : ℕ) (contents : List ℕ) → IsSound s → first + count ≤ s.settings.blocks → length contents ≡ 4096 * count
-    → (stands s && nat_le 4294967288 s.log.epochs.places) ≡ false
+    → (is_established s && nat_le 4294967288 s.log.epochs.places) ≡ false
     → IsSound (taken_in first count contents s).1
 sound-accepted s first count contents is inside whole room = record {
   in_range = is.in_range;

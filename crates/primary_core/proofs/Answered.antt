@@ -14,9 +14,9 @@ use Rattle.transferlog.specs.Ring.{write_at}
 use Rattle.transferlog.specs.Writes.{answering}
 use Rattle.transferlog.specs.declared.report.Answer.{Answer}
 use Rattle.transferlog.specs.declared.report.Named.{Named}
-use Rattle.primary_steps.specs.Core.{EndState, PrimaryState}
-use Rattle.primary_steps.specs.Transitions.{logged}
-use Rattle.primary_steps.specs.Taking.{Taken, answered, confirmed, is_in_epoch, is_unsent, named}
+use Rattle.primary_protocol.specs.Core.{EndState, PrimaryState}
+use Rattle.primary_protocol.specs.Transitions.{logged}
+use Rattle.primary_protocol.specs.Taking.{Taken, answered, confirmed, is_in_epoch, is_unsent, named}
 use Rattle.primary_core.specs.Kept.{IsSoundLog}
 use Rattle.primary_core.specs.Take.{taken_as}
 use Rattle.primary_core.proofs.Epochs.{Appends, nothing-appended}

@@ -8,8 +8,8 @@ use Rattle.blocks.specs.declared.outcome.Decision.{Decision}
 use Rattle.blocks.specs.declared.outcome.Decision.TheVariants.{NoSync, BitmapSync, FullSync}
 use Rattle.blocks.specs.Identifiers.{stands_in, decision}
 use Rattle.transferlog.specs.Log.{connecting}
-use Rattle.primary_steps.specs.Core.{EndState, PrimaryState, following}
-use Rattle.primary_steps.specs.Taking.{begun_with, last_connection, meeting}
+use Rattle.primary_protocol.specs.Core.{EndState, PrimaryState, following}
+use Rattle.primary_protocol.specs.Taking.{begun_with, last_connection, meeting}
 use Rattle.primary_core.specs.Take.{resyncing, taken_as}
 use Rattle.primary_core.proofs.Marking.{all-marked, none-more}
 
@@ -19,14 +19,14 @@ connected s = record s { log = connecting (last_connection s) s.log }
 
 pub begun-bitmap : (e : EndState) (s t u : PrimaryState) → t ≡ connected s → s.end ≡ Some e → (t.end ≡ Some e → u ≡ resyncing e t)
     → u ≡ begun_with BitmapSync e s
-begun-bitmap e s t u stands is resyncs =
-    resyncs (ap (λ (x : PrimaryState). x.end) stands ∙ is)
-    ∙ (ap (resyncing e) stands ∙ ap (λ (m : List Bool). record (resyncing e (connected s)) { marks = m }) (sym (none-more 0 s.marks)))
+begun-bitmap e s t u is_established is resyncs =
+    resyncs (ap (λ (x : PrimaryState). x.end) is_established ∙ is)
+    ∙ (ap (resyncing e) is_established ∙ ap (λ (m : List Bool). record (resyncing e (connected s)) { marks = m }) (sym (none-more 0 s.marks)))
 
 pub begun-full : (e : EndState) (s r t u : PrimaryState) → r ≡ record s { marks = replicate (length s.marks) true } → t ≡ connected r → s.end ≡ Some e
     → (t.end ≡ Some e → u ≡ resyncing e t) → u ≡ begun_with FullSync e s
-begun-full e s r t u marks stands is resyncs =
-    let before = stands ∙ ap connected marks in
+begun-full e s r t u marks is_established is resyncs =
+    let before = is_established ∙ ap connected marks in
     resyncs (ap (λ (x : PrimaryState). x.end) before ∙ is)
     ∙ (ap (resyncing e) before ∙ ap (λ (m : List Bool). record (resyncing e (connected s)) { marks = m }) (sym (all-marked 0 s.marks)))
 

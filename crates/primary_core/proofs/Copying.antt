@@ -12,8 +12,8 @@ use Rattle.model.specs.Refusals.{first_refusal}
 use Rattle.laws.proofs.Lists.Tests.{test-passed}
 use Rattle.resync.specs.Next.{is_free, next_block}
 use Rattle.resync.proofs.Free.{find-filter, found_below}
-use Rattle.primary_steps.specs.Core.{EndState, PrimaryState}
-use Rattle.primary_steps.specs.Transitions.{resync_tests}
+use Rattle.primary_protocol.specs.Core.{EndState, PrimaryState}
+use Rattle.primary_protocol.specs.Transitions.{resync_tests}
 use Rattle.primary_core.specs.Kept.{IsWriter}
 use Rattle.resync.specs.declared.under_way.UnderWay.{UnderWay}
 use Rattle.primary_core.specs.State.{held_with, way_of}

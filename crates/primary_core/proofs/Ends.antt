@@ -1,8 +1,8 @@
 -- Steps at a connection that is open.
 use Rattle.std.proofs.Common.{◌≡◌, ◌+◌, ◌≤◌, Bool, subst, refl, sym, ◌∙◌, ap, Some, None, Option, Ok}
 use Rattle.std.specs.Prelude.{option_map}
-use Rattle.primary_steps.specs.Core.{EndState, PrimaryState}
-use Rattle.primary_steps.specs.Transitions.{close_end, closing}
+use Rattle.primary_protocol.specs.Core.{EndState, PrimaryState}
+use Rattle.primary_protocol.specs.Transitions.{close_end, closing}
 use Rattle.primary_core.specs.Kept.{owing, places_owing}
 use Rattle.primary_core.specs.State.{CoreState, IsCore, core_of, end_of, room_at, state_of}
 use Rattle.primary_core.specs.declared.connection.Connection.{Connection}

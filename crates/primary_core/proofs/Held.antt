@@ -6,7 +6,7 @@ use Rattle.std.proofs.lemmas.Bool.{le-ltb}
 use Rattle.overlap.specs.Holdings.{Holding, holding, holding_too, without}
 use Rattle.transferlog.proofs.Numbers.{lower_number, higher_number}
 use Rattle.transferlog.specs.declared.report.Completed.{Completed}
-use Rattle.primary_steps.specs.Core.{freeing}
+use Rattle.primary_protocol.specs.Core.{freeing}
 use Rattle.primary_core.specs.Kept.{IsNumbered, IsWriter}
 use Rattle.primary_core.specs.State.{held_with}
 use Rattle.resync.specs.declared.under_way.UnderWay.{UnderWay}

@@ -8,8 +8,8 @@ use Rattle.blocks.specs.declared.outcome.Done.{Done}
 use Rattle.blocks.specs.declared.outcome.What.{What}
 use Rattle.transferlog.specs.Log.{LogState, LogValue, changing}
 use Rattle.transferlog.specs.Writes.{LogWrite}
-use Rattle.primary_steps.specs.Core.{PrimaryState, tested, following}
-use Rattle.primary_steps.specs.Transitions.{logged, is_unfinished}
+use Rattle.primary_protocol.specs.Core.{PrimaryState, tested, following}
+use Rattle.primary_protocol.specs.Transitions.{logged, is_unfinished}
 use Rattle.primary_core.specs.Kept.{IsSoundLog, owing}
 use Rattle.primary_core.specs.State.{IsCore, state_of}
 use Rattle.primary_core.specs.declared.state.PrimaryCore.TheInside.{Inside}

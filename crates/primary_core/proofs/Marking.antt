@@ -8,7 +8,7 @@ use Rattle.bitmap.specs.Marks.{marking, marking_from}
 use Rattle.laws.proofs.Lists.Picks.{found-passes}
 use Rattle.transferlog.specs.Writes.{LogWrite}
 use Rattle.transferlog.specs.Ring.{Each, Rises}
-use Rattle.primary_steps.specs.Transitions.{unreleased_blocks}
+use Rattle.primary_protocol.specs.Transitions.{unreleased_blocks}
 
 or-assoc : (a b c : Bool) → ((a || b) || c) ≡ (a || (b || c))
 or-assoc true b c = refl

@@ -3,10 +3,10 @@ use Rattle.std.proofs.Common.{ℕ, ◌≡◌, false, List, drop, Option, Some, N
 use Rattle.blocks.specs.declared.refusal.Refusal.{Refusal}
 use Rattle.model.specs.Refusals.{Test, first_refusal}
 use Rattle.laws.proofs.Rules.Memory.{before_last, refused-alike}
-use Rattle.primary_core.specs.Starved.{is_starved}
+use Rattle.primary_core.specs.OutOfMemory.{is_out_of_memory}
 use Rattle.primary_core.specs.Submit.{told_by}
-use Rattle.primary_steps.specs.Core.{PrimaryState, tested}
-use Rattle.primary_steps.specs.Transitions.{open_end, open_tests}
+use Rattle.primary_protocol.specs.Core.{PrimaryState, tested}
+use Rattle.primary_protocol.specs.Transitions.{open_end, open_tests}
 
 -- what is told is the first refusal
 told-first : (tests : List Test) (e : Refusal) → Err e ≡ told_by tests → first_refusal tests ≡ Some e
@@ -17,10 +17,10 @@ told-first tests e told = go (first_refusal tests) told
     go None told = absurd (cc)
 
 pub open-refused : (sync loss : ℕ) (s : PrimaryState) (e : Refusal) → Err e ≡ told_by (open_tests sync loss false s)
-    → (Err e, s) ≡ open_end sync loss (is_starved {R = Unit {0}} (Err e)) s
+    → (Err e, s) ≡ open_end sync loss (is_out_of_memory {R = Unit {0}} (Err e)) s
 open-refused sync loss s e said =
-    let starved = is_starved {R = Unit {0}} (Err e) in
-    let still : first_refusal (open_tests sync loss starved s) ≡ Some e =
-    refused-alike (before_last (open_tests sync loss false s)) (drop 3 (open_tests sync loss starved s)) e
+    let out_of_memory = is_out_of_memory {R = Unit {0}} (Err e) in
+    let still : first_refusal (open_tests sync loss out_of_memory s) ≡ Some e =
+    refused-alike (before_last (open_tests sync loss false s)) (drop 3 (open_tests sync loss out_of_memory s)) e
     (told-first (open_tests sync loss false s) e said) in
     rw (still, tested) refl

@@ -7,7 +7,7 @@ use Rattle.blocks.specs.Ranges.{below}
 use Rattle.activitylog.specs.Activity.{Active, ActivityState, one_less, ended}
 use Rattle.model.specs.Contents.{extent_of}
 use Rattle.transferlog.specs.declared.report.Released.{Released}
-use Rattle.primary_steps.specs.Core.{PrimaryState, leaving, unmarking, reporting}
+use Rattle.primary_protocol.specs.Core.{PrimaryState, leaving, unmarking, reporting}
 use Rattle.primary_core.specs.Kept.{IsSound, IsCounted}
 
 pub length-below : (n : ℕ) → length (below n) ≡ n

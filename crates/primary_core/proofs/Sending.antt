@@ -15,18 +15,18 @@ use Rattle.blocks.specs.declared.settings.Settings.{Settings}
 use Rattle.blocks.specs.declared.tuple.Tuple.{Tuple}
 use Rattle.model.specs.Frames as frames
 use Rattle.model.specs.Frames.{command_of, frame_of}
-use Rattle.model.specs.Stream.{Item}
-use Rattle.primary_steps.specs.Core.{EndState, PrimaryState, with_end}
-use Rattle.primary_steps.specs.Transitions.{called, due, next_place, owed, pushed_item, sent_from}
+use Rattle.model.specs.Stream.{StreamItem}
+use Rattle.primary_protocol.specs.Core.{EndState, PrimaryState, with_end}
+use Rattle.primary_protocol.specs.Transitions.{called, due, next_place, owed, pushed_item, sent_from}
 use Rattle.primary_core.specs.Send.{sent_at, sent_now, sent_owed}
 
-pub due-item : (s : PrimaryState) (e : EndState) (item : Item) → s.end ≡ Some e → nat_lt e.said 3 ≡ false → slice_get e.unsent 0 ≡ Some item
+pub due-item : (s : PrimaryState) (e : EndState) (item : StreamItem) → s.end ≡ Some e → nat_lt e.said 3 ≡ false → slice_get e.unsent 0 ≡ Some item
     → due s ≡ Ok (frame_of (next_place e s) item)
 due-item s e item is over first = rw (is, due) (rw (over, owed) (rw first refl))
 
-pub first-item : (xs : List Item) (x : Item) → x ≡ get_or xs 0 x → 0 < length xs → slice_get xs 0 ≡ Some x
+pub first-item : (xs : List StreamItem) (x : StreamItem) → x ≡ get_or xs 0 x → 0 < length xs → slice_get xs 0 ≡ Some x
 first-item [] x is some = absurd (omega arith)
-first-item (y ∷ xs) x is some = ap (λ (z : Item). Some z) (sym is)
+first-item (y ∷ xs) x is some = ap (λ (z : StreamItem). Some z) (sym is)
 
 pub due-told : (r : Result Packet Refusal) (d : Result frames.Packet Refusal) (x : frames.Packet) → d ≡ Ok x → IfOk r (λ p. (meaning p ≡ x) × IsSpellable p)
     → IfErr r (λ e. e ≡ NoMemory)
@@ -42,7 +42,7 @@ all-said (suc (suc zero)) settings own none = absurd (cc)
 all-said (suc (suc (suc n))) settings own none = le-ltb (suc (suc (suc n))) 3 (omega arith)
 
 -- The first item that is due, at this place.
-pub item-is-due : (s : PrimaryState) (e : EndState) (item : Item) (place : ℕ) → s.end ≡ Some e → nat_lt e.said 3 ≡ false
+pub item-is-due : (s : PrimaryState) (e : EndState) (item : StreamItem) (place : ℕ) → s.end ≡ Some e → nat_lt e.said 3 ≡ false
     → item ≡ get_or e.unsent 0 item → 0 < length e.unsent → place ≡ next_place e s → due s ≡ Ok (frame_of place item)
 item-is-due s e item place is over lookup some at =
     due-item s e item is over (first-item e.unsent item lookup some) ∙ ap (λ (k : ℕ). Ok (frame_of k item)) (sym at)
@@ -52,19 +52,19 @@ item-is-due s e item place is over lookup some at =
 -- The stream.
 
 -- the first item that is due is sent
-pub sent-item : (s : PrimaryState) (e : EndState) (item : Item) (command : Command) (place : ℕ) → s.end ≡ Some e → nat_lt e.said 3 ≡ false
+pub sent-item : (s : PrimaryState) (e : EndState) (item : StreamItem) (command : Command) (place : ℕ) → s.end ≡ Some e → nat_lt e.said 3 ≡ false
     → slice_get e.unsent 0 ≡ Some item → ((k : ℕ) → command ≡ command_of (frame_of k item)) → place ≡ next_place e s
     → pushed_item (what.Frame command (Some place)) (Some item) (with_end (λ x. record x { unsent = drop 1 x.unsent }) s) ≡ sent_now s
 sent-item s e item command place is over first names at =
     let there = next_place e s in
     let packet = frame_of there item in
     let rest : PrimaryState = record s { end = Some (record e { unsent = drop 1 e.unsent }) } in
-    let due : owed e s ≡ Some packet = rw (over, owed) (ap (λ (o : Option Item). option_map (frame_of there) o) first) in
+    let due : owed e s ≡ Some packet = rw (over, owed) (ap (λ (o : Option StreamItem). option_map (frame_of there) o) first) in
     let sends : sent_from e (called e s packet) s ≡ pushed_item (what.Frame (command_of packet) (Some there)) (slice_get e.unsent 0) rest =
     rw (over, sent_from, called) refl in
     let now : sent_now s ≡ pushed_item (what.Frame (command_of packet) (Some there)) (Some item) rest =
     ap (sent_at s) is ∙ (ap (sent_owed e s) due ∙ (sends
-    ∙ ap (λ (o : Option Item). pushed_item (what.Frame (command_of packet) (Some there)) o rest) first)) in
+    ∙ ap (λ (o : Option StreamItem). pushed_item (what.Frame (command_of packet) (Some there)) o rest) first)) in
     let popped : EndState → EndState = λ x. record x { unsent = drop 1 x.unsent } in
     ap (λ (o : Option EndState). pushed_item (what.Frame command (Some place)) (Some item) (record s { end = option_map popped o })) is
     ∙ (ap (λ (name : Command). pushed_item (what.Frame name (Some place)) (Some item) rest) (names there)

@@ -1,7 +1,7 @@
 -- A state stays sound where its log makes a step.
 use Rattle.std.proofs.Common.{ℕ, ◌≡◌, ◌+◌, ◌≤◌, ◌∙◌, arith, Bool, List, length, Option, Some, None}
 use Rattle.transferlog.specs.Log.{LogState}
-use Rattle.primary_steps.specs.Core.{EndState, PrimaryState}
+use Rattle.primary_protocol.specs.Core.{EndState, PrimaryState}
 use Rattle.primary_core.specs.Kept.{IsSound, IsSoundLog, owing, places_owing}
 use Rattle.primary_core.specs.State.{IsCore}
 use Rattle.primary_core.specs.declared.state.PrimaryCore.TheInside.{Inside}

@@ -15,9 +15,9 @@ use Rattle.model.specs.Refusals.{Test, first_refusal}
 use Rattle.overlap.specs.Holdings.{Holding, holding, holding_too, without, is_held, meets, conflict}
 use Rattle.activitylog.specs.Activity.{Active, ActivityState, writes_of, begun, staying, other_than, without_oldest_idle, is_active, has_idle, can_begin}
 use Rattle.transferlog.proofs.Numbers.{same_number, lower_number}
-use Rattle.primary_steps.specs.Core.{PrimaryState, EndState, stands}
-use Rattle.primary_steps.specs.Core as core
-use Rattle.primary_steps.specs.Transitions.{whole_blocks}
+use Rattle.primary_protocol.specs.Core.{PrimaryState, EndState, is_established}
+use Rattle.primary_protocol.specs.Core as core
+use Rattle.primary_protocol.specs.Transitions.{whole_blocks}
 use Rattle.primary_core.specs.Kept.{IsWriter, IsCounted}
 use Rattle.primary_core.specs.State.{end_of, held_with, way_at, way_in, way_of}
 use Rattle.primary_core.specs.Submit.{IsWhole, range_tests}
@@ -128,7 +128,7 @@ pub record Passes (first count : ℕ) (s : PrimaryState) : Type 0 where
   pub log : nat_le s.settings.backlog (length s.log.writes) ≡ false
   pub apart : is_some (conflict first count s.held) ≡ false
   pub active : not (can_begin (extent_of first) s.activity) ≡ false
-  pub places : (stands s && nat_le 4294967288 s.log.epochs.places) ≡ false
+  pub places : (is_established s && nat_le 4294967288 s.log.epochs.places) ≡ false
 
 -- none of the tests holds
 abbrev AllFail : List Test → Type 0

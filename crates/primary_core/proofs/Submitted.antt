@@ -6,9 +6,9 @@ use Rattle.blocks.specs.declared.refusal.Refusal.{Refusal}
 use Rattle.model.specs.Refusals.{Test, first_refusal}
 use Rattle.laws.proofs.Rules.Memory.{memory_test}
 use Rattle.transferlog.specs.declared.report.Accepted.{Accepted}
-use Rattle.primary_steps.specs.Core.{PrimaryState, tested}
-use Rattle.primary_steps.specs.Transitions.{submit, submit_tests, submitted, whole_blocks}
-use Rattle.primary_core.specs.Starved.{is_starved}
+use Rattle.primary_protocol.specs.Core.{PrimaryState, tested}
+use Rattle.primary_protocol.specs.Transitions.{submit, submit_tests, submitted, whole_blocks}
+use Rattle.primary_core.specs.OutOfMemory.{is_out_of_memory}
 use Rattle.primary_core.specs.Submit.{IsWhole, gone_out, range_tests, taken_in, told_by}
 
 first-of : (tests more : List Test) (e : Refusal) → told_by tests ≡ Err e → first_refusal (tests ++ more) ≡ Some e
@@ -22,16 +22,16 @@ none-of ((true, refusal) ∷ tests) more told = absurd (cc)
 none-of ((false, refusal) ∷ tests) more told = none-of tests more told
 
 -- the tests of a range that is whole
-tests-are : (s : PrimaryState) (first count : ℕ) (bytes : List ℕ) (starved : Bool) → IsWhole s.settings first count bytes
-    → first_refusal (submit_tests first (length (whole_blocks bytes)) starved s) ≡ first_refusal (range_tests first count s ++ memory_test starved)
-tests-are s first count bytes starved is = rw is.range (ap (λ (n : ℕ). first_refusal (range_tests first n s ++ memory_test starved)) is.counted)
+tests-are : (s : PrimaryState) (first count : ℕ) (bytes : List ℕ) (out_of_memory : Bool) → IsWhole s.settings first count bytes
+    → first_refusal (submit_tests first (length (whole_blocks bytes)) out_of_memory s) ≡ first_refusal (range_tests first count s ++ memory_test out_of_memory)
+tests-are s first count bytes out_of_memory is = rw is.range (ap (λ (n : ℕ). first_refusal (range_tests first n s ++ memory_test out_of_memory)) is.counted)
 
 pub submit-refused : (s : PrimaryState) (first count : ℕ) (bytes : List ℕ) (e : Refusal) → IsWhole s.settings first count bytes
     → told_by (range_tests first count s) ≡ Err e
-    → (let got : Result Done Refusal × PrimaryState = (Err e, s) in got ≡ submit first bytes (is_starved {R = Done} (Err e)) s)
+    → (let got : Result Done Refusal × PrimaryState = (Err e, s) in got ≡ submit first bytes (is_out_of_memory {R = Done} (Err e)) s)
 submit-refused s first count bytes e is told =
-    let refused = tests-are s first count bytes (is_starved {R = Done} (Err e)) is
-    ∙ first-of (range_tests first count s) (memory_test (is_starved {R = Done} (Err e))) e told in
+    let refused = tests-are s first count bytes (is_out_of_memory {R = Done} (Err e)) is
+    ∙ first-of (range_tests first count s) (memory_test (is_out_of_memory {R = Done} (Err e))) e told in
     rw (refused, tested) refl
 
 pub submit-done : (s : PrimaryState) (first count : ℕ) (bytes : List ℕ) (r : Done × PrimaryState) → IsWhole s.settings first count bytes

@@ -15,9 +15,9 @@ use Rattle.model.specs.Acknowledgements.{same_protocol}
 use Rattle.packets.specs.declared.packet.Packet.{Packet}
 use Rattle.packets.specs.declared.packet.Packet.TheVariants as packet
 use Rattle.model.specs.Frames.{Received}
-use Rattle.primary_steps.specs.Core.{EndState, PrimaryState}
-use Rattle.primary_steps.specs.Transitions.{closing}
-use Rattle.primary_steps.specs.Taking.{Taken, greeted, take_at, taken_by, taking, taking_hello}
+use Rattle.primary_protocol.specs.Core.{EndState, PrimaryState}
+use Rattle.primary_protocol.specs.Transitions.{closing}
+use Rattle.primary_protocol.specs.Taking.{Taken, greeted, take_at, taken_by, taking, taking_hello}
 use Rattle.primary_core.specs.Take.{taken_as}
 
 -- A frame at an open end.

@@ -11,7 +11,7 @@ use Rattle.bitmap.specs.Marks.{marked}
 use Rattle.bitmap.proofs.Lists.{same-marks, marked-set_same, marked-set_other}
 use Rattle.transferlog.specs.declared.report.Released.{Released}
 use Rattle.transferlog.specs.Log.{clears}
-use Rattle.primary_steps.specs.Core.{unmarking}
+use Rattle.primary_protocol.specs.Core.{unmarking}
 use Rattle.primary_core.specs.Kept.{Cleared, LiesInside}
 use Rattle.primary_core.proofs.Reports.{length-below, length-unmarking}
 

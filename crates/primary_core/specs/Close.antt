@@ -2,7 +2,7 @@
 use Rattle.std.specs.Prelude.{ℕ, None}
 use Rattle.overlap.specs.Holdings as overlap
 use Rattle.transferlog.specs.Log as log
-use Rattle.primary_steps.specs.Core.{PrimaryState}
+use Rattle.primary_protocol.specs.Core.{PrimaryState}
 
 -- no end is open, no write has a connection, and no block is under way; how many writes were completed by that
 abbrev pub without_stream : PrimaryState → ℕ × PrimaryState

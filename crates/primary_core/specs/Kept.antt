@@ -12,7 +12,7 @@ use Rattle.transferlog.specs.declared.report.Completed.{Completed}
 use Rattle.transferlog.specs.declared.report.Released.{Released}
 use Rattle.overlap.specs.Holdings.{Holding}
 use Rattle.activitylog.specs.Activity.{Active}
-use Rattle.primary_steps.specs.Core.{EndState, PrimaryState, stands}
+use Rattle.primary_protocol.specs.Core.{EndState, PrimaryState, is_established}
 
 -- a write of a device of so many blocks, with the bytes of its blocks
 pub record IsInside (blocks : ℕ) (w : LogWrite) : Type 0 where
@@ -80,7 +80,7 @@ pub record IsSound (s : PrimaryState) : Type 0 where
   pub log : IsSoundLog s.settings s.log
   pub marks : length s.marks ≡ s.settings.blocks
   pub counted : AllByRecursion (IsCounted s.log.accepted) s.activity.active
-  pub standing : (e : EndState) → s.end ≡ Some e → e.resync ≡ true → stands s ≡ true
+  pub standing : (e : EndState) → s.end ≡ Some e → e.resync ≡ true → is_established s ≡ true
   pub places : s.log.epochs.places + places_owing s.end s.log ≤ 4294967290
 
 -- the marks after a release cleared its blocks below a number

@@ -3,7 +3,7 @@ pub mod Entries
 pub mod Items
 pub mod Kept
 pub mod Local
-pub mod Starved
+pub mod OutOfMemory
 pub mod Resyncing
 pub mod Send
 pub mod State

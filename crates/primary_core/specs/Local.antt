@@ -3,7 +3,7 @@ use Rattle.std.specs.Prelude.{ℕ}
 use Rattle.blocks.specs.Ranges.{is_between}
 use Rattle.bitmap.specs.Marks.{marking}
 use Rattle.overlap.specs.Holdings as overlap
-use Rattle.primary_steps.specs.Core.{Failed, PrimaryState, with_entry}
+use Rattle.primary_protocol.specs.Core.{Failed, PrimaryState, with_entry}
 
 -- the write of these blocks is failed, holds nothing more, and is marked
 abbrev pub given_up : ℕ → ℕ → ℕ → PrimaryState → PrimaryState

@@ -1,14 +1,14 @@
 -- The items of a stream that are due.
 use Rattle.std.specs.Prelude.{ℕ, zero, suc, ◌+◌, List, [], ◌∷◌, Option, Some, None}
-use Rattle.model.specs.Stream.{Item, WriteItem, ResyncItem, BarrierItem, SyncUuidItem, UuidsItem}
+use Rattle.model.specs.Stream.{StreamItem, WriteItem, ResyncItem, BarrierItem, SyncUuidItem, UuidsItem}
 
 -- the items, the oldest first, and for how many more there is room
 pub record OutboxState : Type 0 where
-  pub items : List Item
+  pub items : List StreamItem
   pub room : ℕ
 
 -- the number of a barrier
-abbrev pub barrier_of : Item → Option ℕ
+abbrev pub barrier_of : StreamItem → Option ℕ
 barrier_of (WriteItem write) = None
 barrier_of (ResyncItem block contents) = None
 barrier_of (BarrierItem epoch) = Some epoch
@@ -16,7 +16,7 @@ barrier_of (SyncUuidItem word) = None
 barrier_of (UuidsItem tuple) = None
 
 -- the numbers of the barriers among these items
-abbrev pub numbers : List Item → List ℕ
+abbrev pub numbers : List StreamItem → List ℕ
 numbers [] = []
 numbers (WriteItem write ∷ items) = numbers items
 numbers (ResyncItem block contents ∷ items) = numbers items

@@ -4,12 +4,12 @@ use Rattle.blocks.specs.declared.refusal.Refusal.{Refusal}
 use Rattle.blocks.specs.declared.refusal.Refusal.TheVariants.{NotConnected, NothingToDo}
 use Rattle.model.specs.Refusals.{first_refusal}
 use Rattle.resync.specs.Next.{next_block}
-use Rattle.primary_steps.specs.Core.{PrimaryState}
-use Rattle.primary_steps.specs.Transitions.{resync_tests}
+use Rattle.primary_protocol.specs.Core.{PrimaryState}
+use Rattle.primary_protocol.specs.Transitions.{resync_tests}
 
 -- the lowest free marked block, where no test refuses it
 abbrev pub resync_choice : Bool → PrimaryState → Result ℕ Refusal
-resync_choice starved s = elim s.end [
+resync_choice out_of_memory s = elim s.end [
   | None ↦ Err NotConnected
-  | Some e ↦ elim (first_refusal (resync_tests starved e s)) [ Some refusal ↦ Err refusal | None ↦ ok_or (next_block s.marks s.held) NothingToDo ]
+  | Some e ↦ elim (first_refusal (resync_tests out_of_memory e s)) [ Some refusal ↦ Err refusal | None ↦ ok_or (next_block s.marks s.held) NothingToDo ]
 ]

@@ -5,8 +5,8 @@ use Rattle.blocks.specs.declared.outcome.What.TheVariants as what
 use Rattle.blocks.specs.declared.refusal.Refusal.{Refusal}
 use Rattle.model.specs.Frames.{Packet, DataFrame, RsDataReplyFrame}
 use Rattle.model.specs.Refusals.{done_with}
-use Rattle.primary_steps.specs.Core.{EndState, PrimaryState}
-use Rattle.primary_steps.specs.Transitions.{called, due, owed, sent_from}
+use Rattle.primary_protocol.specs.Core.{EndState, PrimaryState}
+use Rattle.primary_protocol.specs.Transitions.{called, due, owed, sent_from}
 
 -- whether a frame carries blocks
 abbrev pub carries_blocks : Packet → Bool

@@ -4,10 +4,10 @@ use Rattle.std.specs.List.{AllByRecursion}
 use Rattle.blocks.specs.declared.settings.Settings.{Settings}
 use Rattle.blocks.specs.declared.tuple.Tuple.{Tuple}
 use Rattle.blocks.specs.SettingsRange.{IsInRange}
-use Rattle.model.specs.Stream.{Item}
+use Rattle.model.specs.Stream.{StreamItem}
 use Rattle.overlap.specs.Holdings.{Holding, holding}
-use Rattle.primary_steps.specs.Core as core
-use Rattle.primary_steps.specs.Core.{EndState, PrimaryState}
+use Rattle.primary_protocol.specs.Core as core
+use Rattle.primary_protocol.specs.Core.{EndState, PrimaryState}
 use Rattle.primary_core.specs.Kept.{IsSound, IsWriter, owing}
 use Rattle.resync.specs.declared.under_way.UnderWay.{UnderWay}
 use Rattle.primary_core.specs.declared.connection.Connection.{Connection}
@@ -44,7 +44,7 @@ resync_in None = false
 resync_in (Some e) = e.resync
 
 -- the items of an end that were not sent, where one is open
-abbrev pub items_in : Option EndState → List Item
+abbrev pub items_in : Option EndState → List StreamItem
 items_in None = []
 items_in (Some e) = e.unsent
 

@@ -15,19 +15,19 @@ use Rattle.blocks.specs.declared.outcome.What.TheVariants as what
 use Rattle.blocks.specs.Ranges.{is_between}
 use Rattle.bitmap.specs.Marks.{marking}
 use Rattle.model.specs.Stream.{WriteItem}
-use Rattle.primary_steps.specs.Core.{Open, PrimaryState, stands, appending, following}
-use Rattle.primary_steps.specs.Transitions.{whole_blocks}
+use Rattle.primary_protocol.specs.Core.{Open, PrimaryState, is_established, appending, following}
+use Rattle.primary_protocol.specs.Transitions.{whole_blocks}
 
 -- the tests of a submission of such a range
 abbrev pub range_tests : ℕ → ℕ → PrimaryState → List Test
 range_tests first count s =
     let met = overlap.conflict first count s.held in
-    (not (stands s) && (s.tuple.bitmap == 0), NotConnected) ∷ (nat_le 1048576 s.log.accepted, JournalFull)
+    (not (is_established s) && (s.tuple.bitmap == 0), NotConnected) ∷ (nat_le 1048576 s.log.accepted, JournalFull)
     ∷ (nat_le s.settings.backlog (length s.log.writes), LogFull) ∷ (is_some met, Conflict (unwrap_or met 0)) ∷ (
       not (can_begin (extent_of first) s.activity),
       ActivityFull,
     )
-    ∷ (stands s && nat_le 4294967288 s.log.epochs.places, StreamFull) ∷ []
+    ∷ (is_established s && nat_le 4294967288 s.log.epochs.places, StreamFull) ∷ []
 
 -- what the tests say
 abbrev pub told_by : List Test → Result (Unit {0}) Refusal
@@ -56,7 +56,7 @@ taken_in first count bytes s =
 abbrev pub gone_out : Accepted → ℕ → ℕ → List ℕ → PrimaryState → Done × PrimaryState
 gone_out accepted first count bytes s =
     let item = WriteItem (record { number = accepted.number; first = first; contents = whole_blocks bytes }) in
-    elim (stands s) [
+    elim (is_established s) [
       | true ↦ following (what.Write accepted.number) accepted.barrier (appending (item ∷ []) s)
       | false ↦ following (what.Write accepted.number) None (record s { marks = marking (is_between first count) s.marks })
     ]

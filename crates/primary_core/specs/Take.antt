@@ -5,8 +5,8 @@ use Rattle.blocks.specs.declared.refusal.Refusal.{Refusal}
 use Rattle.blocks.specs.Identifiers.{sync_start}
 use Rattle.model.specs.Stream.{SyncUuidItem}
 use Rattle.transferlog.specs.Log as log
-use Rattle.primary_steps.specs.Core.{EndState, PrimaryState}
-use Rattle.primary_steps.specs.Taking.{Taken}
+use Rattle.primary_protocol.specs.Core.{EndState, PrimaryState}
+use Rattle.primary_protocol.specs.Taking.{Taken}
 
 -- a call's answer, with what it leaves
 abbrev pub taken_as : Result Done Refusal → PrimaryState → Taken

@@ -5,8 +5,8 @@ ghost use Rattle.transferlog.specs.Ring.{Each};
 ghost use Rattle.primary_core.specs.Kept.{IsInside};
 ghost use Rattle.blocks.specs.Identifiers.{lost};
 ghost use Rattle.primary_core.specs.Close.{without_stream};
-ghost use Rattle.primary_steps.specs.Core.{EndState, stands};
-ghost use Rattle.primary_steps.specs.Transitions.{close_end, closing, unreleased_blocks};
+ghost use Rattle.primary_protocol.specs.Core.{EndState, is_established};
+ghost use Rattle.primary_protocol.specs.Transitions.{close_end, closing, unreleased_blocks};
 
 use crate::state::PrimaryCore;
 use bitmap::Bitmap;
@@ -49,7 +49,7 @@ impl PrimaryCore {
 
     // The peer is lost: the data go on under this word, where the stream had begun.
     fn lose(&mut self, loss: u64)
-        ensures { self.new.state ≡ record self.old.state { tuple = if stands self.old.state then lost loss self.old.state.tuple else self.old.state.tuple } }
+        ensures { self.new.state ≡ record self.old.state { tuple = if is_established self.old.state then lost loss self.old.state.tuple else self.old.state.tuple } }
     {
         if self.log.connection().is_some() {
             self.generations.lost(loss);

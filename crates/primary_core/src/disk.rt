@@ -5,7 +5,7 @@ ghost use Rattle.transferlog.specs.Ring.{write_at};
 ghost use Rattle.transferlog.specs.Writes.{is_waiting};
 ghost use Rattle.transferlog.specs.declared.local.Local.TheVariants.{Waiting};
 ghost use Rattle.primary_core.specs.Local.{given_up};
-ghost use Rattle.primary_steps.specs.Transitions.{is_unfinished, local_done, local_fault};
+ghost use Rattle.primary_protocol.specs.Transitions.{is_unfinished, local_done, local_fault};
 
 use crate::entry::{Fate, set_fate};
 use crate::state::PrimaryCore;

@@ -1,7 +1,7 @@
 //! The journal: the outcome of each accepted write.
 ghost use Rattle.std.specs.Prelude.{◌≡◌, true};
 ghost use Rattle.primary_core.specs.Entries.{fate_as};
-ghost use Rattle.primary_steps.specs.Core.{with_entry};
+ghost use Rattle.primary_protocol.specs.Core.{with_entry};
 
 use blocks::StreamPosition;
 use std::marker::Model;
@@ -24,15 +24,15 @@ pub enum Fate {
 
 /// An accepted write as its caller asks for it.
 #[derive(Drop)]
-pub struct Entry {
+pub struct JournalEntry {
     pub(crate) first: u64,
     pub(crate) count: u64,
     pub(crate) fate: Fate,
     pub(crate) is_taken: bool,
 }
 
-impl Model for Entry {
-    ghost use Rattle.primary_steps.specs.Core.{Entry as Denoted};
+impl Model for JournalEntry {
+    ghost use Rattle.primary_protocol.specs.Core.{JournalEntry as Denoted};
 
     ghost Value = { Denoted };
 
@@ -41,7 +41,7 @@ impl Model for Entry {
     ghost view = { entry_of };
 }
 
-impl Entry {
+impl JournalEntry {
     /// Its first block.
     pub fn first(&self) -> u64
         ensures { result ≡ self.now.first }
@@ -65,7 +65,7 @@ impl Entry {
 }
 
 /// The receipt of a number was taken. A number that was never accepted changes nothing.
-pub(crate) fn set_taken(entries: &mut [Entry], number: u64)
+pub(crate) fn set_taken(entries: &mut [JournalEntry], number: u64)
     ensures { entries.new ≡ with_entry number (λ entry. record entry { taken = true }) entries.old }
 {
     if number == 0 {
@@ -79,7 +79,7 @@ pub(crate) fn set_taken(entries: &mut [Entry], number: u64)
 }
 
 /// The write of a number has this fate from now on. A number that was never accepted changes nothing.
-pub(crate) fn set_fate(entries: &mut [Entry], number: u64, fate: Fate)
+pub(crate) fn set_fate(entries: &mut [JournalEntry], number: u64, fate: Fate)
     ensures { entries.new ≡ with_entry number (λ entry. record entry { fate = fate_as fate }) entries.old }
 {
     if number == 0 {

@@ -1,9 +1,9 @@
-//! What a step of the log brings about: a barrier, and the end of a resync.
+//! Consequences of a step of the log: a barrier, and the end of a resync.
 ghost use Rattle.std.specs.Prelude.{◌≡◌, ◌≤◌, IfSome};
-ghost use Rattle.primary_steps.specs.Core.{following};
+ghost use Rattle.primary_protocol.specs.Core.{following};
 ghost use Rattle.primary_core.specs.Kept.{owing};
 
-use crate::item::Kind;
+use crate::item::ItemKind;
 use crate::state::PrimaryCore;
 use blocks::{Done, What};
 
@@ -17,7 +17,7 @@ impl PrimaryCore {
         self.report();
         let completed = self.first_completed();
         if let Some(number) = barrier {
-            self.append(Kind::Barrier(number));
+            self.append(ItemKind::Barrier(number));
         }
         let synced = self.is_over();
         if synced {

@@ -2,8 +2,8 @@
 ghost use Rattle.std.specs.Prelude.{◌≡◌, ◌≤◌, Some, None};
 ghost use Rattle.endpoint.specs.Meaning.{meaning};
 ghost use Rattle.primary_core.specs.Take.{taken_as};
-ghost use Rattle.primary_steps.specs.Core.{EndState, with_end};
-ghost use Rattle.primary_steps.specs.Taking.{begun_with, hearing, last_connection, meeting, taking_hello};
+ghost use Rattle.primary_protocol.specs.Core.{EndState, with_end};
+ghost use Rattle.primary_protocol.specs.Taking.{begun_with, hearing, last_connection, meeting, taking_hello};
 ghost use Rattle.transferlog.specs.Log.{connecting};
 
 use crate::state::PrimaryCore;

@@ -6,7 +6,7 @@ ghost use Rattle.model.specs.Frames.{command_of, frame_of};
 ghost use Rattle.model.specs.Stream.{is_write, number_of};
 ghost use Rattle.packets.specs.Spelling.{IsSpellable};
 ghost use Rattle.primary_core.specs.Send.{carries_blocks};
-ghost use Rattle.primary_steps.specs.Taking.{is_unsent};
+ghost use Rattle.primary_protocol.specs.Taking.{is_unsent};
 ghost use Rattle.primary_core.specs.Outbox.{barrier_of};
 
 use blocks::{Block, Command, Refusal, Tuple};
@@ -16,7 +16,7 @@ use std::marker::Model;
 
 /// What an item of the stream says.
 #[derive(Drop)]
-pub(crate) enum Kind {
+pub(crate) enum ItemKind {
     /// A write: its number, its first block and its bytes.
     Write(u64, Block, Bytes),
     /// A block of a resync, with its bytes.
@@ -31,12 +31,12 @@ pub(crate) enum Kind {
 
 /// An item of the stream that was not sent. Its bytes are shared with whoever else has them, and it has a spelling.
 #[derive(Drop)]
-pub(crate) struct Item {
-    pub(crate) kind: Kind,
+pub(crate) struct StreamItem {
+    pub(crate) kind: ItemKind,
 }
 
-impl Model for Item {
-    ghost use Rattle.model.specs.Stream.{Item as Denoted};
+impl Model for StreamItem {
+    ghost use Rattle.model.specs.Stream.{StreamItem as Denoted};
 
     ghost Value = { Denoted };
 
@@ -47,28 +47,28 @@ impl Model for Item {
     ghost invariant = { IsItem };
 }
 
-impl Item {
+impl StreamItem {
     /// Its packet, at this place of the stream. `NoMemory` (7) if its bytes cannot be shared.
     pub(crate) fn packet(&self, place: u32) -> Result<Packet, Refusal>
         ensures packet { IfOk result (λ p. (meaning p ≡ frame_of place self.now) × IsSpellable p) }
         ensures refused { IfErr result (λ e. e ≡ NoMemory) }
-        ensures starved { IfErr result (λ e. carries_blocks (frame_of place self.now) ≡ true) }
+        ensures out_of_memory { IfErr result (λ e. carries_blocks (frame_of place self.now) ≡ true) }
     {
         Ok(match &self.kind {
-            Kind::Write(number, first, contents) => Packet::Data {
+            ItemKind::Write(number, first, contents) => Packet::Data {
                 first: *first,
                 number: *number,
                 place,
                 contents: contents.clone()?,
             },
-            Kind::Resync(block, contents) => Packet::RsDataReply {
+            ItemKind::Resync(block, contents) => Packet::RsDataReply {
                 first: *block,
                 place,
                 contents: contents.clone()?,
             },
-            Kind::Barrier(number) => Packet::Barrier { number: *number },
-            Kind::SyncUuid(word) => Packet::SyncUuid { word: *word },
-            Kind::Uuids(tuple) => Packet::Uuids(*tuple),
+            ItemKind::Barrier(number) => Packet::Barrier { number: *number },
+            ItemKind::SyncUuid(word) => Packet::SyncUuid { word: *word },
+            ItemKind::Uuids(tuple) => Packet::Uuids(*tuple),
         })
     }
 
@@ -77,11 +77,11 @@ impl Item {
         ensures { (place : ℕ) → result ≡ command_of (frame_of place self.now) }
     {
         match &self.kind {
-            Kind::Write(..) => Command::Data,
-            Kind::Resync(..) => Command::RsDataReply,
-            Kind::Barrier(_) => Command::Barrier,
-            Kind::SyncUuid(_) => Command::SyncUuid,
-            Kind::Uuids(_) => Command::Uuids,
+            ItemKind::Write(..) => Command::Data,
+            ItemKind::Resync(..) => Command::RsDataReply,
+            ItemKind::Barrier(_) => Command::Barrier,
+            ItemKind::SyncUuid(_) => Command::SyncUuid,
+            ItemKind::Uuids(_) => Command::Uuids,
         }
     }
 
@@ -90,7 +90,7 @@ impl Item {
         ensures { result ≡ (if is_write self.now then Some (number_of self.now) else None) }
     {
         match &self.kind {
-            Kind::Write(number, ..) => Some(*number),
+            ItemKind::Write(number, ..) => Some(*number),
             _ => None,
         }
     }
@@ -100,7 +100,7 @@ impl Item {
         ensures { result ≡ barrier_of self.now }
     {
         match &self.kind {
-            Kind::Barrier(number) => Some(*number),
+            ItemKind::Barrier(number) => Some(*number),
             _ => None,
         }
     }
@@ -110,7 +110,7 @@ impl Item {
         ensures { result ≡ is_unsent epoch (self.now ∷ []) }
     {
         match &self.kind {
-            Kind::Barrier(number) => *number == epoch,
+            ItemKind::Barrier(number) => *number == epoch,
             _ => false,
         }
     }

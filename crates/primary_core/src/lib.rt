@@ -1,4 +1,4 @@
-//! What a primary is without its link and its disk: a state machine that takes and gives packets, numbers and shared bytes.
+//! A primary without its link and its disk: a state machine that takes and gives packets, numbers and shared bytes.
 #![tactic(auto)]
 
 mod close;
@@ -19,5 +19,5 @@ mod submit;
 mod take;
 mod usage;
 
-pub use entry::{Entry, Fate};
+pub use entry::{Fate, JournalEntry};
 pub use state::PrimaryCore;

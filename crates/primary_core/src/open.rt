@@ -1,9 +1,9 @@
 //! Opening a connection.
 ghost use Rattle.std.specs.Prelude.{◌≡◌, false};
 ghost use Rattle.blocks.specs.Identifiers.{are_fresh, is_fresh};
-ghost use Rattle.primary_core.specs.Starved.{is_starved};
+ghost use Rattle.primary_core.specs.OutOfMemory.{is_out_of_memory};
 ghost use Rattle.primary_core.specs.Submit.{told_by};
-ghost use Rattle.primary_steps.specs.Transitions.{known_tuples, open_end, open_tests};
+ghost use Rattle.primary_protocol.specs.Transitions.{known_tuples, open_end, open_tests};
 
 use crate::connection::Connection;
 use crate::outbox::Outbox;
@@ -20,7 +20,7 @@ impl PrimaryCore {
     /// tuple that is known, or both are one; `StreamFull` (6) if 4,294,967,295 connections were opened;
     /// else `NoMemory` (7) if there is no room for the SYNC_UUID and the UUIDS of a resync.
     pub fn open(&mut self, sync: u64, loss: u64) -> Result<(), Refusal>
-        ensures { (result, self.new.state) ≡ open_end sync loss (is_starved result) self.old.state }
+        ensures { (result, self.new.state) ≡ open_end sync loss (is_out_of_memory result) self.old.state }
     {
         self.may_open(sync, loss)?;
         let mut outbox = Outbox::new(self.alloc);

@@ -1,9 +1,9 @@
 //! The items of a stream that are due.
 ghost use Rattle.std.specs.Prelude.{ℕ, List, true, ◌≡◌, ◌+◌, ◌<◌, ◌≤◌, ◌∷◌, ◌++◌, [], length, slice_index_or, IsSome, IfSome, MatchOption, OnOk, ◌↔◌};
-ghost use Rattle.primary_steps.specs.Taking.{is_unsent};
+ghost use Rattle.primary_protocol.specs.Taking.{is_unsent};
 ghost use Rattle.primary_core.specs.Outbox.{run};
 
-use crate::item::Item;
+use crate::item::StreamItem;
 use std::alloc::{AllocError, Global};
 use std::collections::VecDeque;
 use std::marker::Model;
@@ -12,7 +12,7 @@ use std::marker::Model;
 /// while their numbers are consecutive, as those of a stream are.
 #[derive(Drop)]
 pub(crate) struct Outbox {
-    items: VecDeque<Item>,
+    items: VecDeque<StreamItem>,
     // How many barriers wait, and the number of the first of them.
     barriers: usize,
     first: u64,
@@ -53,7 +53,7 @@ impl Outbox {
     }
 
     /// The oldest item.
-    pub(crate) fn next(&self) -> Option<&Item>
+    pub(crate) fn next(&self) -> Option<&StreamItem>
         ensures variant { IsSome result ↔ (0 < length self.now.items) }
         ensures lookup { IfSome result (λ x. x.now ≡ slice_index_or self.now.items 0 x.now) }
     {
@@ -70,7 +70,7 @@ impl Outbox {
     }
 
     /// An item waits behind all others. It takes no memory.
-    pub(crate) fn push(&mut self, item: Item)
+    pub(crate) fn push(&mut self, item: StreamItem)
         requires { 0 < self.old.room }
         ensures items { self.new.items ≡ self.old.items ++ item ∷ [] }
         ensures room { self.new.room + 1 ≡ self.old.room }
@@ -85,7 +85,7 @@ impl Outbox {
     }
 
     /// The oldest item waits no more.
-    pub(crate) fn pop(&mut self) -> Option<Item>
+    pub(crate) fn pop(&mut self) -> Option<StreamItem>
         ensures items { MatchOption result ((self.old.items ≡ []) × (self.new.items ≡ [])) (λ item. self.old.items ≡ item ∷ self.new.items) }
         ensures room { self.old.room ≤ self.new.room }
     {
@@ -135,7 +135,7 @@ fn run_with(first: u64, count: usize, is_run: bool, number: u32) -> (u64, bool)
 }
 
 // Whether the barrier of this epoch is one of the items.
-fn is_among(items: &VecDeque<Item>, epoch: u32) -> bool
+fn is_among(items: &VecDeque<StreamItem>, epoch: u32) -> bool
     ensures { result ≡ is_unsent epoch items.now.items }
 {
     for index in 0..items.len() {

@@ -2,9 +2,9 @@
 ghost use Rattle.std.specs.Prelude.{◌≡◌, ◌-◌, false, true, if◌then◌else◌, length, replicate, slice_set};
 ghost use Rattle.std.specs.Option.{option_copied};
 ghost use Rattle.primary_core.specs.Entries.{is_unconfirmed};
-ghost use Rattle.primary_steps.specs.Transitions.{entry_at, is_given, take_completed, told};
+ghost use Rattle.primary_protocol.specs.Transitions.{entry_at, is_given, take_completed, told};
 
-use crate::entry::{Entry, Fate, set_taken};
+use crate::entry::{Fate, JournalEntry, set_taken};
 use crate::state::PrimaryCore;
 use blocks::Refusal;
 
@@ -14,7 +14,7 @@ impl PrimaryCore {
     /// `UnknownJob` (16) for a number that was never accepted, or whose receipt was taken;
     /// `NotCompleted` (9) if the write is open; `LocalFault` (8), once, where the local disk failed it. It
     /// takes no memory, and constant time.
-    pub fn take_completed(&mut self, number: u64) -> Result<Entry, Refusal>
+    pub fn take_completed(&mut self, number: u64) -> Result<JournalEntry, Refusal>
         ensures { (result, self.new.state) ≡ take_completed number self.old.state }
     {
         let told = told(self.entry(number));
@@ -30,7 +30,7 @@ impl PrimaryCore {
         ensures each { length self.old.confirmed ≡ length self.old.state.entries }
     {
         // There are as many flags as entries.
-        let _entries: &[Entry] = &self.entries;
+        let _entries: &[JournalEntry] = &self.entries;
         self.confirmed.fill(false);
     }
 
@@ -52,7 +52,7 @@ impl PrimaryCore {
     }
 
     /// The entry of a number, the first being 1.
-    pub fn entry(&self, number: u64) -> Option<&Entry>
+    pub fn entry(&self, number: u64) -> Option<&JournalEntry>
         ensures { option_copied result ≡ entry_at number self.now.state }
     {
         let index = number.checked_sub(1)?;
@@ -61,7 +61,7 @@ impl PrimaryCore {
 }
 
 // What a caller gets for an entry.
-fn told(found: Option<&Entry>) -> Result<Entry, Refusal>
+fn told(found: Option<&JournalEntry>) -> Result<JournalEntry, Refusal>
     ensures { result ≡ told (option_copied found.entry) }
 {
     let Some(entry) = found else {
@@ -73,7 +73,7 @@ fn told(found: Option<&Entry>) -> Result<Entry, Refusal>
     match entry.fate {
         Fate::Open => Err(Refusal::NotCompleted),
         Fate::Failed => Err(Refusal::LocalFault),
-        Fate::Completed { .. } => Ok(Entry {
+        Fate::Completed { .. } => Ok(JournalEntry {
             first: entry.first,
             count: entry.count,
             fate: entry.fate,
@@ -83,7 +83,7 @@ fn told(found: Option<&Entry>) -> Result<Entry, Refusal>
 }
 
 // Whether the receipt counts as taken by this answer.
-fn is_given(told: &Result<Entry, Refusal>) -> bool
+fn is_given(told: &Result<JournalEntry, Refusal>) -> bool
     ensures { result ≡ is_given told.now }
 {
     match told {

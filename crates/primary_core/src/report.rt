@@ -1,13 +1,13 @@
 //! Applying the completions and releases that the last log call reported.
 ghost use Rattle.std.specs.Prelude.{◌≡◌, ◌+◌, ◌≤◌, length, option_map, slice_get};
 ghost use Rattle.transferlog.specs.Log.{clears};
-ghost use Rattle.primary_steps.specs.Core.{entering, freeing, leaving, reporting, unmarking};
+ghost use Rattle.primary_protocol.specs.Core.{entering, freeing, leaving, reporting, unmarking};
 ghost use Rattle.std.specs.List.{AllByRecursion};
 ghost use Rattle.activitylog.specs.Activity.{ended};
 ghost use Rattle.model.specs.Contents.{extent_of};
 ghost use Rattle.primary_core.specs.Kept.{Cleared, LiesInside};
 
-use crate::entry::{Entry, Fate, set_fate};
+use crate::entry::{Fate, JournalEntry, set_fate};
 use crate::state::PrimaryCore;
 use activitylog::ActivityLog;
 use bitmap::Bitmap;
@@ -16,7 +16,7 @@ use overlap::Held;
 use transferlog::{Completed, Released, TransferLog};
 
 impl PrimaryCore {
-    /// What the log reports is put down: completions in the entries; what they held is free; releases leave
+    /// Applies what the last call of the log reported: completions go into the journal and free their ranges; releases leave
     /// the activity log and clear marks.
     pub(crate) fn report(&mut self)
         ensures state { self.new.state ≡ reporting self.old.state }
@@ -37,7 +37,7 @@ impl PrimaryCore {
     }
 }
 
-fn enter(completed: &[Completed], entries: &mut [Entry])
+fn enter(completed: &[Completed], entries: &mut [JournalEntry])
     ensures { entries.new ≡ entering completed.now entries.old }
 {
     for write in completed {

@@ -4,13 +4,13 @@ ghost use Rattle.endpoint.specs.Meaning.{meaning, named};
 ghost use Rattle.packets.specs.declared.packet.Packet.TheVariants as packet;
 ghost use Rattle.primary_core.specs.Kept.{barriers_due};
 ghost use Rattle.primary_core.specs.Resyncing.{resync_choice};
-ghost use Rattle.primary_core.specs.Starved.{is_starved};
+ghost use Rattle.primary_core.specs.OutOfMemory.{is_out_of_memory};
 ghost use Rattle.primary_core.specs.Take.{resyncing, taken_as};
-ghost use Rattle.primary_steps.specs.Core.{EndState, ending, is_over, stands};
-ghost use Rattle.primary_steps.specs.Taking.{names_block, taking_ack, without_block};
-ghost use Rattle.primary_steps.specs.Transitions.{copying, next_place};
+ghost use Rattle.primary_protocol.specs.Core.{EndState, ending, is_over, is_established};
+ghost use Rattle.primary_protocol.specs.Taking.{names_block, taking_ack, without_block};
+ghost use Rattle.primary_protocol.specs.Transitions.{copying, next_place};
 
-use crate::item::{Item, Kind};
+use crate::item::{ItemKind, StreamItem};
 use crate::state::PrimaryCore;
 use crate::submit::MOST_ITEMS;
 use blocks::{Block, Command, Done, Refusal, What};
@@ -21,7 +21,7 @@ use resync::{UnderWay, next};
 impl PrimaryCore {
     /// A resync begins in a stream that has begun, and the peer is told. It takes no memory.
     pub(crate) fn begin_resync(&mut self)
-        requires stands { stands self.old.state ≡ true }
+        requires is_established { is_established self.old.state ≡ true }
         requires places { self.old.state.log.epochs.places ≡ 0 }
         requires due { barriers_due self.old.state.log.epochs ≡ 0 }
         requires room { (e : EndState) → self.old.state.end ≡ Some e → 2 ≤ self.old.stream_room }
@@ -38,7 +38,7 @@ impl PrimaryCore {
             // SYNC_UUID is the first item of the stream.
             connection.outbox.clear();
         }
-        self.append(Kind::SyncUuid(word));
+        self.append(ItemKind::SyncUuid(word));
     }
 
     /// The block that the resync copies next: the lowest marked one that no open write has. There is room
@@ -48,7 +48,7 @@ impl PrimaryCore {
     /// is under way, or no marked block is free; `StreamFull` (6) if the stream has 4,294,967,288 items;
     /// else `NoMemory` (7) if there is no room.
     pub fn resync_block(&mut self) -> Result<Block, Refusal>
-        ensures block { MatchResult result (λ b. resync_choice false self.old.state ≡ Ok b.0) (λ e. resync_choice (is_starved result) self.old.state ≡ Err e) }
+        ensures block { MatchResult result (λ b. resync_choice false self.old.state ≡ Ok b.0) (λ e. resync_choice (is_out_of_memory result) self.old.state ≡ Err e) }
         ensures same { self.new.state ≡ self.old.state }
         ensures room { OnOk result (3 ≤ self.new.stream_room) }
         ensures log_room { OnOk result (0 < self.new.log_room) }
@@ -97,7 +97,7 @@ impl PrimaryCore {
                 epoch,
             });
         }
-        self.append(Kind::Resync(block, contents));
+        self.append(ItemKind::Resync(block, contents));
         self.follow(What::Block(block, place), None)
     }
 
@@ -164,6 +164,6 @@ impl PrimaryCore {
         if let Some(connection) = &mut self.connection {
             connection.resync.end();
         }
-        self.append(Kind::Uuids(self.generations.tuple));
+        self.append(ItemKind::Uuids(self.generations.tuple));
     }
 }

@@ -9,10 +9,10 @@ ghost use Rattle.primary_core.specs.Kept.{owing};
 ghost use Rattle.primary_core.specs.Send.{owes_blocks, sent_now};
 ghost use Rattle.primary_core.specs.State.{items_in};
 ghost use Rattle.handshakes.specs.Hello.{advanced};
-ghost use Rattle.primary_steps.specs.Core.{EndState, appending, with_end};
-ghost use Rattle.primary_steps.specs.Transitions.{due, next_place};
+ghost use Rattle.primary_protocol.specs.Core.{EndState, appending, with_end};
+ghost use Rattle.primary_protocol.specs.Transitions.{due, next_place};
 
-use crate::item::{Item, Kind};
+use crate::item::{ItemKind, StreamItem};
 use crate::state::PrimaryCore;
 use blocks::{Done, Refusal, What};
 use packets::Packet;
@@ -75,7 +75,7 @@ impl PrimaryCore {
     }
 
     // The first item that is due is due no more.
-    fn pop(&mut self) -> Option<Item>
+    fn pop(&mut self) -> Option<StreamItem>
         ensures item { result ≡ slice_get (items_in self.old.state.end) 0 }
         ensures state { self.new.state ≡ with_end (λ e. record e { unsent = drop 1 e.unsent }) self.old.state }
     {
@@ -108,14 +108,14 @@ impl PrimaryCore {
 
     /// An item comes due at the end of the stream, where a connection is open. Whatever its kind, it does so
     /// by this call. It takes no memory.
-    pub(crate) fn append(&mut self, kind: Kind)
+    pub(crate) fn append(&mut self, kind: ItemKind)
         requires sent { IsSent kind }
         requires room { (e : EndState) → self.old.state.end ≡ Some e → 1 + owing None (Some e) self.old.state.log ≤ self.old.stream_room }
         ensures state { self.new.state ≡ appending (item_as kind ∷ []) self.old.state }
         ensures room { self.old.stream_room ≤ 1 + self.new.stream_room }
     {
         match &mut self.connection {
-            Some(connection) => connection.outbox.push(Item { kind }),
+            Some(connection) => connection.outbox.push(StreamItem { kind }),
             None => drop(kind),
         }
     }

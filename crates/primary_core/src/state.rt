@@ -1,11 +1,11 @@
 //! The primary's state.
 ghost use Rattle.std.specs.Prelude.{◌≡◌, ◌⊎◌, IfOk, IfErr};
 ghost use Rattle.blocks.specs.declared.refusal.Refusal.TheVariants.{BadSetting, NoMemory};
-ghost use Rattle.primary_steps.specs.Core.{fresh};
+ghost use Rattle.primary_protocol.specs.Core.{fresh};
 ghost use Rattle.primary_core.specs.State.{CanBegin};
 
 use crate::connection::Connection;
-use crate::entry::Entry;
+use crate::entry::JournalEntry;
 use activitylog::ActivityLog;
 use bitmap::Bitmap;
 use blocks::{Refusal, Settings, Tuple};
@@ -34,7 +34,7 @@ pub struct PrimaryCore {
     pub(crate) peer: Option<Tuple>,
     pub(crate) connections: u32,
     pub(crate) log: TransferLog,
-    pub(crate) entries: Vec<Entry>,
+    pub(crate) entries: Vec<JournalEntry>,
     // For each entry whether its receipt was confirmed by the settlement under way. No history sees it.
     pub(crate) confirmed: Vec<bool>,
     pub(crate) marks: Bitmap,

@@ -6,13 +6,13 @@ ghost use Rattle.model.specs.Contents.{extent_of, is_range};
 ghost use Rattle.model.specs.Refusals.{first_refusal};
 ghost use Rattle.overlap.specs.Holdings.{conflict, holding, holding_too, is_held};
 ghost use Rattle.primary_core.specs.Kept.{owing};
-ghost use Rattle.primary_core.specs.Starved.{is_starved};
+ghost use Rattle.primary_core.specs.OutOfMemory.{is_out_of_memory};
 ghost use Rattle.primary_core.specs.Submit.{IsWhole, gone_out, range_tests, taken_in, told_by};
-ghost use Rattle.primary_steps.specs.Core.{EndState, stands};
-ghost use Rattle.primary_steps.specs.Transitions.{submit, whole_blocks};
+ghost use Rattle.primary_protocol.specs.Core.{EndState, is_established};
+ghost use Rattle.primary_protocol.specs.Transitions.{submit, whole_blocks};
 
-use crate::entry::{Entry, Fate};
-use crate::item::Kind;
+use crate::entry::{Fate, JournalEntry};
+use crate::item::ItemKind;
 use crate::state::PrimaryCore;
 use activitylog::ActivityLog;
 use blocks::{BLOCK_BYTES, Done, Range, Refusal, What};
@@ -37,7 +37,7 @@ impl PrimaryCore {
     /// extent is not active and cannot become so; `StreamFull` (6) if the stream has 4,294,967,288 items;
     /// else `NoMemory` (7) if there is no room for it, its barrier, its entry and its item.
     pub fn submit(&mut self, first: u64, bytes: &Bytes) -> Result<Done, Refusal>
-        ensures { (result, self.new.state) ≡ submit first bytes.now (is_starved result) self.old.state }
+        ensures { (result, self.new.state) ≡ submit first bytes.now (is_out_of_memory result) self.old.state }
     {
         let range = self.whole_range(first, bytes)?;
         self.may_submit(range)?;
@@ -65,8 +65,8 @@ impl PrimaryCore {
     fn may_submit(&self, range: Range) -> Result<(), Refusal>
         ensures { result ≡ told_by (range_tests range.first.0 range.count self.now.state) }
     {
-        let stands = self.log.connection().is_some();
-        if !stands && self.generations.tuple.bitmap == 0 {
+        let is_established = self.log.connection().is_some();
+        if !is_established && self.generations.tuple.bitmap == 0 {
             return Err(Refusal::NotConnected);
         }
         if self.log.accepted() >= MOST_WRITES {
@@ -79,7 +79,7 @@ impl PrimaryCore {
         if !self.activity.can_begin(range.first.extent()) {
             return Err(Refusal::ActivityFull);
         }
-        if stands && self.log.places() >= MOST_ITEMS {
+        if is_established && self.log.places() >= MOST_ITEMS {
             return Err(Refusal::StreamFull);
         }
         Ok(())
@@ -108,7 +108,7 @@ impl PrimaryCore {
         requires whole { length contents ≡ 4096 * range.count }
         requires tests { first_refusal (range_tests range.first.0 range.count self.old.state) ≡ None }
         ensures accepted { IfOk result (λ a. (a, self.new.state) ≡ taken_in range.first.0 range.count contents self.old.state) }
-        ensures room { IfOk result (λ a. stands self.new.state ≡ true → (e : EndState) → self.new.state.end ≡ Some e → 1 + owing a.barrier (Some e) self.new.state.log ≤ self.new.stream_room) }
+        ensures room { IfOk result (λ a. is_established self.new.state ≡ true → (e : EndState) → self.new.state.end ≡ Some e → 1 + owing a.barrier (Some e) self.new.state.log ≤ self.new.stream_room) }
         ensures refused { IfErr result (λ e. e ≡ NoMemory) }
         ensures unchanged { OnErr result (self.new.state ≡ self.old.state) }
     {
@@ -118,7 +118,7 @@ impl PrimaryCore {
         let number = self.log.accepted() + 1;
         begin(&mut self.held, &mut self.activity, number, range)?;
         let accepted = self.log.accept(range, contents)?;
-        self.entries.push_reserved(Entry {
+        self.entries.push_reserved(JournalEntry {
             first: range.first.0,
             count: range.count,
             fate: Fate::Open,
@@ -133,7 +133,7 @@ impl PrimaryCore {
         requires inside { range.first.0 + range.count ≤ self.old.state.settings.blocks }
         requires whole { length contents ≡ 4096 * range.count }
         requires numbered { 0 < accepted.number }
-        requires room { stands self.old.state ≡ true → (e : EndState) → self.old.state.end ≡ Some e → 1 + owing accepted.barrier (Some e) self.old.state.log ≤ self.old.stream_room }
+        requires room { is_established self.old.state ≡ true → (e : EndState) → self.old.state.end ≡ Some e → 1 + owing accepted.barrier (Some e) self.old.state.log ≤ self.old.stream_room }
         ensures { (result, self.new.state) ≡ gone_out accepted range.first.0 range.count contents self.old.state }
     {
         let what = What::Write(accepted.number);
@@ -141,7 +141,7 @@ impl PrimaryCore {
             self.marks.mark(range);
             return self.follow(what, None);
         }
-        self.append(Kind::Write(accepted.number, range.first, contents));
+        self.append(ItemKind::Write(accepted.number, range.first, contents));
         self.follow(what, accepted.barrier)
     }
 }

@@ -3,9 +3,9 @@ ghost use Rattle.std.specs.Prelude.{◌≡◌, ◌||◌, Some, None};
 ghost use Rattle.blocks.specs.declared.outcome.What.TheVariants as what;
 ghost use Rattle.endpoint.specs.Meaning.{named, received};
 ghost use Rattle.primary_core.specs.Take.{taken_as};
-ghost use Rattle.primary_steps.specs.Core.{EndState};
-ghost use Rattle.primary_steps.specs.Taking.{answered, confirmed, is_in_epoch, is_unsent, take_at, taking};
-ghost use Rattle.primary_steps.specs.Taking.{named as asked};
+ghost use Rattle.primary_protocol.specs.Core.{EndState};
+ghost use Rattle.primary_protocol.specs.Taking.{answered, confirmed, is_in_epoch, is_unsent, take_at, taking};
+ghost use Rattle.primary_protocol.specs.Taking.{named as asked};
 
 use crate::state::PrimaryCore;
 use blocks::{Command, Done, Refusal, What};

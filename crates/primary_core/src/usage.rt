@@ -4,9 +4,9 @@ ghost use Rattle.epochs.specs.Epochs.{unacknowledged};
 ghost use Rattle.transferlog.specs.Writes.{is_open, is_unanswered};
 ghost use Rattle.bitmap.specs.Marks.{count, marked};
 ghost use Rattle.primary_core.specs.State.{items_in, resync_in, way_in, way_of};
-ghost use Rattle.primary_steps.specs.Core.{stands};
+ghost use Rattle.primary_protocol.specs.Core.{is_established};
 
-use crate::entry::Entry;
+use crate::entry::JournalEntry;
 use crate::state::PrimaryCore;
 use bitmap::Bitmap;
 use blocks::{Block, Settings, Tuple};
@@ -49,8 +49,8 @@ impl PrimaryCore {
     }
 
     /// Whether the stream has begun: the hello is done.
-    pub fn stands(&self) -> bool
-        ensures { result ≡ stands self.now.state }
+    pub fn is_established(&self) -> bool
+        ensures { result ≡ is_established self.now.state }
     {
         self.log.connection().is_some()
     }
@@ -83,7 +83,7 @@ impl PrimaryCore {
     }
 
     /// The accepted writes by number, the first being 1.
-    pub fn entries(&self) -> &[Entry]
+    pub fn entries(&self) -> &[JournalEntry]
         ensures { result.now ≡ self.now.state.entries }
     {
         &self.entries

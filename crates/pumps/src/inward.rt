@@ -6,7 +6,7 @@ ghost use Rattle.pumps.specs.Carried.{IsCarriedIn, PushesBytes};
 
 use crate::{Buffer, PumpEnd};
 use bell::Bell;
-use ruled_link::{Moment, PIECE_BYTES, Piece, PieceOut};
+use ruled_link::{PIECE_BYTES, Piece, PieceOut, RingInvariant};
 use std::io::{ErrorKind, Read};
 use std::sync::Wait;
 use std::sync::atomic::{AtomicBool, Ordering};
@@ -16,7 +16,7 @@ use std::time::Clock;
 /// connection, until it is stopped, the input ends or a read fails. One read takes up to 64 KiB. It rings
 /// `work` after each piece. If the row is full it asks again, and a stop then leaves what was not pushed. It
 /// neither closes nor drops the reader: whoever runs it does, and tells of its end. It takes no memory.
-pub fn pump_in<R: Wait + Clock, M: Moment, D: Read>(
+pub fn pump_in<R: Wait + Clock, M: RingInvariant, D: Read>(
     rt: &R,
     row: &mut PieceOut<R, M>,
     reader: &mut D,
@@ -67,7 +67,7 @@ fn read_once<R: Wait, D: Read>(rt: &R, reader: &mut D, buffer: &mut Buffer) -> R
 }
 
 /// Pushes the bytes, and returns how many it pushed: all, or fewer if it was stopped at a full row.
-fn push_all<R: Wait + Clock, M: Moment>(
+fn push_all<R: Wait + Clock, M: RingInvariant>(
     rt: &R,
     row: &mut PieceOut<R, M>,
     bytes: &[u8],
@@ -100,7 +100,7 @@ fn push_all<R: Wait + Clock, M: Moment>(
 }
 
 /// Pushes a piece from the front of the bytes, and returns how many it pushed: none if the row was full.
-fn push_once<R: Wait, M: Moment>(row: &mut PieceOut<R, M>, bytes: &[u8]) -> usize
+fn push_once<R: Wait, M: RingInvariant>(row: &mut PieceOut<R, M>, bytes: &[u8]) -> usize
     requires { 0 < length bytes.now }
     ensures within { result ≤ length bytes.now }
     ensures pushed { PushesBytes row.old row.new (take result bytes.now) }

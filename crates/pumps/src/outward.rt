@@ -6,7 +6,7 @@ ghost use Rattle.pumps.specs.Carried.{IsCarriedOut, PopsBytes};
 
 use crate::{Buffer, PumpEnd};
 use bell::Bell;
-use ruled_link::{Moment, PIECE_BYTES, PieceIn};
+use ruled_link::{PIECE_BYTES, PieceIn, RingInvariant};
 use std::io::{ErrorKind, Write};
 use std::sync::Wait;
 use std::sync::atomic::{AtomicBool, Ordering};
@@ -16,7 +16,7 @@ use std::time::Clock;
 /// carries as many pieces as the row has, up to 64 KiB. It looks at `stop` only when all that it popped is
 /// written, and waits on `work` while the row is empty. It neither closes nor drops the writer: whoever runs
 /// it does, and tells of its end. It takes no memory.
-pub fn pump_out<R: Wait + Clock, M: Moment, W: Write>(
+pub fn pump_out<R: Wait + Clock, M: RingInvariant, W: Write>(
     rt: &R,
     row: &mut PieceIn<R, M>,
     writer: &mut W,
@@ -50,7 +50,7 @@ pub fn pump_out<R: Wait + Clock, M: Moment, W: Write>(
 }
 
 /// Fills the buffer with the bytes of the pieces that the row has, while there is room for a whole one.
-fn gather<R: Wait, M: Moment>(row: &mut PieceIn<R, M>, buffer: &mut Buffer)
+fn gather<R: Wait, M: RingInvariant>(row: &mut PieceIn<R, M>, buffer: &mut Buffer)
     ensures popped { PopsBytes row.old row.new buffer.new }
     ensures empty { buffer.new ≡ [] → WasEmpty M.holds row.new.pieces }
 {

@@ -1,4 +1,4 @@
-//! What block clients ask of a device: blocks to read, ranges to write, and flushes.
+//! Requests of block clients, done over a device: reads, writes with their receipts, and flushes.
 #![tactic(auto)]
 
 mod complete;

@@ -5,8 +5,8 @@ ghost use Rattle.ruled_link.specs.Inward.{unused_in};
 ghost use Rattle.ruled_link.specs.Joined.{IsJoined};
 ghost use Rattle.ruled_link.specs.Outward.{unused_out};
 
-use crate::pieces::{join_pieces, watched_row};
-use crate::{Moment, RuledIn, RuledOut, Unwatched};
+use crate::pieces::{join_pieces, row_with_invariant};
+use crate::{NoInvariant, RingInvariant, RuledIn, RuledOut};
 use blocks::Refusal;
 use std::alloc::Global;
 use std::sync::Wait;
@@ -27,11 +27,11 @@ pub fn ruled<R: Wait + Copy>(
     ensures room { IfOk result (λ ends. ends.0.row.slots ≡ 94 * link) }
     ensures refused { IfErr result (λ e. e ≡ NoMemory) }
 {
-    watched::<R, Unwatched>(rt, alloc, link)
+    with_invariant::<R, NoInvariant>(rt, alloc, link)
 }
 
-/// One direction of a link, as `ruled` makes it, of the moments of whose row a fact is kept.
-pub fn watched<R: Wait + Copy, M: Moment>(
+/// Like `ruled`, with the invariant `M` kept over the row.
+pub fn with_invariant<R: Wait + Copy, M: RingInvariant>(
     rt: R,
     alloc: Global,
     link: u32,
@@ -43,13 +43,13 @@ pub fn watched<R: Wait + Copy, M: Moment>(
     ensures room { IfOk result (λ ends. ends.0.row.slots ≡ 94 * link) }
     ensures refused { IfErr result (λ e. e ≡ NoMemory) }
 {
-    let (outward, inward) = watched_row::<R, M>(rt, alloc, FRAME_PIECES * link as usize)?;
+    let (outward, inward) = row_with_invariant::<R, M>(rt, alloc, FRAME_PIECES * link as usize)?;
     Ok((RuledOut::new(outward), RuledIn::new(alloc, inward)?))
 }
 
 /// The two ends of one direction, as they were: whoever holds both knows that on each connection the frames
 /// taken begin the frames sent. It takes no memory.
-pub fn join_ends<R: Wait, M: Moment>(
+pub fn join_ends<R: Wait, M: RingInvariant>(
     outward: RuledOut<R, M>,
     inward: RuledIn<R, M>,
 ) -> (RuledOut<R, M>, RuledIn<R, M>)

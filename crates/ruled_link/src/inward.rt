@@ -9,7 +9,7 @@ ghost use Rattle.blocks.specs.declared.refusal.Refusal.TheVariants.{NoMemory, No
 
 use crate::gathered::Gathered;
 use crate::rest::Rest;
-use crate::{Moment, Piece, PieceIn, Unwatched};
+use crate::{NoInvariant, Piece, PieceIn, RingInvariant};
 use blocks::Refusal;
 use link::{FrameIn, Trail};
 use packets::Frame;
@@ -20,7 +20,7 @@ use std::sync::Wait;
 /// The taking end of one direction of a link whose two ends may be in two threads. It puts frames together
 /// from pieces that are cut in any way.
 #[derive(Drop)]
-pub struct RuledIn<R: Wait, M: Moment = Unwatched> {
+pub struct RuledIn<R: Wait, M: RingInvariant = NoInvariant> {
     pub(crate) pieces: PieceIn<R, M>,
     pub(crate) number: u32,
     pub(crate) taken: Trail,
@@ -30,7 +30,7 @@ pub struct RuledIn<R: Wait, M: Moment = Unwatched> {
     pub(crate) rest: Option<Rest>,
 }
 
-impl<R: Wait, M: Moment> Model for RuledIn<R, M> {
+impl<R: Wait, M: RingInvariant> Model for RuledIn<R, M> {
     ghost use Rattle.ruled_link.specs.Inward.{InwardState, Takes, inward_state};
 
     ghost Value = { InwardState };
@@ -40,7 +40,7 @@ impl<R: Wait, M: Moment> Model for RuledIn<R, M> {
     ghost invariant = { λ e. Takes (inward_state e.pieces e.taken.went e.number e.front e.rest) };
 }
 
-impl<R: Wait, M: Moment> RuledIn<R, M> {
+impl<R: Wait, M: RingInvariant> RuledIn<R, M> {
     /// An end that pops its pieces here, on a first connection. `NoMemory` (7) where the buffer for the
     /// longest frame cannot be had.
     pub fn new(alloc: Global, pieces: PieceIn<R, M>) -> Result<RuledIn<R, M>, Refusal>
@@ -135,7 +135,7 @@ impl<R: Wait, M: Moment> RuledIn<R, M> {
     }
 }
 
-impl<R: Wait, M: Moment> FrameIn for RuledIn<R, M> {
+impl<R: Wait, M: RingInvariant> FrameIn for RuledIn<R, M> {
     ghost state = { λ e. taking e };
 
     fn ready(&mut self) -> Result<(), Refusal>

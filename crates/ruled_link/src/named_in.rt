@@ -7,7 +7,7 @@ ghost use Rattle.ruled_link.specs.Inward.{in_hand, is_later, taking, taking_anew
 ghost use Rattle.ruled_link.specs.Names.{row_of};
 ghost use Rattle.blocks.specs.declared.refusal.Refusal.TheVariants.{NoMemory, NothingThere};
 
-use crate::{Moment, Named, RuledIn, Unwatched};
+use crate::{Named, NoInvariant, RingInvariant, RuledIn};
 use blocks::Refusal;
 use link::FrameIn;
 use packets::Frame;
@@ -16,12 +16,12 @@ use std::sync::Wait;
 
 /// The taking end of the direction that has this name, which no call changes.
 #[derive(Drop)]
-pub struct NamedIn<R: Wait, N: Named, M: Moment = Unwatched> {
+pub struct NamedIn<R: Wait, N: Named, M: RingInvariant = NoInvariant> {
     end: RuledIn<R, M>,
     of: PhantomData<N>,
 }
 
-impl<R: Wait, N: Named, M: Moment> Model for NamedIn<R, N, M> {
+impl<R: Wait, N: Named, M: RingInvariant> Model for NamedIn<R, N, M> {
     ghost use Rattle.std.specs.Prelude.{◌≡◌};
     ghost use Rattle.ruled_link.specs.Names.{row_of};
     ghost use Rattle.ruled_link.specs.Inward.{InwardState};
@@ -33,7 +33,7 @@ impl<R: Wait, N: Named, M: Moment> Model for NamedIn<R, N, M> {
     ghost invariant = { λ e. e.end.row ≡ row_of N.link N.direction };
 }
 
-impl<R: Wait, M: Moment> RuledIn<R, M> {
+impl<R: Wait, M: RingInvariant> RuledIn<R, M> {
     /// The end under the name of its direction.
     pub fn named<N: Named>(self) -> NamedIn<R, N, M>
         requires { self.row ≡ row_of N.link N.direction }
@@ -46,7 +46,7 @@ impl<R: Wait, M: Moment> RuledIn<R, M> {
     }
 }
 
-impl<R: Wait, N: Named, M: Moment> NamedIn<R, N, M> {
+impl<R: Wait, N: Named, M: RingInvariant> NamedIn<R, N, M> {
     /// The end without its name.
     pub fn into_end(self) -> RuledIn<R, M>
         ensures same { result ≡ self }
@@ -56,7 +56,7 @@ impl<R: Wait, N: Named, M: Moment> NamedIn<R, N, M> {
     }
 }
 
-impl<R: Wait, N: Named, M: Moment> FrameIn for NamedIn<R, N, M> {
+impl<R: Wait, N: Named, M: RingInvariant> FrameIn for NamedIn<R, N, M> {
     ghost state = { λ e. taking e };
 
     fn ready(&mut self) -> Result<(), Refusal>

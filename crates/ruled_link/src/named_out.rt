@@ -5,7 +5,7 @@ ghost use Rattle.ruled_link.specs.Moments.{WasFull};
 ghost use Rattle.ruled_link.specs.Names.{row_of};
 ghost use Rattle.ruled_link.specs.Outward.{sending, sending_anew, with_part, with_sent};
 
-use crate::{Moment, Named, RuledOut, Unwatched};
+use crate::{Named, NoInvariant, RingInvariant, RuledOut};
 use link::{FrameOut, Offered};
 use packets::Frame;
 use std::marker::{Model, PhantomData};
@@ -13,12 +13,12 @@ use std::sync::Wait;
 
 /// The sending end of the direction that has this name, which no call changes.
 #[derive(Drop)]
-pub struct NamedOut<R: Wait, N: Named, M: Moment = Unwatched> {
+pub struct NamedOut<R: Wait, N: Named, M: RingInvariant = NoInvariant> {
     end: RuledOut<R, M>,
     of: PhantomData<N>,
 }
 
-impl<R: Wait, N: Named, M: Moment> Model for NamedOut<R, N, M> {
+impl<R: Wait, N: Named, M: RingInvariant> Model for NamedOut<R, N, M> {
     ghost use Rattle.std.specs.Prelude.{◌≡◌};
     ghost use Rattle.ruled_link.specs.Names.{row_of};
     ghost use Rattle.ruled_link.specs.Outward.{OutwardState};
@@ -30,7 +30,7 @@ impl<R: Wait, N: Named, M: Moment> Model for NamedOut<R, N, M> {
     ghost invariant = { λ e. e.end.row ≡ row_of N.link N.direction };
 }
 
-impl<R: Wait, M: Moment> RuledOut<R, M> {
+impl<R: Wait, M: RingInvariant> RuledOut<R, M> {
     /// The end under the name of its direction.
     pub fn named<N: Named>(self) -> NamedOut<R, N, M>
         requires { self.row ≡ row_of N.link N.direction }
@@ -43,7 +43,7 @@ impl<R: Wait, M: Moment> RuledOut<R, M> {
     }
 }
 
-impl<R: Wait, N: Named, M: Moment> NamedOut<R, N, M> {
+impl<R: Wait, N: Named, M: RingInvariant> NamedOut<R, N, M> {
     /// The end without its name.
     pub fn into_end(self) -> RuledOut<R, M>
         ensures same { result ≡ self }
@@ -53,7 +53,7 @@ impl<R: Wait, N: Named, M: Moment> NamedOut<R, N, M> {
     }
 }
 
-impl<R: Wait, N: Named, M: Moment> FrameOut for NamedOut<R, N, M> {
+impl<R: Wait, N: Named, M: RingInvariant> FrameOut for NamedOut<R, N, M> {
     ghost state = { λ e. sending e };
 
     fn offer(&mut self, frame: Frame) -> Result<(), Offered>

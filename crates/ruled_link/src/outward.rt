@@ -4,7 +4,7 @@ ghost use Rattle.packets.specs.Cutting.{IsCut};
 ghost use Rattle.ruled_link.specs.Moments.{WasFull};
 ghost use Rattle.ruled_link.specs.Outward.{IsPushed, sending, sending_anew, unused_out, with_part, with_sent};
 
-use crate::{Moment, PIECE_BYTES, PieceOut, Unwatched};
+use crate::{NoInvariant, PIECE_BYTES, PieceOut, RingInvariant};
 use link::{FrameOut, Offered, Trail};
 use packets::Frame;
 use std::marker::Model;
@@ -13,7 +13,7 @@ use std::sync::Wait;
 /// The sending end of one direction of a link whose two ends may be in two threads. A frame goes as pieces of
 /// 1,400 bytes, the last of them shorter, and is sent once its last piece is pushed.
 #[derive(Drop)]
-pub struct RuledOut<R: Wait, M: Moment = Unwatched> {
+pub struct RuledOut<R: Wait, M: RingInvariant = NoInvariant> {
     pub(crate) pieces: PieceOut<R, M>,
     pub(crate) number: u32,
     pub(crate) sent: Trail,
@@ -22,7 +22,7 @@ pub struct RuledOut<R: Wait, M: Moment = Unwatched> {
     pub(crate) pushed: usize,
 }
 
-impl<R: Wait, M: Moment> Model for RuledOut<R, M> {
+impl<R: Wait, M: RingInvariant> Model for RuledOut<R, M> {
     ghost use Rattle.ruled_link.specs.Outward.{OutwardState, Sends, outward_state};
 
     ghost Value = { OutwardState };
@@ -32,7 +32,7 @@ impl<R: Wait, M: Moment> Model for RuledOut<R, M> {
     ghost invariant = { λ e. Sends (outward_state e.pieces e.sent.went e.number e.part.went.frames) e.pushed };
 }
 
-impl<R: Wait, M: Moment> RuledOut<R, M> {
+impl<R: Wait, M: RingInvariant> RuledOut<R, M> {
     /// An end that pushes its pieces here, on a first connection.
     pub fn new(pieces: PieceOut<R, M>) -> RuledOut<R, M>
         requires { pieces.pieces ≡ [] }
@@ -48,7 +48,7 @@ impl<R: Wait, M: Moment> RuledOut<R, M> {
     }
 }
 
-impl<R: Wait, M: Moment> FrameOut for RuledOut<R, M> {
+impl<R: Wait, M: RingInvariant> FrameOut for RuledOut<R, M> {
     ghost state = { λ e. sending e };
 
     fn offer(&mut self, frame: Frame) -> Result<(), Offered>
@@ -85,7 +85,7 @@ impl<R: Wait, M: Moment> FrameOut for RuledOut<R, M> {
 
 /// Pushes the bytes from a place on as pieces of a connection, until the row is full or they are through, and
 /// answers how far it came.
-fn push_from<R: Wait, M: Moment>(
+fn push_from<R: Wait, M: RingInvariant>(
     pieces: &mut PieceOut<R, M>,
     number: u32,
     bytes: &[u8],

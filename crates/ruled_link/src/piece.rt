@@ -1,4 +1,4 @@
-//! What goes over the link as one: part of a frame, or of several.
+//! Pieces, the units that go over the link: part of a frame, or of several.
 ghost use Rattle.std.specs.Prelude.{◌≡◌, ◌<◌, ◌≤◌, length};
 
 use std::marker::Model;

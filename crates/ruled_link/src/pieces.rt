@@ -7,7 +7,7 @@ ghost use Rattle.ruled_link.specs.Inward.{IsDropped};
 
 use crate::sheet::Sheet;
 use crate::stock::{Returns, Stock};
-use crate::{Moment, Piece, Unwatched};
+use crate::{NoInvariant, Piece, RingInvariant};
 use crossbeam_queue::protocol::{Join, Lesson, Outcome, Protocol, Split};
 use crossbeam_queue::{Pass, RuledArrayQueue};
 use std::alloc::{AllocError, Global};
@@ -24,11 +24,11 @@ pub struct Log {
 }
 
 /// The rule of a row of whose moments a fact is kept.
-struct InOrder<M: Moment> {
+struct InOrder<M: RingInvariant> {
     of: PhantomData<M>,
 }
 
-impl<M: Moment> Protocol<Sheet, Log> for InOrder<M> {
+impl<M: RingInvariant> Protocol<Sheet, Log> for InOrder<M> {
     ghost use Rattle.std.specs.Prelude.{true, []};
     ghost use Rattle.ruled_link.specs.Row.{log};
     ghost use Rattle.ruled_link.specs.Row as row;
@@ -67,35 +67,35 @@ impl Lesson<Sheet, Log> for Whole {
     ghost fact = { λ v pieces. v.pushed ≡ v.taken ++ pieces };
 }
 
-struct Pushed<M: Moment> {
+struct Pushed<M: RingInvariant> {
     of: PhantomData<M>,
 }
 
-impl<M: Moment> Outcome<Sheet, Log> for Pushed<M> {
+impl<M: RingInvariant> Outcome<Sheet, Log> for Pushed<M> {
     ghost use Rattle.std.specs.Prelude.{◌≡◌, [], ◌∷◌, ◌++◌};
     ghost use Rattle.ruled_link.specs.Row.{log};
 
     ghost then = { λ v x w. w ≡ log v.pushes v.takes (v.pushed ++ x ∷ []) v.taken };
 }
 
-impl<M: Moment> Lesson<Sheet, Log> for Pushed<M> {
+impl<M: RingInvariant> Lesson<Sheet, Log> for Pushed<M> {
     ghost use Rattle.ruled_link.specs.Row.{PushedAt};
 
     ghost fact = { λ v pieces. PushedAt M.holds v.pushed pieces };
 }
 
-struct Taken<M: Moment> {
+struct Taken<M: RingInvariant> {
     of: PhantomData<M>,
 }
 
-impl<M: Moment> Outcome<Sheet, Log> for Taken<M> {
+impl<M: RingInvariant> Outcome<Sheet, Log> for Taken<M> {
     ghost use Rattle.std.specs.Prelude.{◌≡◌, [], ◌∷◌, ◌++◌};
     ghost use Rattle.ruled_link.specs.Row.{log};
 
     ghost then = { λ v x w. w ≡ log v.pushes v.takes v.pushed (v.taken ++ x ∷ []) };
 }
 
-impl<M: Moment> Lesson<Sheet, Log> for Taken<M> {
+impl<M: RingInvariant> Lesson<Sheet, Log> for Taken<M> {
     ghost use Rattle.std.specs.Prelude.{◌++◌};
 
     ghost fact = { λ v pieces. M.holds (v.taken ++ pieces) v.taken };
@@ -105,14 +105,14 @@ type Row<M> = RuledArrayQueue<Sheet, Log, InOrder<M>>;
 
 /// The end of a row that pushes.
 #[derive(Drop)]
-pub struct PieceOut<R: Wait, M: Moment = Unwatched> {
+pub struct PieceOut<R: Wait, M: RingInvariant = NoInvariant> {
     rt: R,
     row: Arc<Row<M>, Global>,
     pass: Pass<Sheet, Log>,
     stock: Stock,
 }
 
-impl<R: Wait, M: Moment> Model for PieceOut<R, M> {
+impl<R: Wait, M: RingInvariant> Model for PieceOut<R, M> {
     ghost use Rattle.std.specs.Prelude.{◌≡◌, true, false, []};
     ghost use Rattle.crossbeam_queue.specs.Passes as passes;
     ghost use Rattle.ruled_link.specs.Pieces.{EndState};
@@ -128,14 +128,14 @@ impl<R: Wait, M: Moment> Model for PieceOut<R, M> {
 
 /// The end of a row that takes.
 #[derive(Drop)]
-pub struct PieceIn<R: Wait, M: Moment = Unwatched> {
+pub struct PieceIn<R: Wait, M: RingInvariant = NoInvariant> {
     rt: R,
     row: Arc<Row<M>, Global>,
     pass: Pass<Sheet, Log>,
     returns: Returns,
 }
 
-impl<R: Wait, M: Moment> Model for PieceIn<R, M> {
+impl<R: Wait, M: RingInvariant> Model for PieceIn<R, M> {
     ghost use Rattle.std.specs.Prelude.{◌≡◌, true, false, []};
     ghost use Rattle.crossbeam_queue.specs.Passes as passes;
     ghost use Rattle.ruled_link.specs.Pieces.{EndState};
@@ -159,11 +159,11 @@ pub fn row<R: Wait + Copy>(
     ensures ends { IfOk result (λ ends. (ends.0.pieces ≡ []) × (ends.1.pieces ≡ []) × (ends.0.row ≡ ends.1.row)) }
     ensures room { IfOk result (λ ends. ends.0.row.slots ≡ capacity) }
 {
-    watched_row::<R, Unwatched>(rt, alloc, capacity)
+    row_with_invariant::<R, NoInvariant>(rt, alloc, capacity)
 }
 
-/// A row for `capacity` pieces that keeps a fact about each moment, and its two ends.
-pub fn watched_row<R: Wait + Copy, M: Moment>(
+/// Like `row`, with the invariant `M` kept.
+pub fn row_with_invariant<R: Wait + Copy, M: RingInvariant>(
     rt: R,
     alloc: Global,
     capacity: usize,
@@ -194,7 +194,7 @@ pub fn watched_row<R: Wait + Copy, M: Moment>(
     ))
 }
 
-impl<R: Wait, M: Moment> PieceOut<R, M> {
+impl<R: Wait, M: RingInvariant> PieceOut<R, M> {
     /// Pushes a piece at the end of the row, or hands it back where the row was full at some moment of the
     /// call. It takes no memory.
     #[inline]
@@ -237,7 +237,7 @@ impl<R: Wait, M: Moment> PieceOut<R, M> {
     }
 }
 
-impl<R: Wait, M: Moment> PieceIn<R, M> {
+impl<R: Wait, M: RingInvariant> PieceIn<R, M> {
     /// Takes the first piece of the row, or nothing where the row was empty at some moment of the call. It
     /// takes no memory.
     #[inline]
@@ -297,7 +297,7 @@ impl<R: Wait, M: Moment> PieceIn<R, M> {
 
 /// The two ends of one row, as they were: whoever holds both knows that the pieces taken begin the pieces
 /// pushed. It takes no memory.
-pub fn join_pieces<R: Wait, M: Moment>(
+pub fn join_pieces<R: Wait, M: RingInvariant>(
     outward: PieceOut<R, M>,
     inward: PieceIn<R, M>,
 ) -> (PieceOut<R, M>, PieceIn<R, M>)

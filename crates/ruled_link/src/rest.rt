@@ -1,4 +1,4 @@
-//! What is left of a piece.
+//! The rest of a piece that was taken in part.
 ghost use Rattle.std.specs.Prelude.{◌≡◌, ◌<◌, ◌≤◌, drop, length};
 
 use crate::Piece;

@@ -1,4 +1,4 @@
-//! What a row holds in each of its slots.
+//! Sheets, the contents of the slots of a row.
 ghost use Rattle.std.specs.Prelude.{◌≡◌, ◌<◌, ◌≤◌, IfOk, length};
 
 use crate::Piece;

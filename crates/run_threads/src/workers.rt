@@ -137,7 +137,7 @@ fn write_turns(
     Ok(receipts)
 }
 
-// Cuts the link and reconnects it, so many times.
+// Cuts the link and reconnects it, `cuts` times.
 fn cut_all<R: Wait + Clock>(rt: &R, mirror: &impl Device, cuts: u32) -> Result<(), Refusal> {
     for round in 1..=cuts {
         mirror.cut();

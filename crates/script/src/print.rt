@@ -1,4 +1,4 @@
-//! What a script's commands print.
+//! Printing the results of a script's commands.
 use blocks::{Done, Refusal, Reply, What};
 use std::io::{self, Write};
 

@@ -11,23 +11,23 @@ use Rattle.blocks.specs.declared.outcome.What.TheVariants as what
 use Rattle.model.specs.Frames.{Packet}
 use Rattle.model.specs.Pair.{peer_fault_kept}
 use Rattle.model.specs.Secondary.{SecondaryHistory}
-use Rattle.model.specs.Stream.{Item, contents_of, first_of, below, within}
+use Rattle.model.specs.Stream.{StreamItem, contents_of, first_of, below, within}
 use Rattle.model.specs.Refusals.{done_with}
 use Rattle.model.specs.LocalRuns.{Applies, FailsToApply}
-use Rattle.endpoint.specs.Outgoing.{OutgoingState}
-use Rattle.secondary_steps.specs.Core.{EndState, SecondaryState, applied, failing, start}
-use Rattle.secondary_steps.specs.Node.{IsStep, NodeState, NodeSteps, secondary_step}
-use Rattle.secondary_steps.specs.Steps.{replied}
-use Rattle.secondary_steps.proofs.Node.Applies.{applies-due, node-applies, node-fails}
-use Rattle.secondary_steps.proofs.Node.Faults.{node-fails-kept}
-use Rattle.secondary_steps.proofs.Node.Laid.{LaidAt, kept-laid, torn-laid, torn_offsets, whole-laid}
-use Rattle.secondary_steps.proofs.Node.Runs.{node-had}
-use Rattle.secondary_steps.proofs.Node.Sized.{disk-long}
+use Rattle.endpoint.specs.PacketSender.{PacketSenderState}
+use Rattle.secondary_protocol.specs.Core.{EndState, SecondaryState, applied, failing, start}
+use Rattle.secondary_protocol.specs.Node.{IsStep, NodeState, NodeSteps, secondary_step}
+use Rattle.secondary_protocol.specs.Steps.{replied}
+use Rattle.secondary_protocol.proofs.Node.Applies.{applies-due, node-applies, node-fails}
+use Rattle.secondary_protocol.proofs.Node.Faults.{node-fails-kept}
+use Rattle.secondary_protocol.proofs.Node.Laid.{LaidAt, kept-laid, torn-laid, torn_offsets, whole-laid}
+use Rattle.secondary_protocol.proofs.Node.Runs.{node-had}
+use Rattle.secondary_protocol.proofs.Node.Sized.{disk-long}
 use Rattle.secondary.specs.State.{SecondaryView, node, IsBegun, IsDue, IsNode}
 use Rattle.secondary.proofs.Kept.{StepsTo, numbered-same, shuts}
 
 -- Blocks of the device are blocks of the disk.
-pub on-disk : (v : SecondaryView) (item : Item) → IsNode v → first_of item + length (contents_of item) ≤ v.core.settings.blocks
+pub on-disk : (v : SecondaryView) (item : StreamItem) → IsNode v → first_of item + length (contents_of item) ≤ v.core.settings.blocks
     → first_of item + length (contents_of item) ≤ length v.disk
 on-disk v item is inside = let long = disk-long (node v) is.had in omega arith
 
@@ -37,7 +37,7 @@ pub refused-step : (step : SecondaryHistory → Reply × SecondaryHistory) (n : 
 refused-step step n result e is steps = subst (λ (r : Result Done Refusal). IsStep step n (replied (λ done. done) r) n) (sym is) steps
 
 -- The disk does the item, of which these are the bytes, or fails it.
-module _ (v : SecondaryView) (place : ℕ) (item : Item) (first : ℕ) (bytes contents : List ℕ) (core : SecondaryState) (disk : List (List ℕ)) (said : Done)
+module _ (v : SecondaryView) (place : ℕ) (item : StreamItem) (first : ℕ) (bytes contents : List ℕ) (core : SecondaryState) (disk : List (List ℕ)) (said : Done)
     (was : IsNode v) (starts : start place v.core ≡ Ok item) (inside : first_of item + length (contents_of item) ≤ v.core.settings.blocks)
     (at : first ≡ first_of item) (shown : bytes ≡ contents) (whole : blocks_of 4096 contents ≡ contents_of item) (plain : said ≡ done_with what.Nothing) where
   blocks : blocks_of 4096 bytes ≡ contents_of item
@@ -53,28 +53,30 @@ module _ (v : SecondaryView) (place : ℕ) (item : Item) (first : ℕ) (bytes co
       subst₂ (λ (d : Done) (x : SecondaryState). StepsTo (secondary_step (Applies place)) v (reply.Ok d) x disk) (sym plain) (sym does) (record {
         steps = steps;
         is = λ faults steady. record {
-          had = node-had (Applies place) (node v) (reply.Ok (done_with what.Nothing)) (record (node v) { core = applied place v.core; disk = disk }) was.had steps;
-          out_there = λ stands. was.out_there (stays v.core.end stands);
-          in_there = λ stands. was.in_there (stays v.core.end stands);
+          had = node-had (Applies place) (node v) (reply.Ok (done_with what.Nothing)) (record (node v) { core = applied place v.core; disk = disk }) was.had
+              steps;
+          out_there = λ is_established. was.out_there (stays v.core.end is_established);
+          in_there = λ is_established. was.in_there (stays v.core.end is_established);
           begun = begun v.outgoing was.begun;
           numbered = numbered-same v.outgoing v.incoming v.core (applied place v.core) refl was.numbered;
         };
       })
     where
       steps : NodeSteps (Applies place) (node v) (reply.Ok (done_with what.Nothing)) (record (node v) { core = applied place v.core; disk = disk })
-      steps = node-applies (node v) place item starts disk (λ block. subst (λ (d : List (List ℕ)). LaidAt item (below (length (contents_of item))) v.disk d block)
+      steps = node-applies (node v) place item starts disk
+          (λ block. subst (λ (d : List (List ℕ)). LaidAt item (below (length (contents_of item))) v.disk d block)
           (sym (written ∙ (λ i. overwritten v.disk (at i) (blocks i)))) (whole-laid item v.disk fits block))
 
       stays : (x : Option EndState) → is_some (applied place (record v.core { end = x })).end ≡ true → is_some x ≡ true
-      stays None stands = stands
-      stays (Some e) stands = refl
+      stays None is_established = is_established
+      stays (Some e) is_established = refl
 
       due : (x : Option (List Packet)) → IsDue x v.core → IsDue x (applied place v.core)
       due None old = tt
-      due (Some begun) old = λ stands.
-          let one = old (stays v.core.end stands) in (one.0, applies-due (node v) place item starts one.0 was.had one.1 stands, one.2)
+      due (Some begun) old = λ is_established.
+          let one = old (stays v.core.end is_established) in (one.0, applies-due (node v) place item starts one.0 was.had one.1 is_established, one.2)
 
-      begun : (x : Option OutgoingState) → IsBegun x v.core → IsBegun x (applied place v.core)
+      begun : (x : Option PacketSenderState) → IsBegun x v.core → IsBegun x (applied place v.core)
       begun None old = tt
       begun (Some x) old = due x.partly old
 

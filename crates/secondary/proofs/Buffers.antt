@@ -7,7 +7,7 @@ use Rattle.std.proofs.lemmas.Slice.{take-put_mid, drop-put_mid}
 use borrow.Rule.Slice.PartMut.{put_mid}
 use Rattle.blocks.specs.Contents.{blocks_of, overwritten}
 use Rattle.blocks.proofs.Cutting.{blocks_of-written, length-blocks_of}
-use Rattle.secondary_steps.proofs.Node.Disk.{written-before, written-inside}
+use Rattle.secondary_protocol.proofs.Node.Disk.{written-before, written-inside}
 use Rattle.secondary.specs.Reads.{AreRead}
 
 -- So many blocks were read; the disk holds the same, and no call failed.

@@ -11,29 +11,29 @@ use Rattle.blocks.specs.declared.refusal.Refusal.{Refusal}
 use Rattle.blocks.specs.declared.outcome.Reply.{Reply}
 use Rattle.model.specs.Frames.{Packet}
 use Rattle.model.specs.Settlement.{applied_items}
-use Rattle.model.specs.Secondary.{SecondaryHistory, secondary_opening, inward, items_taken, pending}
+use Rattle.model.specs.Secondary.{SecondaryHistory, secondary_opening, secondary_connection, items_taken, pending}
 use Rattle.model.specs.LocalRuns.{ClosesToo}
-use Rattle.endpoint.specs.Outgoing.{OutgoingState}
-use Rattle.endpoint.specs.Incoming.{IncomingState}
-use Rattle.secondary_steps.specs.Core.{SecondaryState, fresh, close_end, whole}
-use Rattle.secondary_steps.specs.Node.{IsStep, NodeHas, secondary_step}
-use Rattle.secondary_steps.specs.Steps.{Says, plainly, replied}
-use Rattle.secondary_steps.proofs.Node.Calls.{opening-has, node-closes}
-use Rattle.secondary_steps.proofs.Node.Due.{closes-end}
-use Rattle.secondary_steps.proofs.Node.Numbers.{closes-number}
-use Rattle.secondary_steps.proofs.Says.{states-say}
-use Rattle.secondary_steps.specs.Leaves.{pending_in}
-use Rattle.secondary_steps.proofs.Tested.{length-map}
+use Rattle.endpoint.specs.PacketSender.{PacketSenderState}
+use Rattle.endpoint.specs.PacketReceiver.{PacketReceiverState}
+use Rattle.secondary_protocol.specs.Core.{SecondaryState, fresh, close_end, whole}
+use Rattle.secondary_protocol.specs.Node.{IsStep, NodeHas, secondary_step}
+use Rattle.secondary_protocol.specs.Steps.{Says, plainly, replied}
+use Rattle.secondary_protocol.proofs.Node.Calls.{opening-has, node-closes}
+use Rattle.secondary_protocol.proofs.Node.Due.{closes-end}
+use Rattle.secondary_protocol.proofs.Node.Numbers.{closes-number}
+use Rattle.secondary_protocol.proofs.Says.{states-say}
+use Rattle.secondary_protocol.specs.Leaves.{pending_in}
+use Rattle.secondary_protocol.proofs.Tested.{length-map}
 use Rattle.secondary.specs.Usages.{usage_of}
 use Rattle.secondary.specs.State.{SecondaryView, node, IsNode, IsBegun, IsDue, IsNumbered}
 
 -- At a closed end nothing is asked of what went in part.
 due-shut : (v : Option (List Packet)) (s : SecondaryState) → is_some s.end ≡ false → IsDue v s
 due-shut None s shut = tt
-due-shut (Some begun) s shut = λ stands. absurd (both_ways (is_some s.end) shut stands)
+due-shut (Some begun) s shut = λ is_established. absurd (both_ways (is_some s.end) shut is_established)
 
 -- the same of the side
-pub begun-shut : (v : Option OutgoingState) (s : SecondaryState) → is_some s.end ≡ false → IsBegun v s
+pub begun-shut : (v : Option PacketSenderState) (s : SecondaryState) → is_some s.end ≡ false → IsBegun v s
 begun-shut None s shut = tt
 begun-shut (Some o) s shut = due-shut o.partly s shut
 
@@ -42,17 +42,19 @@ pub due-none : (v : Option (List Packet)) (s : SecondaryState) → v ≡ None �
 due-none v s is = subst (λ (x : Option (List Packet)). IsDue x s) (sym is) tt
 
 -- A core that keeps its number leaves the sides of the link numbered as it is.
-pub numbered-same : (o : Option OutgoingState) (i : Option IncomingState) (s t : SecondaryState) → t.number ≡ s.number → IsNumbered o i s → IsNumbered o i t
+pub numbered-same : (o : Option PacketSenderState) (i : Option PacketReceiverState) (s t : SecondaryState) → t.number ≡ s.number → IsNumbered o i s
+    → IsNumbered o i t
 numbered-same None i s t same was = tt
 numbered-same (Some o) None s t same was = tt
 numbered-same (Some o) (Some i) s t same was = let out = was.0 in let inn = was.1 in (omega arith, omega arith)
 
 -- An end that is shut asks for no sides of a link.
 pub absent : (s : SecondaryState) (sides : Bool) → is_some s.end ≡ false → is_some s.end ≡ true → sides ≡ true
-absent s sides shut stands = absurd (both_ways (is_some s.end) shut stands)
+absent s sides shut is_established = absurd (both_ways (is_some s.end) shut is_established)
 
 -- A call that neither pushes nor takes is this step, and leaves a node.
-pub record StepsTo (step : SecondaryHistory → Reply × SecondaryHistory) (v : SecondaryView) (said : Reply) (core : SecondaryState) (disk : List (List ℕ)) : Type 0
+pub record StepsTo (step : SecondaryHistory → Reply × SecondaryHistory) (v : SecondaryView) (said : Reply) (core : SecondaryState)
+    (disk : List (List ℕ)) : Type 0
   where
     pub steps : IsStep step (node v) said (record (node v) { core = core; disk = disk })
     pub is : (faults : ℕ) (steady : Bool) → IsNode (record v { core = core; disk = disk; faults = faults; steady = steady })
@@ -84,7 +86,8 @@ pub new-has : (settings : Settings) (tuple : Tuple) (disk : List (List ℕ)) (s 
     → length disk ≡ settings.blocks
     → NodeHas (record { core = s; disk = disk; pushed = []; taken = [] }) (secondary_opening settings (slice_get disk) tuple)
 new-has settings tuple disk s is in_range size =
-    subst (λ (x : SecondaryState). NodeHas (record { core = x; disk = disk; pushed = []; taken = [] }) (secondary_opening settings (slice_get disk) tuple)) (sym is)
+    subst (λ (x : SecondaryState). NodeHas (record { core = x; disk = disk; pushed = []; taken = [] }) (secondary_opening settings (slice_get disk) tuple))
+    (sym is)
     (opening-has settings disk tuple in_range (λ block. some-get disk block ∙ ap (nat_lt block) size))
   where
     some-get : {X : Type 0} (xs : List X) (n : ℕ) → is_some (slice_get xs n) ≡ nat_lt n (length xs)
@@ -116,13 +119,13 @@ pub node-usage : (v w : SecondaryView) → v ≡ w → (h : SecondaryHistory) �
     → record { consistent = v.core.consistent; whole = whole v.core; pending = length v.core.pending } ≡ usage_of h
 node-usage v w is h has =
     let left = (subst (λ (x : SecondaryView). NodeHas (node x) h) (sym is) has).leaves.core in
-    let size : length v.core.pending ≡ length (pending (inward h)) = ap length left.last.pending
-    ∙ length-map (pending_in (items_taken (inward h))) (pending (inward h)) in
+    let size : length v.core.pending ≡ length (pending (secondary_connection h)) = ap length left.last.pending
+    ∙ length-map (pending_in (items_taken (secondary_connection h))) (pending (secondary_connection h)) in
     λ k. record { consistent = left.consistent k; whole = (states-say v.core h left).whole k; pending = size k }
 
 -- how many items were taken, and how many of them are applied
 pub node-counts : (v w : SecondaryView) → v ≡ w → (h : SecondaryHistory) → NodeHas (node w) h
-    → (v.core.intake.places ≡ length (items_taken (inward h))) × (v.core.items_applied ≡ applied_items (inward h))
+    → (v.core.intake.places ≡ length (items_taken (secondary_connection h))) × (v.core.items_applied ≡ applied_items (secondary_connection h))
 node-counts v w is h has =
     let left = (subst (λ (x : SecondaryView). NodeHas (node x) h) (sym is) has).leaves.core in
     (ap (λ i. i.places) left.last.intake, left.last.applied)

@@ -4,13 +4,13 @@ use Rattle.blocks.specs.declared.refusal.Refusal.{Refusal}
 use Rattle.model.specs.Frames.{Packet, Received}
 use Rattle.model.specs.Refusals.{Test, first_refusal}
 use Rattle.model.specs.LocalRuns.{OpensToo}
-use Rattle.endpoint.specs.Outgoing.{OutgoingState}
-use Rattle.endpoint.specs.Incoming.{IncomingState}
-use Rattle.secondary_steps.specs.Core.{SecondaryState, open_end, opened, open_tests, tested}
-use Rattle.secondary_steps.specs.Node.{NodeSteps}
-use Rattle.secondary_steps.specs.Steps.{plainly, replied}
-use Rattle.secondary_steps.proofs.Node.Calls.{node-opened, node-not-opened}
-use Rattle.secondary_steps.proofs.Node.Runs.{node-had}
+use Rattle.endpoint.specs.PacketSender.{PacketSenderState}
+use Rattle.endpoint.specs.PacketReceiver.{PacketReceiverState}
+use Rattle.secondary_protocol.specs.Core.{SecondaryState, open_end, opened, open_tests, tested}
+use Rattle.secondary_protocol.specs.Node.{NodeSteps}
+use Rattle.secondary_protocol.specs.Steps.{plainly, replied}
+use Rattle.secondary_protocol.proofs.Node.Calls.{node-opened, node-not-opened}
+use Rattle.secondary_protocol.proofs.Node.Runs.{node-had}
 use Rattle.secondary.specs.State.{SecondaryView, node, IsNode}
 use Rattle.secondary.proofs.Kept.{due-none}
 
@@ -60,7 +60,7 @@ not-opened-steps unseen v t number result said e node_is next refused told is =
     (node-not-opened unseen (node v) e t here))
 
 -- An opening that is done, over sides through which nothing has gone on this connection.
-pub opened-steps : (unseen : ℕ) (v : SecondaryView) (t : SecondaryState) (out : OutgoingState) (inn : IncomingState) (number : ℕ)
+pub opened-steps : (unseen : ℕ) (v : SecondaryView) (t : SecondaryState) (out : PacketSenderState) (inn : PacketReceiverState) (number : ℕ)
     (result : Result (Unit {0}) Refusal) → IsNode v → number ≡ suc (v.core.number + unseen)
     → result ≡ Ok tt → (result, t) ≡ open_end number v.core → out.pushed ≡ [] → inn.taken ≡ []
     → NodeSteps (OpensToo unseen) (node v) (replied plainly (Ok tt)) (node (record v { core = t; outgoing = Some out; incoming = Some inn }))
@@ -73,7 +73,7 @@ opened-steps unseen v t out inn number result node_is next accepted is none_out 
     (sym none_in) (node-opened unseen (node v) t same))
 
 -- It is a node then.
-pub opened-is : (unseen : ℕ) (v : SecondaryView) (t : SecondaryState) (out : OutgoingState) (inn : IncomingState) (number : ℕ)
+pub opened-is : (unseen : ℕ) (v : SecondaryView) (t : SecondaryState) (out : PacketSenderState) (inn : PacketReceiverState) (number : ℕ)
     (result : Result (Unit {0}) Refusal) → IsNode v → number ≡ suc (v.core.number + unseen)
     → result ≡ Ok tt → (result, t) ≡ open_end number v.core → out.pushed ≡ [] → out.partly ≡ None → inn.taken ≡ [] → out.number ≤ number → inn.number ≤ number
     → IsNode (record v { core = t; outgoing = Some out; incoming = Some inn })
@@ -82,8 +82,8 @@ opened-is unseen v t out inn number result is next accepted opens none_out whole
     (subst (λ (r : Result (Unit {0}) Refusal). (r, t) ≡ open_end number v.core) accepted opens) in record {
       had = node-had (OpensToo unseen) (node v) (replied plainly (Ok tt)) (node (record v { core = t; outgoing = Some out; incoming = Some inn })) is.had
           (opened-steps unseen v t out inn number result is next accepted opens none_out none_in);
-      out_there = λ stands. refl;
-      in_there = λ stands. refl;
+      out_there = λ is_established. refl;
+      in_there = λ is_established. refl;
       begun = due-none out.partly t whole;
       numbered = (omega arith, omega arith);
     }

@@ -9,25 +9,25 @@ use Rattle.blocks.specs.declared.outcome.Reply.TheVariants as reply
 use Rattle.packets.specs.declared.packet.Packet as packets
 use Rattle.packets.specs.Table as table
 use Rattle.std.specs.Option.{option_map}
-use Rattle.endpoint.specs.Calls.{Sends, has_room, is_starved}
+use Rattle.endpoint.specs.Calls.{Sends, has_room, is_out_of_memory}
 use Rattle.endpoint.specs.Meaning.{meaning}
-use Rattle.endpoint.specs.Outgoing.{OutgoingState}
-use Rattle.endpoint.specs.Incoming.{IncomingState}
+use Rattle.endpoint.specs.PacketSender.{PacketSenderState}
+use Rattle.endpoint.specs.PacketReceiver.{PacketReceiverState}
 use Rattle.model.specs.Frames.{Packet, command_of}
 use Rattle.model.specs.Refusals.{done_with}
 use Rattle.model.specs.LocalRuns.{Acknowledges}
-use Rattle.secondary_steps.specs.Core.{EndState, SecondaryState, ack_out, due, owed, sent}
-use Rattle.secondary_steps.specs.Node.{NodeState, NodeIsHad, NodeSteps}
-use Rattle.secondary_steps.specs.Steps.{replied}
-use Rattle.secondary_steps.proofs.Node.Calls.{due-open, node-pushes, node-full, node-no-memory, node-not-due}
-use Rattle.secondary_steps.proofs.Node.Runs.{node-had}
+use Rattle.secondary_protocol.specs.Core.{EndState, SecondaryState, ack_out, due, owed, sent}
+use Rattle.secondary_protocol.specs.Node.{NodeState, NodeIsHad, NodeSteps}
+use Rattle.secondary_protocol.specs.Steps.{replied}
+use Rattle.secondary_protocol.proofs.Node.Calls.{due-open, node-pushes, node-full, node-no-memory, node-not-due}
+use Rattle.secondary_protocol.proofs.Node.Runs.{node-had}
 use Rattle.secondary.specs.State.{SecondaryView, node, pushed_of, taken_of, IsDue, IsNumbered, IsNode}
 use Rattle.secondary.proofs.Kept.{due-none}
 
 -- a frame with no blocks is not refused for want of memory
-pub not-starved : (p : packets.Packet) (e : Refusal) → table.has_blocks p ≡ false → ((e ≡ LinkFull → ⊥) → (e ≡ NoMemory) × (table.has_blocks p ≡ true))
+pub not-out-of-memory : (p : packets.Packet) (e : Refusal) → table.has_blocks p ≡ false → ((e ≡ LinkFull → ⊥) → (e ≡ NoMemory) × (table.has_blocks p ≡ true))
     → e ≡ NoMemory → ⊥
-not-starved p e inline refused starved =
+not-out-of-memory p e inline refused out_of_memory =
     let blocks : table.has_blocks p ≡ true = (refused (λ full. cc)).1 in
     cc
 
@@ -42,7 +42,7 @@ pushed-is s t packet done owes same =
     )
 
 -- It went out.
-pub sent-steps : (v : SecondaryView) (t : SecondaryState) (o p : OutgoingState) (packet : Packet) (done : Done) → IsNode v → v.outgoing ≡ Some o
+pub sent-steps : (v : SecondaryView) (t : SecondaryState) (o p : PacketSenderState) (packet : Packet) (done : Done) → IsNode v → v.outgoing ≡ Some o
     → due v.core ≡ Ok packet → (Ok done, t) ≡ ack_out true false v.core → p.pushed ≡ o.pushed ++ packet ∷ []
     → NodeSteps (Acknowledges true false) (node v) (reply.Ok done) (node (record v { core = t; outgoing = Some p }))
 sent-steps v t o p packet done node_is there owes same pushed =
@@ -50,19 +50,19 @@ sent-steps v t o p packet done node_is there owes same pushed =
     rw (is.0, is.1, pushed, ← ap pushed_of there) (node-pushes (node v) packet owes)
 
 -- It is a node still.
-pub sent-is : (v : SecondaryView) (t : SecondaryState) (o p : OutgoingState) (packet : Packet) (done : Done) → IsNode v → v.outgoing ≡ Some o
+pub sent-is : (v : SecondaryView) (t : SecondaryState) (o p : PacketSenderState) (packet : Packet) (done : Done) → IsNode v → v.outgoing ≡ Some o
     → due v.core ≡ Ok packet → (Ok done, t) ≡ ack_out true false v.core
     → p.pushed ≡ o.pushed ++ packet ∷ [] → p.partly ≡ None → p.number ≡ o.number → IsNode (record v { core = t; outgoing = Some p })
 sent-is v t o p packet done is there owes same pushed whole number = record {
   had = node-had (Acknowledges true false) (node v) (reply.Ok done) (node (record v { core = t; outgoing = Some p })) is.had
       (sent-steps v t o p packet done is there owes same pushed);
-  out_there = λ stands. refl;
-  in_there = λ stands. is.in_there (due-open v.core packet owes);
+  out_there = λ is_established. refl;
+  in_there = λ is_established. is.in_there (due-open v.core packet owes);
   begun = due-none p.partly t whole;
-  numbered = both v.incoming (subst (λ (x : Option OutgoingState). IsNumbered x v.incoming v.core) there is.numbered);
+  numbered = both v.incoming (subst (λ (x : Option PacketSenderState). IsNumbered x v.incoming v.core) there is.numbered);
 }
   where
-    both : (x : Option IncomingState) → IsNumbered (Some o) x v.core → IsNumbered (Some p) x t
+    both : (x : Option PacketReceiverState) → IsNumbered (Some o) x v.core → IsNumbered (Some p) x t
     both None was = tt
     both (Some i) was =
         let kept = ap (λ (s : SecondaryState). s.number) (pushed-is v.core t packet done owes same).1 in let out = was.0 in let inn = was.1 in (
@@ -76,17 +76,18 @@ full-or-not LinkFull = inl refl
 full-or-not e = inr (λ is. absurd (cc))
 
 -- The link had no room for what is owed, or there was no memory.
-pub not-sent-steps : (v : SecondaryView) (o p : OutgoingState) (packet : packets.Packet) (e : Refusal) (result : Result Done Refusal) → IsNode v
+pub not-sent-steps : (v : SecondaryView) (o p : PacketSenderState) (packet : packets.Packet) (e : Refusal) (result : Result Done Refusal) → IsNode v
     → v.outgoing ≡ Some o → due v.core ≡ Ok (meaning packet) → result ≡ Err e
     → ((e ≡ LinkFull → ⊥) → e ≡ NoMemory) → p.pushed ≡ o.pushed
-    → NodeSteps (Acknowledges (has_room result) (is_starved result)) (node v) (replied (λ done. done) result) (node (record v { outgoing = Some p }))
+    → NodeSteps (Acknowledges (has_room result) (is_out_of_memory result)) (node v) (replied (λ done. done) result) (node (record v { outgoing = Some p }))
 not-sent-steps v o p packet e result node_is there is refused memory pushed =
     let all : p.pushed ≡ pushed_of v.outgoing = pushed ∙ sym (ap pushed_of there) in
-    subst (λ (l : List Packet). NodeSteps (Acknowledges (has_room result) (is_starved result)) n (replied (λ done. done) result) (record n { pushed = l }))
+    subst (λ (l : List Packet). NodeSteps (Acknowledges (has_room result) (is_out_of_memory result)) n (replied (λ done. done) result)
+    (record n { pushed = l }))
     (sym all) (elim (full-or-not e) [
-      | inl full ↦ subst (λ (r : Result Done Refusal). NodeSteps (Acknowledges (has_room r) (is_starved r)) n (replied (λ done. done) r) n)
+      | inl full ↦ subst (λ (r : Result Done Refusal). NodeSteps (Acknowledges (has_room r) (is_out_of_memory r)) n (replied (λ done. done) r) n)
           (sym (refused ∙ ap Err full)) (node-full n (meaning packet) is)
-      | inr other ↦ subst (λ (r : Result Done Refusal). NodeSteps (Acknowledges (has_room r) (is_starved r)) n (replied (λ done. done) r) n)
+      | inr other ↦ subst (λ (r : Result Done Refusal). NodeSteps (Acknowledges (has_room r) (is_out_of_memory r)) n (replied (λ done. done) r) n)
           (sym (refused ∙ ap Err (memory other))) (node-no-memory n (meaning packet) is)
     ])
   where
@@ -94,12 +95,12 @@ not-sent-steps v o p packet e result node_is there is refused memory pushed =
     n = node v
 
 -- Of the link nothing changed but that the packet may be there in part.
-pub sends-part : (old : Option OutgoingState) (o p : OutgoingState) (e : Refusal) (result : Result Done Refusal) → old ≡ Some o
+pub sends-part : (old : Option PacketSenderState) (o p : PacketSenderState) (e : Refusal) (result : Result Done Refusal) → old ≡ Some o
     → p ≡ record o { partly = p.partly } → result ≡ Err e → (e ≡ LinkFull → IfSome o.room (λ n. n ≡ 0))
     → Sends result old (Some p)
 sends-part old o p e result there same refused full = subst (λ (r : Result Done Refusal). Sends r old (Some p)) (sym refused) (record {
   pushed = tt;
-  kept = (p.partly, ap (λ (x : OutgoingState). Some x) same ∙ ap (option_map (λ (x : OutgoingState). record x { partly = p.partly })) (sym there));
+  kept = (p.partly, ap (λ (x : PacketSenderState). Some x) same ∙ ap (option_map (λ (x : PacketSenderState). record x { partly = p.partly })) (sym there));
   full = λ is. (o, there, full (let one : e ≡ LinkFull = cc in one));
 })
 
@@ -118,19 +119,19 @@ due-refused s e is = go s.end is
 
 -- that is its step
 pub nothing-due-steps : (n : NodeState) (e : Refusal) (result : Result Done Refusal) → due n.core ≡ Err e → result ≡ Err e
-    → NodeSteps (Acknowledges (has_room result) (is_starved result)) n (replied (λ done. done) result) n
+    → NodeSteps (Acknowledges (has_room result) (is_out_of_memory result)) n (replied (λ done. done) result) n
 nothing-due-steps n e result is refused = elim (due-refused n.core e is) [
   | inl shut ↦ told NotConnected shut (node-not-due n NotConnected (is ∙ ap Err shut))
   | inr none ↦ told NothingThere none (node-not-due n NothingThere (is ∙ ap Err none))
 ]
   where
-    told : (x : Refusal) → e ≡ x → NodeSteps (Acknowledges (has_room {R = Done} (Err x)) (is_starved {R = Done} (Err x))) n (reply.Refused x) n
-        → NodeSteps (Acknowledges (has_room result) (is_starved result)) n (replied (λ done. done) result) n
-    told x same steps = subst (λ (r : Result Done Refusal). NodeSteps (Acknowledges (has_room r) (is_starved r)) n (replied (λ done. done) r) n)
+    told : (x : Refusal) → e ≡ x → NodeSteps (Acknowledges (has_room {R = Done} (Err x)) (is_out_of_memory {R = Done} (Err x))) n (reply.Refused x) n
+        → NodeSteps (Acknowledges (has_room result) (is_out_of_memory result)) n (replied (λ done. done) result) n
+    told x same steps = subst (λ (r : Result Done Refusal). NodeSteps (Acknowledges (has_room r) (is_out_of_memory r)) n (replied (λ done. done) r) n)
         (sym (refused ∙ ap Err same)) steps
 
 -- and the link is left alone
-pub sends-none : (s : SecondaryState) (o : Option OutgoingState) (e : Refusal) (result : Result Done Refusal) → due s ≡ Err e → result ≡ Err e
+pub sends-none : (s : SecondaryState) (o : Option PacketSenderState) (e : Refusal) (result : Result Done Refusal) → due s ≡ Err e → result ≡ Err e
     → Sends result o o
 sends-none s o e result is refused = subst (λ (r : Result Done Refusal). Sends r o o) (sym refused) (record {
   pushed = tt;
@@ -141,6 +142,6 @@ sends-none s o e result is refused = subst (λ (r : Result Done Refusal). Sends 
   ];
 })
   where
-    go : (x : Option OutgoingState) → (partly : Option (List Packet)) × (x ≡ option_map (λ (y : OutgoingState). record y { partly = partly }) x)
+    go : (x : Option PacketSenderState) → (partly : Option (List Packet)) × (x ≡ option_map (λ (y : PacketSenderState). record y { partly = partly }) x)
     go None = (None, refl)
     go (Some y) = (y.partly, refl)

@@ -6,7 +6,7 @@ use Rattle.blocks.specs.declared.refusal.Refusal.{Refusal}
 use Rattle.blocks.specs.declared.outcome.Done.{Done}
 use Rattle.model.specs.Frames.{Packet, DataFrame, RsDataReplyFrame, BarrierFrame, ProtocolFrame, UuidsFrame, SizesFrame, SyncUuidFrame, Received}
 use Rattle.model.specs.LocalRuns.{Receives}
-use Rattle.endpoint.specs.Outgoing.{OutgoingState}
+use Rattle.endpoint.specs.PacketSender.{PacketSenderState}
 use Rattle.blocks.specs.declared.refusal.Refusal.TheVariants.{NoMemory, NotConnected, NothingThere, PendingFull}
 use Rattle.blocks.specs.declared.outcome.What.{What}
 use Rattle.blocks.specs.declared.outcome.What.TheVariants as what
@@ -17,42 +17,42 @@ use Rattle.std.specs.Option.{option_map}
 use Rattle.model.specs.Refusals.{first_refusal}
 use Rattle.packets.specs.declared.packet.Packet as packets
 use Rattle.endpoint.specs.Meaning.{received}
-use Rattle.endpoint.specs.Calls.{Takes, TookOne, is_starved}
+use Rattle.endpoint.specs.Calls.{Takes, TookOne, is_out_of_memory}
 use Rattle.secondary.specs.Calls.{ReceivesOne}
-use Rattle.endpoint.specs.Incoming.{IncomingState, with_received, SameRow}
+use Rattle.endpoint.specs.PacketReceiver.{PacketReceiverState, with_received, SameRow}
 use Rattle.laws.proofs.Rules.Hellos.{hello-has}
-use Rattle.secondary_steps.proofs.Judged.{judging-is}
-use Rattle.secondary_steps.specs.Core.{EndState, SecondaryState, Judged, judged_if, judging_hello, judging_item, judging, hearing, taking, take_at, may_take}
-use Rattle.secondary_steps.specs.Node.{NodeSteps}
-use Rattle.secondary_steps.specs.Steps.{replied}
-use Rattle.secondary_steps.proofs.Node.Calls.{node-takes, node-may-not, node-starved, takes-due, may-open}
-use Rattle.secondary_steps.proofs.Node.Numbers.{takes-number}
-use Rattle.secondary_steps.proofs.Node.Runs.{node-had}
+use Rattle.secondary_protocol.proofs.Judged.{judging-is}
+use Rattle.secondary_protocol.specs.Core.{EndState, SecondaryState, Judged, judged_if, judging_hello, judging_item, judging, hearing, taking, take_at, may_take}
+use Rattle.secondary_protocol.specs.Node.{NodeSteps}
+use Rattle.secondary_protocol.specs.Steps.{replied}
+use Rattle.secondary_protocol.proofs.Node.Calls.{node-takes, node-may-not, node-out-of-memory, takes-due, may-open}
+use Rattle.secondary_protocol.proofs.Node.Numbers.{takes-number}
+use Rattle.secondary_protocol.proofs.Node.Runs.{node-had}
 use Rattle.secondary.specs.State.{SecondaryView, node, taken_of, IsNode, IsBegun, IsDue, IsNumbered}
 
 -- The frame of the link is the node's step.
-pub takes-steps : (v : SecondaryView) (r t : SecondaryState) (i j : IncomingState) (frame : Received) (result : Result Done Refusal) → IsNode v
+pub takes-steps : (v : SecondaryView) (r t : SecondaryState) (i j : PacketReceiverState) (frame : Received) (result : Result Done Refusal) → IsNode v
     → v.incoming ≡ Some i → may_take v.core ≡ Ok tt → r ≡ v.core
     → (result, t) ≡ take_at frame r.end r → j.taken ≡ i.taken ++ frame ∷ []
     → NodeSteps (Receives (Some frame) false) (node v) (replied (λ done. done) result) (node (record v { core = t; incoming = Some j }))
 takes-steps v r t i j frame result node_is there may same is taken =
     let here : (result, t) ≡ take_at frame v.core.end v.core = subst (λ (x : SecondaryState). (result, t) ≡ take_at frame x.end x) same is in
-    let all : j.taken ≡ taken_of v.incoming ++ frame ∷ [] = subst (λ (o : Option IncomingState). j.taken ≡ taken_of o ++ frame ∷ []) (sym there) taken in
+    let all : j.taken ≡ taken_of v.incoming ++ frame ∷ [] = subst (λ (o : Option PacketReceiverState). j.taken ≡ taken_of o ++ frame ∷ []) (sym there) taken in
     subst (λ (l : List Received). NodeSteps (Receives (Some frame) false) (node v) (replied (λ done. done) result) (record (node v) { core = t; taken = l }))
     (sym all)
     (node-takes (node v) frame result t may here)
 
 -- It is a node still.
-pub takes-is : (v : SecondaryView) (r t : SecondaryState) (i j : IncomingState) (frame : Received) (result : Result Done Refusal) → IsNode v
+pub takes-is : (v : SecondaryView) (r t : SecondaryState) (i j : PacketReceiverState) (frame : Received) (result : Result Done Refusal) → IsNode v
     → v.incoming ≡ Some i → may_take v.core ≡ Ok tt → r ≡ v.core
     → (result, t) ≡ take_at frame r.end r → j.taken ≡ i.taken ++ frame ∷ [] → j.number ≡ i.number → IsNode (record v { core = t; incoming = Some j })
 takes-is v r t i j frame result is there may same takes taken number = record {
   had = node-had (Receives (Some frame) false) (node v) (replied (λ done. done) result) (node (record v { core = t; incoming = Some j })) is.had
       (takes-steps v r t i j frame result is there may same takes taken);
-  out_there = λ stands. is.out_there (may-open v.core may);
-  in_there = λ stands. refl;
+  out_there = λ is_established. is.out_there (may-open v.core may);
+  in_there = λ is_established. refl;
   begun = go v.outgoing is.begun;
-  numbered = both v.outgoing (subst (λ (x : Option IncomingState). IsNumbered v.outgoing x v.core) there is.numbered);
+  numbered = both v.outgoing (subst (λ (x : Option PacketReceiverState). IsNumbered v.outgoing x v.core) there is.numbered);
 }
   where
     here : (result, t) ≡ take_at frame v.core.end v.core
@@ -60,30 +60,30 @@ takes-is v r t i j frame result is there may same takes taken number = record {
 
     part : (x : Option (List Packet)) → IsDue x v.core → IsDue x t
     part None was = tt
-    part (Some begun) was = λ stands. let old = was (may-open v.core may) in (
+    part (Some begun) was = λ is_established. let old = was (may-open v.core may) in (
       old.0,
-      takes-due (node v) frame result t old.0 is.had may here old.1 stands,
+      takes-due (node v) frame result t old.0 is.had may here old.1 is_established,
       old.2,
     )
 
-    go : (x : Option OutgoingState) → IsBegun x v.core → IsBegun x t
+    go : (x : Option PacketSenderState) → IsBegun x v.core → IsBegun x t
     go None was = tt
     go (Some x) was = part x.partly was
 
-    both : (x : Option OutgoingState) → IsNumbered x (Some i) v.core → IsNumbered x (Some j) t
+    both : (x : Option PacketSenderState) → IsNumbered x (Some i) v.core → IsNumbered x (Some j) t
     both None was = tt
     both (Some o) was = let kept = takes-number frame v.core.end v.core result t here in let out = was.0 in let inn =
         was.1 in (omega (arith, kept), omega (arith, kept, number))
 
 -- No frame is taken: what was there stays, but that room may have been made for the longest.
-takes-none : (o : Option IncomingState) (e : Refusal) → (e ≡ NothingThere → ⊥) → Takes {R = Done} None (Err e) o o
+takes-none : (o : Option PacketReceiverState) (e : Refusal) → (e ≡ NothingThere → ⊥) → Takes {R = Done} None (Err e) o o
 takes-none o e other = record {
   took = λ frame is. absurd (cc);
   kept = λ is. go o;
   empty = λ is. absurd (other (let one : e ≡ NothingThere = cc in one));
 }
   where
-    go : (x : Option IncomingState) → (ready : Bool) × (x ≡ option_map (λ (i : IncomingState). record i { is_ready = ready }) x)
+    go : (x : Option PacketReceiverState) → (ready : Bool) × (x ≡ option_map (λ (i : PacketReceiverState). record i { is_ready = ready }) x)
     go None = (true, refl)
     go (Some i) = (i.is_ready, refl)
 
@@ -105,16 +105,16 @@ may-not-one v e result may refused = subst (λ (r : Result Done Refusal). Receiv
         go false true said = full (let one : PendingFull ≡ x = cc in one)
         go false false said = absurd (cc)
 
-    fed : (x : Refusal) → (x ≡ NoMemory → ⊥) → is_starved {R = Done} (Err x) ≡ false
+    fed : (x : Refusal) → (x ≡ NoMemory → ⊥) → is_out_of_memory {R = Done} (Err x) ≡ false
     fed NoMemory other = absurd (other refl)
     fed x other = refl
 
 -- There is no memory.
-pub starved-one : (v : SecondaryView) (result : Result Done Refusal) → may_take v.core ≡ Ok tt → result ≡ Err NoMemory → ReceivesOne result v v
-starved-one v result may refused = subst (λ (r : Result Done Refusal). ReceivesOne r v v) (sym refused) (record {
+pub out-of-memory-one : (v : SecondaryView) (result : Result Done Refusal) → may_take v.core ≡ Ok tt → result ≡ Err NoMemory → ReceivesOne result v v
+out-of-memory-one v result may refused = subst (λ (r : Result Done Refusal). ReceivesOne r v v) (sym refused) (record {
   frame = None;
   link = takes-none v.incoming NoMemory (λ is. absurd (cc));
-  step = node-starved (node v) may;
+  step = node-out-of-memory (node v) may;
 })
 
 -- What is refused of a frame is its own fault, or the end's; that there is none is neither.
@@ -166,7 +166,7 @@ some-queued None exact = tt
 some-queued (Some frames) exact = λ is. absurd (both_ways false refl (exact.1 is))
 
 -- A frame was taken, the next of the link.
-pub takes-one : (v : SecondaryView) (r t : SecondaryState) (i k j : IncomingState) (frame : Received) (result : Result Done Refusal) → IsNode v
+pub takes-one : (v : SecondaryView) (r t : SecondaryState) (i k j : PacketReceiverState) (frame : Received) (result : Result Done Refusal) → IsNode v
     → v.incoming ≡ Some i → may_take v.core ≡ Ok tt → r ≡ v.core
     → (result, t) ≡ take_at frame r.end r → k ≡ record i { is_ready = true } → j ≡ with_received frame j.frames j.is_ready k → SameRow k j
     → IfSome k.queued (λ frames. (false ≡ true) ↔ (frames ≡ [])) → (frame ≡ Err NothingThere → ⊥)
@@ -179,14 +179,14 @@ takes-one v r t i k j frame result is there may same takes ready taken row queue
       frames = j.frames;
       ready = j.is_ready;
       there = there;
-      after = ap (λ (x : IncomingState). Some x) after;
-      row = subst (λ (x : IncomingState). SameRow i x) after (subst (λ (x : IncomingState). SameRow x j) ready row);
-      queued = subst (λ (x : IncomingState). IfSome x.queued (λ frames. frames ≡ [] → ⊥)) ready (some-queued k.queued queued);
+      after = ap (λ (x : PacketReceiverState). Some x) after;
+      row = subst (λ (x : PacketReceiverState). SameRow i x) after (subst (λ (x : PacketReceiverState). SameRow x j) ready row);
+      queued = subst (λ (x : PacketReceiverState). IfSome x.queued (λ frames. frames ≡ [] → ⊥)) ready (some-queued k.queued queued);
     });
     kept = λ none. absurd (cc);
     empty = λ none. absurd (some-there frame v.core result t may fault (subst (λ (x : SecondaryState). (result, t) ≡ take_at frame x.end x) same takes) none);
   };
-  step = takes-steps v r t i j frame result is there may same takes (ap (λ (x : IncomingState). x.taken) after);
+  step = takes-steps v r t i j frame result is there may same takes (ap (λ (x : PacketReceiverState). x.taken) after);
 }
   where
     after : j ≡ with_received frame j.frames j.is_ready i

@@ -4,16 +4,16 @@ use Rattle.blocks.specs.declared.refusal.Refusal.{Refusal}
 use Rattle.blocks.specs.declared.outcome.Done.{Done}
 use Rattle.model.specs.Frames.{Received}
 use Rattle.model.specs.LocalRuns.{Receives, Applies, FailsToApply}
-use Rattle.endpoint.specs.Calls.{Takes, is_starved}
-use Rattle.secondary_steps.specs.Node.{NodeSteps}
-use Rattle.secondary_steps.specs.Steps.{replied}
+use Rattle.endpoint.specs.Calls.{Takes, is_out_of_memory}
+use Rattle.secondary_protocol.specs.Node.{NodeSteps}
+use Rattle.secondary_protocol.specs.Steps.{replied}
 use Rattle.secondary.specs.State.{SecondaryView, node}
 
 -- A frame was taken, or none, and that was the node's step. Memory is wanting only before a frame is taken.
 pub record ReceivesOne (result : Result Done Refusal) (old new : SecondaryView) : Type 0 where
   pub frame : Option Received
   pub link : Takes frame result old.incoming new.incoming
-  pub step : NodeSteps (Receives frame (is_none frame && is_starved result)) (node old) (replied (λ done. done) result) (node new)
+  pub step : NodeSteps (Receives frame (is_none frame && is_out_of_memory result)) (node old) (replied (λ done. done) result) (node new)
 
 -- The disk did the item of the place, or failed in this call, and left any of its blocks new.
 abbrev pub AppliesOne : ℕ → Result Done Refusal → SecondaryView → SecondaryView → Type 0

@@ -2,23 +2,23 @@
 use Rattle.std.specs.Prelude.{ℕ, ◌≡◌, ◌≤◌, Bool, true, List, [], ◌∷◌, Option, Some, None, is_some, Ok}
 use Rattle.model.specs.Frames.{Packet}
 pub use Rattle.endpoint.specs.Calls.{pushed_of, taken_of}
-use Rattle.endpoint.specs.Outgoing.{OutgoingState, pushing_anew}
-use Rattle.endpoint.specs.Incoming.{IncomingState, taking_anew}
-use Rattle.secondary_steps.specs.Core.{SecondaryState, due}
-use Rattle.secondary_steps.specs.Node.{NodeState, NodeIsHad}
+use Rattle.endpoint.specs.PacketSender.{PacketSenderState, pushing_anew}
+use Rattle.endpoint.specs.PacketReceiver.{PacketReceiverState, taking_anew}
+use Rattle.secondary_protocol.specs.Core.{SecondaryState, due}
+use Rattle.secondary_protocol.specs.Node.{NodeState, NodeIsHad}
 
 -- A node: its core, the blocks of its disk, both sides of its link where it was opened, how many of its disk's calls have
 -- failed, and whether these are known not to fail.
 pub record SecondaryView : Type 0 where
   pub core : SecondaryState
   pub disk : List (List ℕ)
-  pub outgoing : Option OutgoingState
-  pub incoming : Option IncomingState
+  pub outgoing : Option PacketSenderState
+  pub incoming : Option PacketReceiverState
   pub faults : ℕ
   pub steady : Bool
 
 -- what is seen of a node with this core, disk and link
-abbrev pub seen : SecondaryState → List (List ℕ) → Option OutgoingState → Option IncomingState → ℕ → Bool → SecondaryView
+abbrev pub seen : SecondaryState → List (List ℕ) → Option PacketSenderState → Option PacketReceiverState → ℕ → Bool → SecondaryView
 seen core disk outgoing incoming faults steady = record { core = core; disk = disk; outgoing = outgoing; incoming = incoming; faults = faults; steady = steady }
 
 -- the node as its history sees it
@@ -27,12 +27,12 @@ node v = record { core = v.core; disk = v.disk; pushed = pushed_of v.outgoing; t
 
 -- Both sides began the connection of this number, and the core opened; all else is as it was.
 pub record IsRestarted (number : ℕ) (old new : SecondaryView) : Type 0 where
-  pub before : OutgoingState
+  pub before : PacketSenderState
   pub room : Option ℕ
   pub waiting : Option ℕ
   pub out_there : old.outgoing ≡ Some before
   pub out : new.outgoing ≡ Some (record (pushing_anew number before) { room = room; waiting = waiting })
-  pub had : IncomingState
+  pub had : PacketReceiverState
   pub queued : Option (List (List ℕ))
   pub capacity : Option ℕ
   pub in_there : old.incoming ≡ Some had
@@ -44,12 +44,12 @@ abbrev pub IsDue : Option (List Packet) → SecondaryState → Type 0
 IsDue None s = Unit {0}
 IsDue (Some begun) s = is_some s.end ≡ true → (packet : Packet) × (due s ≡ Ok packet) × (begun ≡ packet ∷ [])
 
-abbrev pub IsBegun : Option OutgoingState → SecondaryState → Type 0
+abbrev pub IsBegun : Option PacketSenderState → SecondaryState → Type 0
 IsBegun None s = Unit {0}
 IsBegun (Some o) s = IsDue o.partly s
 
 -- the sides' connections are not numbered above the node's
-abbrev pub IsNumbered : Option OutgoingState → Option IncomingState → SecondaryState → Type 0
+abbrev pub IsNumbered : Option PacketSenderState → Option PacketReceiverState → SecondaryState → Type 0
 IsNumbered (Some o) (Some i) s = (o.number ≤ s.number) × (i.number ≤ s.number)
 IsNumbered _ _ s = Unit {0}
 

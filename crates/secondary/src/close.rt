@@ -1,8 +1,8 @@
 //! Closing the end.
 ghost use Rattle.std.specs.Prelude.{◌≡◌};
 ghost use Rattle.model.specs.LocalRuns.{ClosesToo};
-ghost use Rattle.secondary_steps.specs.Node.{NodeSteps};
-ghost use Rattle.secondary_steps.specs.Steps.{plainly, replied};
+ghost use Rattle.secondary_protocol.specs.Node.{NodeSteps};
+ghost use Rattle.secondary_protocol.specs.Steps.{plainly, replied};
 ghost use Rattle.secondary.specs.State.{node};
 
 use crate::Secondary;

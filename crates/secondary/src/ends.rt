@@ -4,19 +4,19 @@ ghost use Rattle.std.specs.Option.{option_copied};
 
 use crate::Secondary;
 use blocks::Store;
-use endpoint::{Incoming, Outgoing};
+use endpoint::{PacketReceiver, PacketSender};
 use link::{FrameIn, FrameOut};
 
 impl<O: FrameOut + Drop, I: FrameIn + Drop, S: Store + Drop> Secondary<O, I, S> {
     /// What went out, where the node was opened.
-    pub fn outgoing(&self) -> Option<&Outgoing<O>>
+    pub fn outgoing(&self) -> Option<&PacketSender<O>>
         ensures { option_copied result ≡ self.now.outgoing }
     {
         self.outgoing.as_ref()
     }
 
     /// What came in, where the node was opened.
-    pub fn incoming(&self) -> Option<&Incoming<I>>
+    pub fn incoming(&self) -> Option<&PacketReceiver<I>>
         ensures { option_copied result ≡ self.now.incoming }
     {
         self.incoming.as_ref()

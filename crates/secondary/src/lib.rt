@@ -14,7 +14,7 @@ mod state;
 mod usage;
 
 pub use blocks::{Block, Done, Refusal, Settings, Store, Tuple};
-pub use endpoint::{Incoming, Outgoing};
+pub use endpoint::{PacketReceiver, PacketSender};
 pub use link::{FrameIn, FrameOut};
 pub use parts::Unlinked;
 pub use secondary_core::Usage;

@@ -2,17 +2,17 @@
 ghost use Rattle.std.specs.Prelude.{◌≡◌, ◌<◌, ◌+◌, ◌-◌, ◌&&◌, if◌then◌else◌, Some, is_some, true, Ok, Err, OnOk, OnErr};
 ghost use Rattle.blocks.specs.declared.refusal.Refusal.TheVariants.{NotDrained};
 ghost use Rattle.endpoint.specs.Calls.{IsNewIn, IsNewOut};
-ghost use Rattle.endpoint.specs.Incoming.{incoming};
-ghost use Rattle.endpoint.specs.Outgoing.{outgoing};
+ghost use Rattle.endpoint.specs.PacketReceiver.{incoming};
+ghost use Rattle.endpoint.specs.PacketSender.{outgoing};
 ghost use Rattle.model.specs.LocalRuns.{OpensToo};
-ghost use Rattle.model.specs.Secondary.{SecondaryHistory, inward, is_drained};
-ghost use Rattle.secondary_steps.specs.Node.{NodeHas, NodeSteps};
-ghost use Rattle.secondary_steps.specs.Steps.{plainly, replied};
+ghost use Rattle.model.specs.Secondary.{SecondaryHistory, secondary_connection, is_drained};
+ghost use Rattle.secondary_protocol.specs.Node.{NodeHas, NodeSteps};
+ghost use Rattle.secondary_protocol.specs.Steps.{plainly, replied};
 ghost use Rattle.secondary.specs.State.{IsRestarted, node};
 
 use crate::Secondary;
 use blocks::{Refusal, Store};
-use endpoint::{Incoming, Outgoing};
+use endpoint::{PacketReceiver, PacketSender};
 use link::{FrameIn, FrameOut};
 
 impl<O: FrameOut + Drop, I: FrameIn + Drop, S: Store + Drop> Secondary<O, I, S> {
@@ -35,15 +35,15 @@ impl<O: FrameOut + Drop, I: FrameIn + Drop, S: Store + Drop> Secondary<O, I, S> 
     {
         let number = self.core.connection() + 1;
         self.core.open(number)?;
-        self.outgoing = Some(Outgoing::new(outward));
-        self.incoming = Some(Incoming::new(inward));
+        self.outgoing = Some(PacketSender::new(outward));
+        self.incoming = Some(PacketReceiver::new(inward));
         Ok(())
     }
 
     /// Whether `open` and `reopen` would be taken now; `NotDrained` (36) if the end is open, and where items are pending.
     pub fn may_open(&self) -> Result<(), Refusal>
         ensures { (h : SecondaryHistory) → NodeHas (node self.now) h
-            → result ≡ (if (inward h).closed && is_drained h then Ok tt else Err NotDrained) }
+            → result ≡ (if (secondary_connection h).closed && is_drained h then Ok tt else Err NotDrained) }
     {
         if self.is_open() || !self.is_drained() {
             return Err(Refusal::NotDrained);

@@ -1,8 +1,8 @@
 //! Applying items to the disk.
 ghost use Rattle.std.specs.Prelude.{◌≡◌, true};
 ghost use Rattle.model.specs.Pair.{peer_fault_kept};
-ghost use Rattle.secondary_steps.specs.Node.{IsStep};
-ghost use Rattle.secondary_steps.specs.Steps.{replied};
+ghost use Rattle.secondary_protocol.specs.Node.{IsStep};
+ghost use Rattle.secondary_protocol.specs.Steps.{replied};
 ghost use Rattle.secondary.specs.Calls.{AppliesOne};
 ghost use Rattle.secondary.specs.State.{node};
 

@@ -4,7 +4,7 @@ ghost use Rattle.blocks.specs.declared.block.TheConstants.{BLOCK_BYTES};
 ghost use Rattle.blocks.specs.declared.refusal.Refusal.TheVariants.{BadRange, NoMemory, ReadFault};
 ghost use Rattle.model.specs.Contents.{IsRead, is_range};
 ghost use Rattle.model.specs.Secondary.{SecondaryHistory, secondary_map};
-ghost use Rattle.secondary_steps.specs.Node.{NodeHas};
+ghost use Rattle.secondary_protocol.specs.Node.{NodeHas};
 ghost use Rattle.secondary.specs.Reads.{AreRead};
 ghost use Rattle.secondary.specs.State.{node};
 
@@ -35,7 +35,7 @@ impl<O: FrameOut + Drop, I: FrameIn + Drop, S: Store + Drop> Secondary<O, I, S> 
         }
     }
 
-    /// Reads so many blocks of the disk from this one on, 1 to 32 inside the device and inside one extent.
+    /// Reads blocks of the disk, `count` from the first one on: 1 to 32 inside the device and inside one extent.
     ///
     /// `BadRange` (1) if they are not that, else `NoMemory` (7) if there is no room for their
     /// bytes, else `ReadFault` (14) if the disk fails.

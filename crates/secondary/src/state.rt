@@ -3,26 +3,26 @@ ghost use Rattle.std.specs.Prelude.{◌≡◌, ◌⊎◌, None, length, slice_ge
 ghost use Rattle.blocks.specs.SettingsRange.{IsInRange};
 ghost use Rattle.blocks.specs.declared.refusal.Refusal.TheVariants.{BadSetting, NoMemory};
 ghost use Rattle.model.specs.Secondary.{secondary_opening};
-ghost use Rattle.secondary_steps.specs.Node.{NodeHas};
+ghost use Rattle.secondary_protocol.specs.Node.{NodeHas};
 ghost use Rattle.secondary.specs.State.{node};
 
 use blocks::{Refusal, Settings, Store, Tuple};
-use endpoint::{Incoming, Outgoing};
+use endpoint::{PacketReceiver, PacketSender};
 use link::{FrameIn, FrameOut};
 use secondary_core::SecondaryCore;
 use std::alloc::Global;
 use std::marker::Model;
 
 /// The secondary node, which owns its disk. It takes the primary's frames in order, has its disk do what
-/// they carry epoch by epoch, and acknowledges it; what it may do its core decides. Some history is had, and
-/// a packet that went in part is the one that is due.
+/// they carry epoch by epoch, and acknowledges it; its core decides what it may do. Invariant: the node has some
+/// history of the model (`NodeHas`), and a partly sent packet is the one that is due.
 #[derive(Drop)]
 pub struct Secondary<O: FrameOut + Drop, I: FrameIn + Drop, S: Store + Drop> {
     pub(crate) alloc: Global,
     pub(crate) core: SecondaryCore,
     pub(crate) store: S,
-    pub(crate) outgoing: Option<Outgoing<O>>,
-    pub(crate) incoming: Option<Incoming<I>>,
+    pub(crate) outgoing: Option<PacketSender<O>>,
+    pub(crate) incoming: Option<PacketReceiver<I>>,
 }
 
 impl<O: FrameOut + Drop, I: FrameIn + Drop, S: Store + Drop> Model for Secondary<O, I, S> {

@@ -1,10 +1,10 @@
 //! Read-only accessors.
 ghost use Rattle.std.specs.Prelude.{◌≡◌, ◌&&◌, length, not, ok_or};
 ghost use Rattle.blocks.specs.declared.refusal.Refusal.TheVariants.{NothingThere};
-ghost use Rattle.model.specs.Secondary.{SecondaryHistory, inward, is_drained, items_taken, next_pending};
+ghost use Rattle.model.specs.Secondary.{SecondaryHistory, secondary_connection, is_drained, items_taken, next_pending};
 ghost use Rattle.model.specs.Settlement.{applied_items};
 ghost use Rattle.model.specs.Status.{hello_is_done};
-ghost use Rattle.secondary_steps.specs.Node.{NodeHas};
+ghost use Rattle.secondary_protocol.specs.Node.{NodeHas};
 ghost use Rattle.secondary.specs.State.{node};
 ghost use Rattle.secondary.specs.Usages.{usage_of};
 
@@ -53,14 +53,14 @@ impl<O: FrameOut + Drop, I: FrameIn + Drop, S: Store + Drop> Secondary<O, I, S> 
     /// one with a higher number.
     pub fn number(&self) -> u32
         ensures number { result ≡ self.now.core.number }
-        ensures history { (h : SecondaryHistory) → NodeHas (node self.now) h → result ≡ (inward h).number }
+        ensures history { (h : SecondaryHistory) → NodeHas (node self.now) h → result ≡ (secondary_connection h).number }
     {
         self.core.connection()
     }
 
     /// How many items were taken on the last connection.
     pub fn items_taken(&self) -> u32
-        ensures { (h : SecondaryHistory) → NodeHas (node self.now) h → result ≡ length (items_taken (inward h)) }
+        ensures { (h : SecondaryHistory) → NodeHas (node self.now) h → result ≡ length (items_taken (secondary_connection h)) }
     {
         self.core.items_taken()
     }
@@ -68,21 +68,21 @@ impl<O: FrameOut + Drop, I: FrameIn + Drop, S: Store + Drop> Secondary<O, I, S> 
     /// How many writes and resync items of the last connection are applied. One that the disk failed is not, and
     /// neither is one that was dropped then.
     pub fn items_applied(&self) -> u32
-        ensures { (h : SecondaryHistory) → NodeHas (node self.now) h → result ≡ applied_items (inward h) }
+        ensures { (h : SecondaryHistory) → NodeHas (node self.now) h → result ≡ applied_items (secondary_connection h) }
     {
         self.core.items_applied()
     }
 
     /// Whether the end is open.
     pub fn is_open(&self) -> bool
-        ensures { (h : SecondaryHistory) → NodeHas (node self.now) h → result ≡ not (inward h).closed }
+        ensures { (h : SecondaryHistory) → NodeHas (node self.now) h → result ≡ not (secondary_connection h).closed }
     {
         self.core.is_open()
     }
 
     /// Whether the hello is done: the end is open, and has taken three frames and sent three.
     pub fn is_hello_done(&self) -> bool
-        ensures { (h : SecondaryHistory) → NodeHas (node self.now) h → result ≡ (not (inward h).closed && hello_is_done (inward h)) }
+        ensures { (h : SecondaryHistory) → NodeHas (node self.now) h → result ≡ (not (secondary_connection h).closed && hello_is_done (secondary_connection h)) }
     {
         self.core.is_hello_done()
     }

@@ -6,19 +6,19 @@ use Rattle.std.proofs.lemmas.Bool.{cases_lt, le-ltb, lt-leb, lt-ltb}
 use Rattle.std.proofs.lemmas.Bool.Decides.{nat_tests}
 use Rattle.std.proofs.lemmas.List.{append-nil, append_assoc, length-append, length-drop}
 use Rattle.model.specs.Frames.{BarrierAckFrame}
-use Rattle.model.specs.Stream.{Item}
+use Rattle.model.specs.Stream.{StreamItem}
 use Rattle.peerdisk.specs.Pending.{Pending}
-use Rattle.secondary_steps.specs.Core.{answers, is_applied_to}
+use Rattle.secondary_protocol.specs.Core.{answers, is_applied_to}
 use Rattle.secondary_core.specs.Outboxes.{OutboxState, acknowledging}
 
 -- nothing is to be acknowledged
-pub none-new : (ps : List (Pending Item)) (o : OutboxState) → answers ps o.answered o.sizes ≡ [] → acknowledging ps o ≡ o
+pub none-new : (ps : List (Pending StreamItem)) (o : OutboxState) → answers ps o.answered o.sizes ≡ [] → acknowledging ps o ≡ o
 none-new ps o none =
     let zeroed : o.answered + 0 ≡ o.answered = omega arith in
     rw (none, append-nil o.due, zeroed) refl
 
 -- the oldest ended epoch has a pending item
-held : (ps : List (Pending Item)) (answered : ℕ) (sizes : List ℕ) → is_applied_to ps (suc answered) ≡ false → answers ps answered sizes ≡ []
+held : (ps : List (Pending StreamItem)) (answered : ℕ) (sizes : List ℕ) → is_applied_to ps (suc answered) ≡ false → answers ps answered sizes ≡ []
 held ps answered [] waits = refl
 held ps answered (size ∷ sizes) waits = rw waits refl
 
@@ -26,7 +26,7 @@ held ps answered (size ∷ sizes) waits = rw waits refl
 abbrev pub and_next : ℕ → List ℕ → OutboxState → OutboxState
 and_next size sizes e = record e { due = e.due ++ BarrierAckFrame (suc e.answered) size ∷ []; answered = suc e.answered; sizes = sizes }
 
-pub next : (ps : List (Pending Item)) (e : OutboxState) (size : ℕ) (sizes : List ℕ) → e.sizes ≡ size ∷ sizes → is_applied_to ps (suc e.answered) ≡ true
+pub next : (ps : List (Pending StreamItem)) (e : OutboxState) (size : ℕ) (sizes : List ℕ) → e.sizes ≡ size ∷ sizes → is_applied_to ps (suc e.answered) ≡ true
     → acknowledging ps (and_next size sizes e) ≡ acknowledging ps e
 next ps e size sizes are applied =
     let more = answers ps (suc e.answered) sizes in
@@ -36,7 +36,7 @@ next ps e size sizes are applied =
     rw (all, dues, counts, are) refl
 
 -- Which epochs are applied is read off the lowest pending place.
-pub applied-first : (ps : List (Pending Item)) (first epoch : ℕ) → option_map (λ p. p.epoch) (slice_get ps 0) ≡ Some first → 0 < epoch
+pub applied-first : (ps : List (Pending StreamItem)) (first epoch : ℕ) → option_map (λ p. p.epoch) (slice_get ps 0) ≡ Some first → 0 < epoch
     → is_applied_to ps epoch ≡ nat_le epoch (first - 1)
 applied-first [] first epoch is some = absurd (cc)
 applied-first (p ∷ ps) first epoch is some = let same : p.epoch ≡ first = cc in rw same (by-order (cases_lt epoch first))
@@ -45,12 +45,12 @@ applied-first (p ∷ ps) first epoch is some = let same : p.epoch ≡ first = cc
     by-order (inl less) = let low : nat_le epoch (first - 1) ≡ true = grind (arith, nat_tests) in lt-ltb epoch first less ∙ sym low
     by-order (inr more) = let high : nat_le epoch (first - 1) ≡ false = grind (arith, nat_tests) in le-ltb epoch first more ∙ sym high
 
-pub applied-none : (ps : List (Pending Item)) (epoch : ℕ) → option_map (λ p. p.epoch) (slice_get ps 0) ≡ None → is_applied_to ps epoch ≡ true
+pub applied-none : (ps : List (Pending StreamItem)) (epoch : ℕ) → option_map (λ p. p.epoch) (slice_get ps 0) ≡ None → is_applied_to ps epoch ≡ true
 applied-none [] epoch is = refl
 applied-none (p ∷ ps) epoch is = absurd (cc)
 
 -- The acknowledgements that become due are of epochs that waited for that.
-few-new : (ps : List (Pending Item)) (epoch : ℕ) (sizes : List ℕ) → length (answers ps epoch sizes) ≤ length sizes
+few-new : (ps : List (Pending StreamItem)) (epoch : ℕ) (sizes : List ℕ) → length (answers ps epoch sizes) ≤ length sizes
 few-new ps epoch [] = omega arith
 few-new ps epoch (size ∷ sizes) = by-test (few-new ps (suc epoch) sizes) (is_applied_to ps (suc epoch)) refl
   where
@@ -64,7 +64,7 @@ pub record Counts (e f : OutboxState) : Type 0 where
   pub epochs : f.answered + length f.sizes ≡ e.answered + length e.sizes
   pub fewer : length f.sizes ≤ length e.sizes
 
-pub counts : (ps : List (Pending Item)) (e : OutboxState) → Counts e (acknowledging ps e)
+pub counts : (ps : List (Pending StreamItem)) (e : OutboxState) → Counts e (acknowledging ps e)
 counts ps e =
     let new = answers ps e.answered e.sizes in
     let few = few-new ps e.answered e.sizes in
@@ -76,7 +76,7 @@ counts ps e =
     }
 
 -- Nothing is left to acknowledge: the next epoch is not applied, or its number does not fit, and then none is left.
-pub at-end : (ps : List (Pending Item)) (answered : ℕ) (sizes : List ℕ) (last : ℕ)
+pub at-end : (ps : List (Pending StreamItem)) (answered : ℕ) (sizes : List ℕ) (last : ℕ)
     → ((epoch : ℕ) → 0 < epoch → epoch < 4294967296 → is_applied_to ps epoch ≡ nat_le epoch last)
     → last ≤ answered → answered + length sizes < 4294967296 → answers ps answered sizes ≡ []
 at-end ps answered [] last reads done fits = refl

@@ -9,7 +9,7 @@ use Rattle.packets.specs.declared.packet.Packet.{Packet}
 use Rattle.handshakes.specs.Handshake.{judged}
 use Rattle.model.specs.Frames.{Received}
 use Rattle.endpoint.specs.Meaning.{meaning}
-use Rattle.secondary_steps.specs.Core.{EndState, Judged, SecondaryState, judging, judging_hello, may_take, take_at, taking}
+use Rattle.secondary_protocol.specs.Core.{EndState, Judged, SecondaryState, judging, judging_hello, may_take, take_at, taking}
 use Rattle.secondary_core.specs.Receiving.{judged_at, told}
 
 -- What the handshake refuses the step refuses, for the same.
@@ -36,8 +36,8 @@ closes (Err other) s t refusal same =
 
 pub closed : (frame : Received) (o : Option EndState) (s t : SecondaryState) (refusal : Refusal) → is_some o ≡ true → (Err refusal, t) ≡ judged_at frame o s
     → (Err refusal, record t { end = None }) ≡ take_at frame o s
-closed frame None s t refusal stands same = absurd (cc)
-closed frame (Some e) s t refusal stands same = closes (judging frame e s) s t refusal same
+closed frame None s t refusal is_established same = absurd (cc)
+closed frame (Some e) s t refusal is_established same = closes (judging frame e s) s t refusal same
 
 -- A frame may be taken at an open end alone.
 pub may-open : (s : SecondaryState) → IsOk (may_take s) → is_some s.end ≡ true

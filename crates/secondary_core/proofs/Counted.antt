@@ -2,8 +2,8 @@
 use Rattle.std.proofs.Common.{ℕ, zero, suc, ◌≡◌, ◌*◌, ◌/◌, ◌≤◌, List, [], ◌∷◌, length, take, refl, sym, ◌∙◌, ap, arith}
 use Rattle.blocks.specs.Contents.{blocks_of, cut}
 use Rattle.model.specs.Stream.{contents_of, first_of}
-use Rattle.secondary_core.specs.declared.item.Kind.{Kind}
-use Rattle.secondary_core.specs.declared.item.Kind.TheVariants as kind
+use Rattle.secondary_core.specs.declared.item.ItemKind.{ItemKind}
+use Rattle.secondary_core.specs.declared.item.ItemKind.TheVariants as kind
 use Rattle.secondary_core.specs.Items.{IsNamed, item_as}
 
 length-cut : (size n : ℕ) (bytes : List ℕ) → length (cut size n bytes) ≡ n
@@ -21,18 +21,18 @@ one-block bytes long =
     let one : length bytes / 4096 ≡ 1 = omega (arith, long) in
     rw one (ap (λ (b : List ℕ). b ∷ []) (take-all 4096 bytes (omega (arith, long))))
 
-pub contents-are : (k : Kind) (first count : ℕ) (bytes : List ℕ) → length bytes ≡ 4096 * count → IsNamed k count
+pub contents-are : (k : ItemKind) (first count : ℕ) (bytes : List ℕ) → length bytes ≡ 4096 * count → IsNamed k count
     → blocks_of 4096 bytes ≡ contents_of (item_as k first bytes)
 contents-are (kind.Write number) first count bytes long named = refl
 contents-are kind.Resync first count bytes long named = one-block bytes (omega (arith, long, named))
 
-pub count-is : (k : Kind) (first count : ℕ) (bytes : List ℕ) → length bytes ≡ 4096 * count → IsNamed k count
+pub count-is : (k : ItemKind) (first count : ℕ) (bytes : List ℕ) → length bytes ≡ 4096 * count → IsNamed k count
     → count ≡ length (contents_of (item_as k first bytes))
 count-is (kind.Write number) first count bytes long named = let n : length bytes / 4096 ≡ count =
     omega (arith, long) in sym (length-cut 4096 (length bytes / 4096) bytes ∙ n)
 count-is kind.Resync first count bytes long named = named
 
-pub first-is : (k : Kind) (first : ℕ) (bytes : List ℕ) → first_of (item_as k first bytes) ≡ first
+pub first-is : (k : ItemKind) (first : ℕ) (bytes : List ℕ) → first_of (item_as k first bytes) ≡ first
 first-is (kind.Write number) first bytes = refl
 first-is kind.Resync first bytes = refl
 

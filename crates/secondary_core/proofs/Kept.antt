@@ -5,11 +5,11 @@ use Rattle.std.specs.List.{AllByRecursion}
 use Rattle.std.proofs.lemmas.List.{length-append}
 use Rattle.blocks.specs.declared.settings.Settings.{Settings}
 use Rattle.model.specs.Frames.{Packet}
-use Rattle.model.specs.Stream.{Item, WriteItem, ResyncItem, BarrierItem, SyncUuidItem, UuidsItem, contents_of, first_of}
+use Rattle.model.specs.Stream.{StreamItem, WriteItem, ResyncItem, BarrierItem, SyncUuidItem, UuidsItem, contents_of, first_of}
 use Rattle.peerdisk.specs.Pending.{PeerDiskState, Pending, is_pending, without}
 use Rattle.peerdisk.proofs.Pendings.{all-push, all-without}
 use Rattle.peerdisk.proofs.Stamps.{length-flags}
-use Rattle.secondary_steps.specs.Core.{Intake, and_item, answers}
+use Rattle.secondary_protocol.specs.Core.{Intake, and_item, answers}
 use Rattle.secondary_core.specs.Connections.{HasRoom, IsServed, acknowledged}
 use Rattle.secondary_core.specs.Outboxes.{OutboxState, acknowledging}
 use Rattle.secondary_core.specs.State.{IsOf, IsPending}
@@ -23,7 +23,7 @@ one_most None = omega arith
 one_most (Some x) = omega arith
 
 -- What comes due is served.
-pub served : (new : List Packet) (ps : List (Pending Item)) (barriers : ℕ) (o p : OutboxState) → p ≡ acknowledging ps (record o { due = o.due ++ new })
+pub served : (new : List Packet) (ps : List (Pending StreamItem)) (barriers : ℕ) (o p : OutboxState) → p ≡ acknowledging ps (record o { due = o.due ++ new })
     → answers ps p.answered p.sizes ≡ [] → length o.due + length new + length o.sizes + length ps ≤ o.answers
     → o.answered + length o.sizes ≡ barriers → IsServed ps barriers p
 served new ps barriers o p same all room ended =
@@ -35,7 +35,7 @@ served new ps barriers o p same all room ended =
     })
 
 -- The room for one frame more is still there after an item that was applied.
-pub room-after : (new : List Packet) (ps qs : List (Pending Item)) (o : Option Connection) → length new + length qs ≤ length ps
+pub room-after : (new : List Packet) (ps qs : List (Pending StreamItem)) (o : Option Connection) → length new + length qs ≤ length ps
     → IfSome o (λ c. HasRoom ps c.outbox) → IfSome (option_map (acknowledged new qs) o) (λ c. HasRoom qs c.outbox)
 room-after new ps qs None less room = tt
 room-after new ps qs (Some c) less room =
@@ -46,13 +46,13 @@ room-after new ps qs (Some c) less room =
     }
 
 -- An item is applied.
-pub applied : (settings : Settings) (inbox : Intake) (c d : PeerDiskState Item) (n place : ℕ) → IsPending settings inbox c n
+pub applied : (settings : Settings) (inbox : Intake) (c d : PeerDiskState StreamItem) (n place : ℕ) → IsPending settings inbox c n
     → is_pending place c.pending ≡ true → d ≡ record c { pending = without place c.pending; reach = d.reach } → IsPending settings inbox d (n + 1)
 applied settings inbox c d n place is there same =
-    let left : d.pending ≡ without place c.pending = ap (λ (d : PeerDiskState Item). d.pending) same in
-    let less : length d.pending + 1 ≡ length c.pending = ap (λ (ps : List (Pending Item)). length ps + 1) left ∙ one_less place c.pending there in
+    let left : d.pending ≡ without place c.pending = ap (λ (d : PeerDiskState StreamItem). d.pending) same in
+    let less : length d.pending + 1 ≡ length c.pending = ap (λ (ps : List (Pending StreamItem)). length ps + 1) left ∙ one_less place c.pending there in
     record {
-      limit = ap (λ (d : PeerDiskState Item). d.limit) same ∙ is.limit;
+      limit = ap (λ (d : PeerDiskState StreamItem). d.limit) same ∙ is.limit;
       size = is.size;
       few = omega (arith, less, is.few);
       pending = subst (AllByRecursion (IsOf settings.blocks inbox)) (sym left) (all-without (IsOf settings.blocks inbox) place c.pending is.pending);
@@ -65,32 +65,32 @@ record More (t u : Intake) : Type 0 where
   barriers : u.barriers ≡ t.barriers
   blocks : length u.blocks ≡ length t.blocks
 
-more : (item : Item) (t : Intake) → 0 < length (contents_of item) → More t (and_item item t)
+more : (item : StreamItem) (t : Intake) → 0 < length (contents_of item) → More t (and_item item t)
 more (WriteItem write) t some = record { places = refl; barriers = refl; blocks = length-flags (length t.blocks) _ }
 more (ResyncItem block contents) t some = record { places = refl; barriers = refl; blocks = length-flags (length t.blocks) _ }
 more (BarrierItem epoch) t some = absurd (omega (arith, some))
 more (SyncUuidItem word) t some = absurd (omega (arith, some))
 more (UuidsItem tuple) t some = absurd (omega (arith, some))
 
-pub same-barriers : (item : Item) (t : Intake) → 0 < length (contents_of item) → (and_item item t).barriers ≡ t.barriers
+pub same-barriers : (item : StreamItem) (t : Intake) → 0 < length (contents_of item) → (and_item item t).barriers ≡ t.barriers
 same-barriers item t some = (more item t some).barriers
 
 -- An item with blocks is taken.
-pub admitted : (settings : Settings) (item : Item) (t u : Intake) (c d : PeerDiskState Item) (n : ℕ) → IsPending settings t c n
+pub admitted : (settings : Settings) (item : StreamItem) (t u : Intake) (c d : PeerDiskState StreamItem) (n : ℕ) → IsPending settings t c n
     → length c.pending < settings.pending → 0 < length (contents_of item) → first_of item + length (contents_of item) ≤ settings.blocks
     → u ≡ and_item item t
     → d ≡ record c { pending = c.pending ++ record { place = t.places; epoch = suc t.barriers; item = item } ∷ []; reach = d.reach }
     → IsPending settings u d n
 admitted settings item t u c d n is few some inside taken same =
-    let last : Pending Item = record { place = t.places; epoch = suc t.barriers; item = item } in
+    let last : Pending StreamItem = record { place = t.places; epoch = suc t.barriers; item = item } in
     let m : More t u = subst (More t) (sym taken) (more item t some) in
-    let left : d.pending ≡ c.pending ++ last ∷ [] = ap (λ (d : PeerDiskState Item). d.pending) same in
+    let left : d.pending ≡ c.pending ++ last ∷ [] = ap (λ (d : PeerDiskState StreamItem). d.pending) same in
     let longer : length d.pending ≡ length c.pending + 1 = ap length left ∙ length-append c.pending (last ∷ []) in
     let old : AllByRecursion (IsOf settings.blocks u) c.pending = of-more settings.blocks t u c.pending (omega (arith, m.places))
     (omega (arith, m.barriers)) is.pending in
     let here : IsOf settings.blocks u last = record { place = omega (arith, m.places); epoch = omega (arith, m.barriers); inside = inside } in
     record {
-      limit = ap (λ (d : PeerDiskState Item). d.limit) same ∙ is.limit;
+      limit = ap (λ (d : PeerDiskState StreamItem). d.limit) same ∙ is.limit;
       size = m.blocks ∙ is.size;
       few = omega (arith, longer, few);
       pending = subst (AllByRecursion (IsOf settings.blocks u)) (sym left) (all-push (IsOf settings.blocks u) last c.pending old here);
@@ -98,7 +98,7 @@ admitted settings item t u c d n is few some inside taken same =
     }
 
 -- An item without blocks is taken.
-pub taken : (settings : Settings) (t u : Intake) (c : PeerDiskState Item) (n : ℕ) → IsPending settings t c n → u.places ≡ suc t.places
+pub taken : (settings : Settings) (t u : Intake) (c : PeerDiskState StreamItem) (n : ℕ) → IsPending settings t c n → u.places ≡ suc t.places
     → t.barriers ≤ u.barriers → length u.blocks ≡ length t.blocks → IsPending settings u c n
 taken settings t u c n is places barriers blocks = record {
   limit = is.limit;

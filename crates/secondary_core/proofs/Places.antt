@@ -5,14 +5,14 @@ use Rattle.std.specs.Prelude.{IfOk, IsOk, MatchResult, filter, is_some}
 use Rattle.std.specs.List.{AllByRecursion}
 use Rattle.blocks.specs.declared.refusal.Refusal.{Refusal}
 use Rattle.blocks.specs.declared.refusal.Refusal.TheVariants.{EpochOpen, UnknownJob}
-use Rattle.model.specs.Stream.{Item, contents_of, first_of}
+use Rattle.model.specs.Stream.{StreamItem, contents_of, first_of}
 use Rattle.peerdisk.specs.Pending.{Pending, after_fault, at_place, epoch_at, has_earlier, is_pending, start, without}
 use Rattle.peerdisk.proofs.Pendings.{all-filter, all-without, pending-is, start-none}
-use Rattle.secondary_steps.specs.Core.{Intake}
+use Rattle.secondary_protocol.specs.Core.{Intake}
 use Rattle.secondary_core.specs.State.{IsOf}
 
 -- More was taken.
-pub of-more : (size : ℕ) (t u : Intake) (ps : List (Pending Item)) → t.places ≤ u.places → t.barriers ≤ u.barriers → AllByRecursion (IsOf size t) ps
+pub of-more : (size : ℕ) (t u : Intake) (ps : List (Pending StreamItem)) → t.places ≤ u.places → t.barriers ≤ u.barriers → AllByRecursion (IsOf size t) ps
     → AllByRecursion (IsOf size u) ps
 of-more size t u [] places barriers all = tt
 of-more size t u (p ∷ ps) places barriers all =
@@ -42,11 +42,11 @@ at-all {X} P k (q ∷ ps) p all some = by-place (at-all P k ps p all.1) (nat_eq 
     by-place rest false is = rest (rw is at some)
 
 -- The item that may start is one that was taken.
-pub start-inside : (size : ℕ) (t : Intake) (k : ℕ) (ps : List (Pending Item)) (item : Item) → AllByRecursion (IsOf size t) ps → start k ps ≡ Ok item
+pub start-inside : (size : ℕ) (t : Intake) (k : ℕ) (ps : List (Pending StreamItem)) (item : StreamItem) → AllByRecursion (IsOf size t) ps → start k ps ≡ Ok item
     → first_of item + length (contents_of item) ≤ size
 start-inside size t k ps item all started = by-item (at_place k ps) refl
   where
-    by-item : (o : Option (Pending Item)) → at_place k ps ≡ o → first_of item + length (contents_of item) ≤ size
+    by-item : (o : Option (Pending StreamItem)) → at_place k ps ≡ o → first_of item + length (contents_of item) ≤ size
     by-item None none = absurd (let other : Err UnknownJob ≡ Ok item = sym (start-none k ps none) ∙ started in cc)
     by-item (Some p) some = by-epoch (has_earlier k ps) refl
       where
@@ -55,7 +55,7 @@ start-inside size t k ps item all started = by-item (at_place k ps) refl
         by-epoch false held =
             let same : Ok p.item ≡ Ok item = sym (rw (some, held) refl) ∙ started in
             let one : p.item ≡ item = cc in
-            subst (λ (x : Item). first_of x + length (contents_of x) ≤ size) one (at-all (IsOf size t) k ps p all some).inside
+            subst (λ (x : StreamItem). first_of x + length (contents_of x) ≤ size) one (at-all (IsOf size t) k ps p all some).inside
 
 -- One item goes.
 pub one_less : {X : Type 0} (k : ℕ) (ps : List (Pending X)) → is_pending k ps ≡ true → length (without k ps) + 1 ≡ length ps
@@ -82,7 +82,7 @@ fewer k ps there = omega (arith, no-more (λ p. nat_le p.epoch (epoch_at k ps)) 
 pub all-after : {X : Type 0} (P : Pending X → Type 0) (k : ℕ) (ps : List (Pending X)) → AllByRecursion P ps → AllByRecursion P (after_fault k ps)
 all-after P k ps all = all-filter P (λ p. nat_le p.epoch (epoch_at k ps)) (without k ps) (all-without P k ps all)
 
-pub started-inside : {R : Type 0} (now : R → Item) (r : Result R Refusal) (size : ℕ) (t : Intake) (k : ℕ) (ps : List (Pending Item))
+pub started-inside : {R : Type 0} (now : R → StreamItem) (r : Result R Refusal) (size : ℕ) (t : Intake) (k : ℕ) (ps : List (Pending StreamItem))
     → AllByRecursion (IsOf size t) ps
     → MatchResult r (λ x. start k ps ≡ Ok (now x)) (λ e. start k ps ≡ Err e) → IfOk r (λ x. first_of (now x) + length (contents_of (now x)) ≤ size)
 started-inside now (Ok x) size t k ps all started = start-inside size t k ps (now x) all started

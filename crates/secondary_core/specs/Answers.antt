@@ -6,8 +6,8 @@ use Rattle.packets.specs.declared.packet.Packet.TheVariants as packet
 use Rattle.packets.specs.Spelling.{IsSpellable}
 use Rattle.endpoint.specs.Meaning.{meaning}
 use Rattle.model.specs.Frames as frames
-use Rattle.model.specs.Stream.{Item, WriteItem}
-use Rattle.secondary_steps.specs.Core.{receipt}
+use Rattle.model.specs.Stream.{StreamItem, WriteItem}
+use Rattle.secondary_protocol.specs.Core.{receipt}
 use Rattle.secondary_core.specs.declared.answer.Told.{Told}
 use Rattle.secondary_core.specs.declared.answer.Told.TheVariants as told
 use Rattle.secondary_core.specs.declared.answer.Answer.TheInside.{Inside}
@@ -28,6 +28,6 @@ abbrev pub IsAnswer : Inside → Type 0
 IsAnswer a = IsSpellable (packet_of a.told)
 
 -- what is acknowledged when an item with blocks is taken: a write under B
-abbrev pub receipt_of : Protocol → ℕ → Item → List frames.Packet
+abbrev pub receipt_of : Protocol → ℕ → StreamItem → List frames.Packet
 receipt_of protocol place (WriteItem write) = receipt protocol place (WriteItem write)
 receipt_of protocol place item = []

@@ -1,6 +1,6 @@
 -- What the fields of what is kept of a stream stand for.
 use Rattle.std.specs.Prelude.{◌≤◌}
-use Rattle.secondary_steps.specs.Core.{Intake}
+use Rattle.secondary_protocol.specs.Core.{Intake}
 use Rattle.secondary_core.specs.declared.inbox.Inbox.TheInside.{Inside}
 
 -- the fields as plain values

@@ -1,27 +1,27 @@
 -- What the fields of an item stand for.
 use Rattle.std.specs.Prelude.{ℕ, ◌≡◌, ◌==◌, ◌*◌, ◌<◌, ◌^◌, Bool, true, false, List, length}
 use Rattle.blocks.specs.Contents.{blocks_of}
-use Rattle.model.specs.Stream.{Item, WriteItem, ResyncItem}
-use Rattle.secondary_core.specs.declared.item.Kind.{Kind}
-use Rattle.secondary_core.specs.declared.item.Kind.TheVariants as kind
-use Rattle.secondary_core.specs.declared.item.Item.TheInside.{Inside}
+use Rattle.model.specs.Stream.{StreamItem, WriteItem, ResyncItem}
+use Rattle.secondary_core.specs.declared.item.ItemKind.{ItemKind}
+use Rattle.secondary_core.specs.declared.item.ItemKind.TheVariants as kind
+use Rattle.secondary_core.specs.declared.item.PendingItem.TheInside.{Inside}
 
 -- a write of these bytes, or a block of a resync
-abbrev pub item_as : Kind → ℕ → List ℕ → Item
+abbrev pub item_as : ItemKind → ℕ → List ℕ → StreamItem
 item_as (kind.Write number) first bytes = WriteItem (record { number = number; first = first; contents = blocks_of 4096 bytes })
 item_as kind.Resync first bytes = ResyncItem first bytes
 
 -- the fields as a plain value
-abbrev pub item_of : Inside → Item
+abbrev pub item_of : Inside → StreamItem
 item_of i = item_as i.kind i.range.first.0 i.contents
 
 -- a write has a number, and a resync's item one block
-abbrev pub IsNamed : Kind → ℕ → Type 0
+abbrev pub IsNamed : ItemKind → ℕ → Type 0
 IsNamed (kind.Write number) count = 0 < number
 IsNamed kind.Resync count = count ≡ 1
 
 -- the item is a write of this number, or a block of a resync
-abbrev pub is_kind : Kind → Item → Bool
+abbrev pub is_kind : ItemKind → StreamItem → Bool
 is_kind (kind.Write number) (WriteItem write) = number == write.number
 is_kind kind.Resync (ResyncItem block contents) = true
 is_kind k item = false

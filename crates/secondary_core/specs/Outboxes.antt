@@ -2,9 +2,9 @@
 use Rattle.std.specs.Prelude.{ℕ, ◌+◌, ◌<◌, ◌^◌, ◌++◌, List, [], drop, length}
 use Rattle.std.specs.VecDeque.{deque_capacity}
 use Rattle.model.specs.Frames.{Packet}
-use Rattle.model.specs.Stream.{Item}
+use Rattle.model.specs.Stream.{StreamItem}
 use Rattle.peerdisk.specs.Pending.{Pending}
-use Rattle.secondary_steps.specs.Core.{answers}
+use Rattle.secondary_protocol.specs.Core.{answers}
 use Rattle.secondary_core.specs.declared.outbox.Outbox.TheInside.{Inside}
 
 -- What is due; how many epochs are acknowledged, or about to be, and the sizes of the others that a barrier ended; and how many
@@ -35,7 +35,7 @@ abbrev pub begun : ℕ → ℕ → OutboxState
 begun answers epochs = record { due = []; answered = 0; sizes = []; answers = answers; epochs = epochs }
 
 -- each epoch up to whose end all items are applied is acknowledged
-abbrev pub acknowledging : List (Pending Item) → OutboxState → OutboxState
+abbrev pub acknowledging : List (Pending StreamItem) → OutboxState → OutboxState
 acknowledging pending o =
     let new = answers pending o.answered o.sizes in
     record o { due = o.due ++ new; answered = o.answered + length new; sizes = drop (length new) o.sizes }

@@ -4,10 +4,10 @@ use Rattle.blocks.specs.declared.refusal.Refusal.{Refusal}
 use Rattle.blocks.specs.declared.refusal.Refusal.TheVariants.{NotConnected}
 use Rattle.blocks.specs.declared.outcome.What.{What}
 use Rattle.model.specs.Contents.{is_range}
-use Rattle.model.specs.Stream.{Item}
+use Rattle.model.specs.Stream.{StreamItem}
 use Rattle.model.specs.Frames.{Packet, Received}
 use Rattle.model.specs.SecondarySteps.{has_place}
-use Rattle.secondary_steps.specs.Core.{EndState, Judged, SecondaryState, and_item, follows, hearing, judging, judging_item, owing, waiting}
+use Rattle.secondary_protocol.specs.Core.{EndState, Judged, SecondaryState, and_item, follows, hearing, judging, judging_item, owing, waiting}
 use Rattle.secondary_core.specs.Answers.{receipt_of}
 use Rattle.secondary_core.specs.State.{CoreState}
 
@@ -41,7 +41,7 @@ abbrev pub is_next : ℕ → ℕ → ℕ → SecondaryState → Bool
 is_next at first count s = ((at == s.intake.places) && has_place s.intake.places) && is_range s.settings first count
 
 -- an item with blocks waits for the disk, and its receipt is due where the protocol asks for one
-abbrev pub admitted : Item → SecondaryState → SecondaryState
+abbrev pub admitted : StreamItem → SecondaryState → SecondaryState
 admitted item s =
     follows (record s {
       intake = and_item item s.intake;

@@ -2,10 +2,10 @@
 use Rattle.std.specs.Prelude.{ℕ, suc, ◌≡◌, ◌+◌, ◌<◌, ◌≤◌, Bool, true, length, option_map, IfSome}
 use Rattle.std.specs.List.{AllByRecursion}
 use Rattle.blocks.specs.SettingsRange.{IsInRange}
-use Rattle.model.specs.Stream.{Item, first_of, contents_of}
+use Rattle.model.specs.Stream.{StreamItem, first_of, contents_of}
 use Rattle.blocks.specs.declared.settings.Settings.{Settings}
 use Rattle.peerdisk.specs.Pending.{PeerDiskState, Pending}
-use Rattle.secondary_steps.specs.Core.{Intake, SecondaryState}
+use Rattle.secondary_protocol.specs.Core.{Intake, SecondaryState}
 use Rattle.secondary_core.specs.Connections.{HasRoom, IsServed, end_of}
 use Rattle.secondary_core.specs.declared.state.SecondaryCore.TheInside.{Inside}
 
@@ -32,14 +32,14 @@ core_of c = record {
 }
 
 -- A pending item is one of what was taken, at a device of so many blocks.
-pub record IsOf (size : ℕ) (taken : Intake) (p : Pending Item) : Type 0 where
+pub record IsOf (size : ℕ) (taken : Intake) (p : Pending StreamItem) : Type 0 where
   pub place : p.place < taken.places
   pub epoch : p.epoch ≤ suc taken.barriers
   pub inside : first_of p.item + length (contents_of p.item) ≤ size
 
 -- The blocks are the device's; the disk keeps as many items as the settings say, and has no more; what is pending was taken, and
 -- so was what is applied.
-pub record IsPending (settings : Settings) (inbox : Intake) (disk : PeerDiskState Item) (items_applied : ℕ) : Type 0 where
+pub record IsPending (settings : Settings) (inbox : Intake) (disk : PeerDiskState StreamItem) (items_applied : ℕ) : Type 0 where
   pub limit : disk.limit ≡ settings.pending
   pub size : length inbox.blocks ≡ settings.blocks
   pub few : length disk.pending ≤ settings.pending

@@ -1,6 +1,6 @@
 //! Closing the end.
 ghost use Rattle.std.specs.Prelude.{◌≡◌};
-ghost use Rattle.secondary_steps.specs.Core.{close_end};
+ghost use Rattle.secondary_protocol.specs.Core.{close_end};
 
 use crate::state::SecondaryCore;
 use blocks::Refusal;

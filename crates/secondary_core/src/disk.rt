@@ -1,13 +1,13 @@
-//! What the disk does with pending items.
+//! Pending items and the disk: starting, done, failed.
 ghost use Rattle.std.specs.Prelude.{◌≡◌, ◌+◌, ◌≤◌, length, ok_or, Ok, Err, IsOk, IfOk, MatchResult};
 ghost use Rattle.blocks.specs.declared.outcome.What.TheVariants as what;
 ghost use Rattle.blocks.specs.declared.refusal.Refusal.TheVariants.{NothingThere};
 ghost use Rattle.peerdisk.specs.Pending.{next};
 ghost use Rattle.model.specs.Refusals.{done_with};
 ghost use Rattle.model.specs.Stream.{contents_of, first_of};
-ghost use Rattle.secondary_steps.specs.Core.{applied, failing, start};
+ghost use Rattle.secondary_protocol.specs.Core.{applied, failing, start};
 
-use crate::item::Item;
+use crate::item::PendingItem;
 use crate::send::acknowledge;
 use crate::state::SecondaryCore;
 use blocks::{Done, Refusal, What};
@@ -22,7 +22,7 @@ impl SecondaryCore {
 
     /// The item of a place, which the disk may do now; the device has its blocks. `UnknownJob` (16) comes
     /// where the place is not pending, `EpochOpen` (17) if an item of an earlier epoch is.
-    pub fn start(&self, place: u32) -> Result<&Item, Refusal>
+    pub fn start(&self, place: u32) -> Result<&PendingItem, Refusal>
         ensures started { MatchResult result (λ item. start place self.now.state ≡ Ok item.now) (λ e. start place self.now.state ≡ Err e) }
         ensures inside { IfOk result (λ item. first_of item.now + length (contents_of item.now) ≤ self.now.state.settings.blocks) }
     {

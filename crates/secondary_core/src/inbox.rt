@@ -2,10 +2,10 @@
 ghost use Rattle.std.specs.Prelude.{ℕ, suc, ◌≡◌, ◌+◌, ◌<◌, ◌≤◌, ◌==◌, ◌||◌, nat_lt, length, IfOk, IfErr};
 ghost use Rattle.model.specs.Stream.{BarrierItem, contents_of, first_of};
 ghost use Rattle.model.specs.SecondarySteps.{has_place};
-ghost use Rattle.secondary_steps.specs.Core.{and_item, is_apart, nothing_taken};
+ghost use Rattle.secondary_protocol.specs.Core.{and_item, is_apart, nothing_taken};
 ghost use Rattle.blocks.specs.declared.refusal.Refusal.TheVariants.{NoMemory};
 
-use crate::item::{Item, Kind};
+use crate::item::{ItemKind, PendingItem};
 use blocks::{Range, Refusal};
 use peerdisk::LastEpoch;
 use std::alloc::Global;
@@ -27,7 +27,7 @@ pub(crate) struct Inbox {
 }
 
 impl Model for Inbox {
-    ghost use Rattle.secondary_steps.specs.Core.{Intake};
+    ghost use Rattle.secondary_protocol.specs.Core.{Intake};
 
     ghost Value = { Intake };
 
@@ -119,14 +119,14 @@ impl Inbox {
     }
 
     /// An item with blocks is taken.
-    pub(crate) fn item(&mut self, item: &Item)
+    pub(crate) fn item(&mut self, item: &PendingItem)
         requires place { self.old.places < 4294967295 }
         requires inside { first_of item.now + length (contents_of item.now) ≤ length self.old.blocks }
         ensures { self.new ≡ and_item item.now self.old }
     {
         self.places += 1;
         self.blocks.add(item.range());
-        if let Kind::Write(number) = item.kind() {
+        if let ItemKind::Write(number) = item.kind() {
             self.highest = number;
             self.writes += 1;
         }

@@ -15,7 +15,7 @@ use std::marker::Model;
 
 /// Where an item comes from.
 #[derive(Clone, Copy)]
-pub(crate) enum Kind {
+pub(crate) enum ItemKind {
     /// A write, with its number, which is not 0.
     Write(u64),
     /// A block of a resync.
@@ -24,15 +24,15 @@ pub(crate) enum Kind {
 
 /// A write or a block of a resync, which the disk has to do.
 #[derive(Drop)]
-pub struct Item {
-    kind: Kind,
+pub struct PendingItem {
+    kind: ItemKind,
     range: Range,
     contents: Bytes,
 }
 
-impl Model for Item {
+impl Model for PendingItem {
     ghost use Rattle.std.specs.Prelude.{◌≡◌, ◌*◌, length};
-    ghost use Rattle.model.specs.Stream.{Item as Denoted};
+    ghost use Rattle.model.specs.Stream.{StreamItem as Denoted};
 
     ghost Value = { Denoted };
 
@@ -45,37 +45,37 @@ impl Model for Item {
     ghost invariant = { IsItem };
 }
 
-impl Item {
+impl PendingItem {
     /// A write of these bytes.
-    pub(crate) fn write(number: u64, range: Range, contents: Bytes) -> Item
+    pub(crate) fn write(number: u64, range: Range, contents: Bytes) -> PendingItem
         requires numbered { 0 < number }
         requires small { 8 * range.first.0 < 2 ^ 64 }
         requires whole { length contents ≡ 4096 * range.count }
         ensures { result ≡ WriteItem (record { number = number; first = range.first.0; contents = blocks_of 4096 contents }) }
     {
-        Item {
-            kind: Kind::Write(number),
+        PendingItem {
+            kind: ItemKind::Write(number),
             range,
             contents,
         }
     }
 
     /// A block of a resync.
-    pub(crate) fn resync(range: Range, contents: Bytes) -> Item
+    pub(crate) fn resync(range: Range, contents: Bytes) -> PendingItem
         requires one { range.count ≡ 1 }
         requires small { 8 * range.first.0 < 2 ^ 64 }
         requires whole { length contents ≡ 4096 }
         ensures { result ≡ ResyncItem range.first.0 contents }
     {
-        Item {
-            kind: Kind::Resync,
+        PendingItem {
+            kind: ItemKind::Resync,
             range,
             contents,
         }
     }
 
     /// Where it comes from.
-    pub(crate) fn kind(&self) -> Kind
+    pub(crate) fn kind(&self) -> ItemKind
         ensures { is_kind result self.now ≡ true }
     {
         self.kind
@@ -102,7 +102,7 @@ impl Item {
         ensures { option_to_list result ≡ receipt_of protocol place self.now }
     {
         match (self.kind, protocol) {
-            (Kind::Write(number), Protocol::B) => {
+            (ItemKind::Write(number), Protocol::B) => {
                 Some(Answer::new(Told::Received(self.naming(number, place))))
             }
             _ => None,
@@ -115,11 +115,11 @@ impl Item {
         ensures { option_to_list result ≡ applied_answer protocol place self.now }
     {
         match (self.kind, protocol) {
-            (Kind::Write(number), Protocol::C) => {
+            (ItemKind::Write(number), Protocol::C) => {
                 Some(Answer::new(Told::Written(self.naming(number, place))))
             }
-            (Kind::Write(_), _) => None,
-            (Kind::Resync, _) => Some(Answer::new(Told::Resynced(self.naming(0, place)))),
+            (ItemKind::Write(_), _) => None,
+            (ItemKind::Resync, _) => Some(Answer::new(Told::Resynced(self.naming(0, place)))),
         }
     }
 

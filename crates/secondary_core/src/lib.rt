@@ -17,6 +17,6 @@ mod state;
 mod take;
 mod usage;
 
-pub use item::Item;
+pub use item::PendingItem;
 pub use state::SecondaryCore;
 pub use usage::Usage;

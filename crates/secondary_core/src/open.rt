@@ -1,6 +1,6 @@
 //! Opening a connection.
 ghost use Rattle.std.specs.Prelude.{◌≡◌};
-ghost use Rattle.secondary_steps.specs.Core.{open_end};
+ghost use Rattle.secondary_protocol.specs.Core.{open_end};
 
 use crate::connection::Connection;
 use crate::outbox::Outbox;

@@ -3,12 +3,12 @@ ghost use Rattle.std.specs.Prelude.{ℕ, ◌≡◌, ◌+◌, ◌<◌, ◌≤◌,
 ghost use Rattle.packets.specs.Spelling.{IsSpellable};
 ghost use Rattle.packets.specs.Table.{has_blocks};
 ghost use Rattle.endpoint.specs.Meaning.{meaning};
-ghost use Rattle.secondary_steps.specs.Core.{answers, is_applied_to};
+ghost use Rattle.secondary_protocol.specs.Core.{answers, is_applied_to};
 ghost use Rattle.secondary_core.specs.Outboxes.{begun, acknowledging};
 ghost use Rattle.blocks.specs.declared.refusal.Refusal.TheVariants.{NoMemory};
 
 use crate::answer::{Answer, Told};
-use crate::item::Item;
+use crate::item::PendingItem;
 use blocks::Refusal;
 use packets::Packet;
 use peerdisk::PeerDisk;
@@ -87,7 +87,7 @@ impl Outbox {
     }
 
     /// The acknowledgement of each epoch comes due up to whose end all items are applied.
-    pub(crate) fn answer(&mut self, disk: &PeerDisk<Item>)
+    pub(crate) fn answer(&mut self, disk: &PeerDisk<PendingItem>)
         requires { length self.old.due + length self.old.sizes ≤ self.old.answers }
         ensures answered { self.new ≡ acknowledging disk.now.pending self.old }
         ensures all { answers disk.now.pending self.new.answered self.new.sizes ≡ [] }
@@ -122,7 +122,7 @@ impl Outbox {
 }
 
 // The last epoch up to whose end all items are applied.
-fn last_applied(disk: &PeerDisk<Item>) -> u32
+fn last_applied(disk: &PeerDisk<PendingItem>) -> u32
     ensures { (epoch : ℕ) → 0 < epoch → epoch < 4294967296 → is_applied_to disk.now.pending epoch ≡ nat_le epoch result }
 {
     match disk.first_epoch() {

@@ -5,7 +5,7 @@ ghost use Rattle.packets.specs.declared.packet.Packet.TheVariants as packet;
 ghost use Rattle.endpoint.specs.Meaning.{meaning};
 ghost use Rattle.secondary_core.specs.Receiving.{MayTake, item_at};
 
-use crate::item::Item;
+use crate::item::PendingItem;
 use crate::state::SecondaryCore;
 use blocks::{Block, Command, Refusal, Tuple, What};
 use bytes::Bytes;
@@ -40,7 +40,7 @@ impl SecondaryCore {
         if !self.inbox.is_resync() || !self.inbox.is_apart(range) {
             return Err(Refusal::BadField);
         }
-        self.admit(Item::resync(range, contents));
+        self.admit(PendingItem::resync(range, contents));
         Ok(What::Frame(Command::RsDataReply, Some(at)))
     }
 

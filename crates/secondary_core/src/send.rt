@@ -1,15 +1,15 @@
-//! What is sent: the hello, and the acknowledgements.
+//! Sending: the hello, and the acknowledgements.
 ghost use Rattle.std.specs.Prelude.{ℕ, ◌≡◌, ◌≢◌, ◌+◌, ◌≤◌, false, true, length, option_map, option_to_list, Ok, Err, IsOk, IfOk, IfErr, IfSome, MatchResult};
 ghost use Rattle.blocks.specs.declared.refusal.Refusal.TheVariants.{NoMemory};
 ghost use Rattle.packets.specs.Spelling.{IsSpellable};
 ghost use Rattle.packets.specs.Table.{has_blocks};
 ghost use Rattle.endpoint.specs.Meaning.{meaning};
-ghost use Rattle.secondary_steps.specs.Core.{ack_out, due};
+ghost use Rattle.secondary_protocol.specs.Core.{ack_out, due};
 ghost use Rattle.secondary_core.specs.Connections.{IsServed, acknowledged};
 
 use crate::answer::Answer;
 use crate::connection::Connection;
-use crate::item::Item;
+use crate::item::PendingItem;
 use crate::state::SecondaryCore;
 use blocks::{Done, Refusal, What};
 use packets::Packet;
@@ -59,7 +59,7 @@ impl SecondaryCore {
 pub(crate) fn acknowledge(
     connection: &mut Option<Connection>,
     answer: Option<Answer>,
-    disk: &PeerDisk<Item>,
+    disk: &PeerDisk<PendingItem>,
 )
     requires { IfSome connection.old (λ c. length c.outbox.due + length (option_to_list answer) + length c.outbox.sizes + length disk.now.pending ≤ c.outbox.answers) }
     ensures due { connection.new ≡ option_map (acknowledged (option_to_list answer) disk.now.pending) connection.old }

@@ -2,11 +2,11 @@
 ghost use Rattle.std.specs.Prelude.{◌≡◌, ◌⊎◌, false, IfOk, IfErr};
 ghost use Rattle.blocks.specs.SettingsRange.{IsInRange};
 ghost use Rattle.blocks.specs.declared.refusal.Refusal.TheVariants.{BadSetting, NoMemory};
-ghost use Rattle.secondary_steps.specs.Core.{fresh};
+ghost use Rattle.secondary_protocol.specs.Core.{fresh};
 
 use crate::connection::Connection;
 use crate::inbox::Inbox;
-use crate::item::Item;
+use crate::item::PendingItem;
 use blocks::{Refusal, Settings, Tuple};
 use peerdisk::PeerDisk;
 use std::alloc::Global;
@@ -31,7 +31,7 @@ pub struct SecondaryCore {
     pub(crate) is_consistent: bool,
     pub(crate) number: u32,
     pub(crate) inbox: Inbox,
-    pub(crate) disk: PeerDisk<Item>,
+    pub(crate) disk: PeerDisk<PendingItem>,
     // How many items of the last connection are applied.
     pub(crate) items_applied: u32,
     pub(crate) failed: Option<u32>,

@@ -5,12 +5,12 @@ ghost use Rattle.packets.specs.Spelling.{IsSpellable};
 ghost use Rattle.packets.specs.declared.packet.Packet.TheVariants as packet;
 ghost use Rattle.model.specs.Stream.{contents_of, first_of};
 ghost use Rattle.endpoint.specs.Meaning.{meaning, received};
-ghost use Rattle.secondary_steps.specs.Core.{may_take, take_at};
+ghost use Rattle.secondary_protocol.specs.Core.{may_take, take_at};
 ghost use Rattle.secondary_core.specs.Receiving.{MayTake, admitted, is_next, item_at, judged_at};
 
 use crate::connection::Connection;
 use crate::handshake::greet;
-use crate::item::{Item, whole_blocks};
+use crate::item::{PendingItem, whole_blocks};
 use crate::send::acknowledge;
 use crate::state::SecondaryCore;
 use blocks::{Block, Command, Done, Range, Refusal, What};
@@ -114,7 +114,7 @@ impl SecondaryCore {
         if !self.inbox.is_rising(number) || !self.inbox.is_apart(range) {
             return Err(Refusal::BadField);
         }
-        self.admit(Item::write(number, range, contents));
+        self.admit(PendingItem::write(number, range, contents));
         Ok(What::Frame(Command::Data, Some(at)))
     }
 
@@ -131,7 +131,7 @@ impl SecondaryCore {
     }
 
     // An item with blocks waits for the disk, and its receipt is due where the protocol asks for one.
-    pub(crate) fn admit(&mut self, item: Item)
+    pub(crate) fn admit(&mut self, item: PendingItem)
         requires may { MayTake self.old }
         requires place { self.old.state.intake.places < 4294967295 }
         requires some { 0 < length (contents_of item) }

@@ -1,6 +1,6 @@
 //! Read-only accessors.
 ghost use Rattle.std.specs.Prelude.{◌≡◌, ◌==◌, length, is_some};
-ghost use Rattle.secondary_steps.specs.Core.{may_take, whole};
+ghost use Rattle.secondary_protocol.specs.Core.{may_take, whole};
 ghost use Rattle.secondary_core.specs.Connections.{is_hello_done};
 
 use crate::state::SecondaryCore;

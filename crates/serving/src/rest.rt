@@ -32,7 +32,7 @@ impl Tally {
         unmarked: 0,
     };
 
-    /// What these sessions and one more have come to.
+    /// Adds what one session has come to.
     fn and(&self, completed: usize, confirmed: u64, unmarked: u32) -> Tally {
         Tally {
             completed: self.completed.saturating_add(completed as u64),

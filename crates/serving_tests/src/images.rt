@@ -176,7 +176,7 @@ fn a_flush_needs_no_store(rt: HostRuntime) {
     fs::remove_file(&rt, "flushed").expect(&rt, "a file");
 }
 
-// A file of which one write puts a third of its bytes. Those after it fail, until so many writes were asked for.
+// A file in which one write puts a third of its bytes. Later ones fail, up to the write `passes_from`.
 #[derive(Drop)]
 struct FailingFile {
     file: File,

@@ -2,16 +2,16 @@
 ghost use Rattle.std.specs.Prelude.{ℕ, ◌≡◌};
 ghost use Rattle.endpoint.specs.Joined.{BeginsPushed, pushed_at, taken_at};
 
-use endpoint::{Incoming, Outgoing, joined};
+use endpoint::{PacketReceiver, PacketSender, joined};
 use ruled_link::{Named, NamedIn, NamedOut, join_ends};
 use std::sync::Wait;
 
 /// Both ends of a direction, as they were. On each connection, by its number, what was taken is packets, and they
 /// begin the packets that were pushed. It takes no memory.
 pub fn join_direction<R: Wait, N: Named>(
-    outgoing: Outgoing<NamedOut<R, N>>,
-    incoming: Incoming<NamedIn<R, N>>,
-) -> (Outgoing<NamedOut<R, N>>, Incoming<NamedIn<R, N>>)
+    outgoing: PacketSender<NamedOut<R, N>>,
+    incoming: PacketReceiver<NamedIn<R, N>>,
+) -> (PacketSender<NamedOut<R, N>>, PacketReceiver<NamedIn<R, N>>)
     ensures outgoing { result.0 ≡ outgoing }
     ensures incoming { result.1 ≡ incoming }
     ensures joined { (number : ℕ) → BeginsPushed (taken_at number incoming) (pushed_at number outgoing) }
@@ -19,8 +19,8 @@ pub fn join_direction<R: Wait, N: Named>(
     let (sent, count) = outgoing.into_end();
     let (taken, hello) = incoming.into_end();
     let (sent, taken) = join_ends(sent.into_end(), taken.into_end());
-    let outgoing = Outgoing::over(sent.named::<N>(), count);
-    let incoming = Incoming::over(taken.named::<N>(), hello);
+    let outgoing = PacketSender::over(sent.named::<N>(), count);
+    let incoming = PacketReceiver::over(taken.named::<N>(), hello);
     joined(&outgoing, &incoming);
     (outgoing, incoming)
 }

@@ -3,8 +3,8 @@ use Rattle.std.proofs.Common.{ℕ, ◌≡◌, ◌<◌, ◌≤◌, Bool, true, fa
 use Rattle.std.specs.Prelude.{if◌then◌else◌}
 use Rattle.std.specs.List.{AllByRecursion}
 use Rattle.std.proofs.lemmas.Bool.{both_ways, eqb-true, eq-eqb, ne_eqb}
-use Rattle.endpoint.specs.Incoming.{TakenBefore}
-use Rattle.endpoint.specs.Outgoing.{PushedBefore}
+use Rattle.endpoint.specs.PacketReceiver.{TakenBefore}
+use Rattle.endpoint.specs.PacketSender.{PushedBefore}
 use Rattle.endpoint.specs.Joined.{pushed_past, taken_past}
 
 -- what is known at each number, where it is known at the present connection's and at any other

@@ -9,8 +9,8 @@ use Rattle.link.specs.Ends.{InEnd, OutEnd}
 use Rattle.link.specs.Past.{Past}
 use Rattle.endpoint.specs.Calls as link
 use Rattle.endpoint.specs.Calls.{IsNewIn, IsNewOut, pushed_of, taken_of}
-use Rattle.endpoint.specs.Incoming.{IncomingState, TakenBefore, with_received, taking_anew, incoming, taken_before}
-use Rattle.endpoint.specs.Outgoing.{OutgoingState, PushedBefore, with_pushed, pushing_anew, outgoing, pushed_before}
+use Rattle.endpoint.specs.PacketReceiver.{PacketReceiverState, TakenBefore, with_received, taking_anew, incoming, taken_before}
+use Rattle.endpoint.specs.PacketSender.{PacketSenderState, PushedBefore, with_pushed, pushing_anew, outgoing, pushed_before}
 use Rattle.endpoint.specs.Joined.{pushed_at, pushed_past, taken_at, taken_past}
 use Rattle.session_nodes.specs.Traffic.{KnowTraffic}
 use Rattle.session_nodes.proofs.Connections.{all-more, all-same, by-number, came-more, earlier, past-more}
@@ -18,76 +18,78 @@ use Rattle.session_nodes.proofs.Connections.{all-more, all-same, by-number, came
 -- What the calls of a node leave of its ends.
 
 -- Both ends go on with the same connection.
-pub record SameEnds (out out_later : Option OutgoingState) (inn inn_later : Option IncomingState) : Type 0 where
-  pub sender : (o : OutgoingState) → out ≡ Some o → (p : OutgoingState) × (out_later ≡ Some p) × (p.number ≡ o.number) × (p.past ≡ o.past)
-  pub receiver : (i : IncomingState) → inn ≡ Some i → (q : IncomingState) × (inn_later ≡ Some q) × (q.number ≡ i.number) × (q.past ≡ i.past)
+pub record SameEnds (out out_later : Option PacketSenderState) (inn inn_later : Option PacketReceiverState) : Type 0 where
+  pub sender : (o : PacketSenderState) → out ≡ Some o → (p : PacketSenderState) × (out_later ≡ Some p) × (p.number ≡ o.number) × (p.past ≡ o.past)
+  pub receiver : (i : PacketReceiverState) → inn ≡ Some i → (q : PacketReceiverState) × (inn_later ≡ Some q) × (q.number ≡ i.number) × (q.past ≡ i.past)
 
 -- neither changed
-pub ends-of : {out out_later : Option OutgoingState} {inn inn_later : Option IncomingState} → out_later ≡ out → inn_later ≡ inn
+pub ends-of : {out out_later : Option PacketSenderState} {inn inn_later : Option PacketReceiverState} → out_later ≡ out → inn_later ≡ inn
     → SameEnds out out_later inn inn_later
 ends-of same_out same_in = record { sender = λ o at. (o, same_out ∙ at, refl, refl); receiver = λ i at. (i, same_in ∙ at, refl, refl) }
 
 -- a push
-pub ends-sent : {R : Type 0} {out out_later : Option OutgoingState} {inn inn_later : Option IncomingState} (result : Result R Refusal)
+pub ends-sent : {R : Type 0} {out out_later : Option PacketSenderState} {inn inn_later : Option PacketReceiverState} (result : Result R Refusal)
     → link.Sends result out out_later → inn_later ≡ inn → SameEnds out out_later inn inn_later
 ends-sent {R} {out} {out_later} result sends same_in = record { sender = go result sends.pushed sends.kept; receiver = λ i at. (i, same_in ∙ at, refl, refl) }
   where
     go : (r : Result R Refusal) → OnOk r (link.PushedOne out out_later)
-        → OnErr r ((partly : Option (List Packet)) × (out_later ≡ option_map (λ (o : OutgoingState). record o { partly = partly }) out))
-        → (o : OutgoingState) → out ≡ Some o → (p : OutgoingState) × (out_later ≡ Some p) × (p.number ≡ o.number) × (p.past ≡ o.past)
+        → OnErr r ((partly : Option (List Packet)) × (out_later ≡ option_map (λ (o : PacketSenderState). record o { partly = partly }) out))
+        → (o : PacketSenderState) → out ≡ Some o → (p : PacketSenderState) × (out_later ≡ Some p) × (p.number ≡ o.number) × (p.past ≡ o.past)
     go (Ok done) pushed kept o at =
         let same = same_Some pushed.before o (sym pushed.there ∙ at) in (
           with_pushed pushed.packet pushed.frame pushed.before,
           pushed.after,
-          ap (λ (x : OutgoingState). x.number) same,
-          ap (λ (x : OutgoingState). x.past) same,
+          ap (λ (x : PacketSenderState). x.number) same,
+          ap (λ (x : PacketSenderState). x.past) same,
         )
     go (Err e) pushed kept o at =
-        (record o { partly = kept.0 }, kept.1 ∙ ap (option_map (λ (x : OutgoingState). record x { partly = kept.0 })) at, refl, refl)
+        (record o { partly = kept.0 }, kept.1 ∙ ap (option_map (λ (x : PacketSenderState). record x { partly = kept.0 })) at, refl, refl)
 
 -- a frame taken, or none
-pub ends-took : {R : Type 0} {out out_later : Option OutgoingState} {inn inn_later : Option IncomingState} (result : Result R Refusal) (frame : Option Received)
+pub ends-took : {R : Type 0} {out out_later : Option PacketSenderState} {inn inn_later : Option PacketReceiverState} (result : Result R Refusal)
+    (frame : Option Received)
     → link.Takes frame result inn inn_later → out_later ≡ out → SameEnds out out_later inn inn_later
 ends-took {inn} {inn_later} result frame takes same_out = record { sender = λ o at. (o, same_out ∙ at, refl, refl); receiver = go frame refl }
   where
-    go : (f : Option Received) → frame ≡ f → (i : IncomingState) → inn ≡ Some i
-        → (q : IncomingState) × (inn_later ≡ Some q) × (q.number ≡ i.number) × (q.past ≡ i.past)
+    go : (f : Option Received) → frame ≡ f → (i : PacketReceiverState) → inn ≡ Some i
+        → (q : PacketReceiverState) × (inn_later ≡ Some q) × (q.number ≡ i.number) × (q.past ≡ i.past)
     go None is i at =
         let kept = takes.kept is in
-        (record i { is_ready = kept.0 }, kept.1 ∙ ap (option_map (λ (x : IncomingState). record x { is_ready = kept.0 })) at, refl, refl)
+        (record i { is_ready = kept.0 }, kept.1 ∙ ap (option_map (λ (x : PacketReceiverState). record x { is_ready = kept.0 })) at, refl, refl)
     go (Some one) is i at =
         let took = takes.took one is in
         let same = same_Some took.before i (sym took.there ∙ at) in (
           with_received one took.frames took.ready took.before,
           took.after,
-          ap (λ (x : IncomingState). x.number) same,
-          ap (λ (x : IncomingState). x.past) same,
+          ap (λ (x : PacketReceiverState). x.number) same,
+          ap (λ (x : PacketReceiverState). x.past) same,
         )
 
 -- What went past on each connection.
 
 -- A later history has on its last connection what the ends have there, and on any other what an earlier history had.
-pub record NextTraffic (out_there : Option OutgoingState) (in_there : Option IncomingState) (last : ℕ) (sent sent_later : ℕ → List Packet)
+pub record NextTraffic (out_there : Option PacketSenderState) (in_there : Option PacketReceiverState) (last : ℕ) (sent sent_later : ℕ → List Packet)
     (came came_later : ℕ → List Received) : Type 0 where
   pub pushed_last : pushed_of out_there ≡ sent_later last
   pub taken_last : taken_of in_there ≡ came_later last
   pub pushed : (number : ℕ) → (number ≡ last → ⊥) → sent_later number ≡ sent number
   pub taken : (number : ℕ) → (number ≡ last → ⊥) → came_later number ≡ came number
 
-pushed-next : {there : Option OutgoingState} {last : ℕ} (o : OutgoingState) (sent : ℕ → List Packet) → there ≡ Some o → o.number ≡ last
+pushed-next : {there : Option PacketSenderState} {last : ℕ} (o : PacketSenderState) (sent : ℕ → List Packet) → there ≡ Some o → o.number ≡ last
     → pushed_of there ≡ sent last → ((number : ℕ) → (number ≡ last → ⊥) → pushed_past number o.past ≡ sent number)
     → (number : ℕ) → pushed_at number o ≡ sent number
 pushed-next o sent at is now past = by-number o.number o.pushed (λ number. pushed_past number o.past) sent
     (ap pushed_of (sym at) ∙ (now ∙ ap sent (sym is))) (λ number other. past number (λ same. other (same ∙ sym is)))
 
-taken-next : {there : Option IncomingState} {last : ℕ} (i : IncomingState) (came : ℕ → List Received) → there ≡ Some i → i.number ≡ last
+taken-next : {there : Option PacketReceiverState} {last : ℕ} (i : PacketReceiverState) (came : ℕ → List Received) → there ≡ Some i → i.number ≡ last
     → taken_of there ≡ came last → ((number : ℕ) → (number ≡ last → ⊥) → taken_past number i.past ≡ came number)
     → (number : ℕ) → taken_at number i ≡ came number
 taken-next i came at is now past = by-number i.number i.taken (λ number. taken_past number i.past) came
     (ap taken_of (sym at) ∙ (now ∙ ap came (sym is))) (λ number other. past number (λ same. other (same ∙ sym is)))
 
 -- Both ends go on with the last connection.
-pub traffic-stays : {out out_later : Option OutgoingState} {inn inn_later : Option IncomingState} {last last_later : ℕ} {sent sent_later : ℕ → List Packet}
+pub traffic-stays : {out out_later : Option PacketSenderState} {inn inn_later : Option PacketReceiverState} {last last_later : ℕ} {sent sent_later : ℕ
+    → List Packet}
     {came came_later : ℕ → List Received} → KnowTraffic out inn last sent came → SameEnds out out_later inn inn_later → last_later ≡ last
     → NextTraffic out_later inn_later last_later sent sent_later came came_later → KnowTraffic out_later inn_later last_later sent_later came_later
 traffic-stays {sent_later} {came_later} was same still next =
@@ -113,11 +115,12 @@ traffic-stays {sent_later} {came_later} was same still next =
     }
 
 -- Both begin a connection of a higher number.
-pub traffic-begins : {out out_later : Option OutgoingState} {inn inn_later : Option IncomingState} {last number : ℕ} {sent sent_later : ℕ → List Packet}
+pub traffic-begins : {out out_later : Option PacketSenderState} {inn inn_later : Option PacketReceiverState} {last number : ℕ} {sent sent_later : ℕ
+    → List Packet}
     {came came_later : ℕ → List Received} → KnowTraffic out inn last sent came → last < number
-    → (before : OutgoingState) (room waiting : Option ℕ) → out ≡ Some before
+    → (before : PacketSenderState) (room waiting : Option ℕ) → out ≡ Some before
     → out_later ≡ Some (record (pushing_anew number before) { room = room; waiting = waiting })
-    → (had : IncomingState) (queued : Option (List (List ℕ))) (capacity : Option ℕ) → inn ≡ Some had
+    → (had : PacketReceiverState) (queued : Option (List (List ℕ))) (capacity : Option ℕ) → inn ≡ Some had
     → inn_later ≡ Some (record (taking_anew number had) { queued = queued; capacity = capacity })
     → NextTraffic out_later inn_later number sent sent_later came came_later → KnowTraffic out_later inn_later number sent_later came_later
 traffic-begins {out_later} {inn_later} {last} {number} {sent_later} {came_later} was above before room waiting out_there out_is had queued capacity in_there
@@ -140,22 +143,22 @@ traffic-begins {out_later} {inn_later} {last} {number} {sent_later} {came_later}
           ∙ (was.taken m ∙ sym (next.taken m other)));
     }
   where
-    begun_out : OutgoingState
+    begun_out : PacketSenderState
     begun_out = record (pushing_anew number was.out) { room = room; waiting = waiting }
 
-    begun_in : IncomingState
+    begun_in : PacketReceiverState
     begun_in = record (taking_anew number was.inn) { queued = queued; capacity = capacity }
 
     out_now : out_later ≡ Some (record (pushing_anew number was.out) { room = room; waiting = waiting })
-    out_now = out_is ∙ ap (λ (o : OutgoingState). Some (record (pushing_anew number o) { room = room; waiting = waiting }))
+    out_now = out_is ∙ ap (λ (o : PacketSenderState). Some (record (pushing_anew number o) { room = room; waiting = waiting }))
         (same_Some before was.out (sym out_there ∙ was.out_there))
 
     in_now : inn_later ≡ Some (record (taking_anew number was.inn) { queued = queued; capacity = capacity })
-    in_now = in_is ∙ ap (λ (i : IncomingState). Some (record (taking_anew number i) { queued = queued; capacity = capacity }))
+    in_now = in_is ∙ ap (λ (i : PacketReceiverState). Some (record (taking_anew number i) { queued = queued; capacity = capacity }))
         (same_Some had was.inn (sym in_there ∙ was.in_there))
 
 -- Unused ends are on their first connection, and nothing went past on any other.
-pub traffic-first : {out : Option OutgoingState} {inn : Option IncomingState} {last : ℕ} {sent sent_later : ℕ → List Packet}
+pub traffic-first : {out : Option PacketSenderState} {inn : Option PacketReceiverState} {last : ℕ} {sent sent_later : ℕ → List Packet}
     {came came_later : ℕ → List Received} (o : OutEnd) (i : InEnd) → IsNewOut o → IsNewIn i → out ≡ Some (outgoing o) → inn ≡ Some (incoming i) → last ≡ 1
     → ((number : ℕ) → sent number ≡ []) → ((number : ℕ) → came number ≡ []) → NextTraffic out inn last sent sent_later came came_later
     → KnowTraffic out inn last sent_later came_later

@@ -13,7 +13,8 @@ use Rattle.blocks.specs.declared.outcome.Reply.TheVariants as reply
 use Rattle.blocks.specs.declared.outcome.What.TheVariants as what
 use Rattle.model.specs.Frames.{Received}
 use Rattle.model.specs.Refusals.{first_refusal, done_with}
-use Rattle.model.specs.Primary.{OnDisk, Outward, PrimaryHistory, no_outward, outward, outward_at, with_outward, frames_due}
+use Rattle.model.specs.Primary.{OnDisk, PrimaryConnection, PrimaryHistory, no_primary_connection, primary_connection, primary_connection_at}
+use Rattle.model.specs.Primary.{with_primary_connection, frames_due}
 use Rattle.model.specs.PrimarySteps as step
 use Rattle.model.specs.Acknowledgements as step_in
 use Rattle.model.specs.Marks.{releasing}
@@ -21,21 +22,21 @@ use Rattle.model.specs.LocalRuns.{PrimaryEvent, Opens, Submits, WritesLocally, F
 use Rattle.model.specs.LocalRuns.{primary_after, primary_run}
 use Rattle.model.specs.Headline.{StaysClosed}
 use Rattle.link.specs.Ends.{InEnd, OutEnd}
-use Rattle.endpoint.specs.Calls.{IsNewIn, IsNewOut, is_starved}
-use Rattle.endpoint.specs.Incoming.{incoming}
-use Rattle.endpoint.specs.Outgoing.{outgoing}
+use Rattle.endpoint.specs.Calls.{IsNewIn, IsNewOut, is_out_of_memory}
+use Rattle.endpoint.specs.PacketReceiver.{incoming}
+use Rattle.endpoint.specs.PacketSender.{outgoing}
 use Rattle.laws.proofs.Lists.Elements.{get-there, same-at}
 use Rattle.laws.proofs.Lists.Last.{last-at, length-change}
 use Rattle.laws.proofs.Primary.Moves.{pushing, tested-keeps}
 use Rattle.laws.proofs.Primary.StaysClosed.{primary_stays_closed}
-use Rattle.laws.proofs.Joining.Ends.{outward-there}
-use Rattle.primary_steps.specs.Steps.{IsReached, plainly, replied}
-use Rattle.primary_steps.specs.Node.{NodeHas, NodeSteps, primary_step}
-use Rattle.primary_steps.proofs.Common.Reached.{reached-ordered}
-use Rattle.primary_steps.proofs.Node.Keeps.{Change, Keeps, unchanged, keeps-self, keeps-following, submits-keeps, writes-keeps, fails-keeps, resyncs-keeps}
-use Rattle.primary_steps.proofs.Node.Keeps.{closes-keeps, receipts-keeps}
-use Rattle.primary_steps.proofs.Node.Runs.{opens-to, refused-same}
-use Rattle.primary_steps.proofs.Node.Takes.{takes-keep}
+use Rattle.laws.proofs.Joining.Ends.{primary-connection-there}
+use Rattle.primary_protocol.specs.Steps.{IsReached, plainly, replied}
+use Rattle.primary_protocol.specs.Node.{NodeHas, NodeSteps, primary_step}
+use Rattle.primary_protocol.proofs.Common.Reached.{reached-ordered}
+use Rattle.primary_protocol.proofs.Node.Keeps.{Change, Keeps, unchanged, keeps-self, keeps-following, submits-keeps, writes-keeps, fails-keeps, resyncs-keeps}
+use Rattle.primary_protocol.proofs.Node.Keeps.{closes-keeps, receipts-keeps}
+use Rattle.primary_protocol.proofs.Node.Runs.{opens-to, refused-same}
+use Rattle.primary_protocol.proofs.Node.Takes.{takes-keep}
 use Rattle.primary.specs.State.{IsRestarted, PrimaryView, node}
 use Rattle.session_nodes.specs.Traffic.{KnowTraffic}
 use Rattle.session_nodes.proofs.Ends.{NextTraffic, SameEnds, traffic-begins, traffic-first, traffic-stays}
@@ -45,7 +46,7 @@ use Rattle.laws.proofs.Rules.Memory.{may-open, ack-in-has}
 -- Events that open no end leave the number of connections.
 
 abbrev pub IsNoOpening : PrimaryEvent → Type 0
-IsNoOpening (Opens sync loss starved) = ⊥
+IsNoOpening (Opens sync loss out_of_memory) = ⊥
 IsNoOpening event = Unit {0}
 
 -- as many connections, and the settings
@@ -64,13 +65,13 @@ stays-follows h g was =
     let k = keeps-following g g (unchanged g) (keeps-self g) in
     record { connections = k.connections ∙ was.connections; settings = k.settings ∙ was.settings }
 
-stays-takes : (h : PrimaryHistory) → IsReached h → (frame : Option Received) (starved : Bool) → Stays h (step_in.ack_in frame starved h).1
-stays-takes h reached frame starved = ack-in-has (λ r. Stays h r.1) frame starved h (λ refusal other. stays-self h)
+stays-takes : (h : PrimaryHistory) → IsReached h → (frame : Option Received) (out_of_memory : Bool) → Stays h (step_in.ack_in frame out_of_memory h).1
+stays-takes h reached frame out_of_memory = ack-in-has (λ r. Stays h r.1) frame out_of_memory h (λ refusal other. stays-self h)
     (λ taken is standing. stays-keeps h _ _ (takes-keep h taken standing (reached-ordered h reached).ordered.1.1.0.0).1)
 
 stays-after : (event : PrimaryEvent) → IsNoOpening event → (h : PrimaryHistory) → IsReached h → Stays h (primary_after event h)
-stays-after (Opens sync loss starved) none h reached = absurd none
-stays-after (Submits first contents starved) none h reached = stays-keeps h _ _ (submits-keeps first contents starved h)
+stays-after (Opens sync loss out_of_memory) none h reached = absurd none
+stays-after (Submits first contents out_of_memory) none h reached = stays-keeps h _ _ (submits-keeps first contents out_of_memory h)
 stays-after (WritesLocally number) none h reached =
     tested-keeps (Stays h) h ((not (step.is_unfinished h number), UnknownJob) ∷ [])
     (λ _. step.succeeding what.Nothing (releasing h (step.with_outcome number OnDisk h))) (stays-self h)
@@ -78,12 +79,13 @@ stays-after (WritesLocally number) none h reached =
 stays-after (FailsLocally number offsets) none h reached =
     tested-keeps (Stays h) h ((not (step.is_unfinished h number), UnknownJob) ∷ []) (λ _. step.succeeding what.Nothing (step.faulted number offsets h))
     (stays-self h) (λ passed. stays-keeps h _ _ (fails-keeps number offsets h))
-stays-after (Sends room starved) none h reached =
-    tested-keeps (Stays h) h (step.send_tests h room starved) (λ _. step.succeeding (step.sending h) (with_outward pushing h)) (stays-self h)
-    (λ passed. stays-follows h (with_outward pushing h) (record { connections = length-change pushing h.connections; settings = refl }))
-stays-after (Takes frame starved) none h reached = stays-takes h reached frame starved
-stays-after (Resyncs starved) none h reached = stays-keeps h _ _ (resyncs-keeps starved h)
-stays-after (FailsResync starved) none h reached = tested-keeps (Stays h) h (step.resync_tests h starved) (λ _. (reply.Refused ReadFault, h)) (stays-self h)
+stays-after (Sends room out_of_memory) none h reached =
+    tested-keeps (Stays h) h (step.send_tests h room out_of_memory) (λ _. step.succeeding (step.sending h) (with_primary_connection pushing h)) (stays-self h)
+    (λ passed. stays-follows h (with_primary_connection pushing h) (record { connections = length-change pushing h.connections; settings = refl }))
+stays-after (Takes frame out_of_memory) none h reached = stays-takes h reached frame out_of_memory
+stays-after (Resyncs out_of_memory) none h reached = stays-keeps h _ _ (resyncs-keeps out_of_memory h)
+stays-after (FailsResync out_of_memory) none h reached = tested-keeps (Stays h) h (step.resync_tests h out_of_memory) (λ _. (reply.Refused ReadFault, h))
+    (stays-self h)
     (λ passed. stays-self h)
 stays-after Closes none h reached = stays-keeps h _ _ (closes-keeps h)
 stays-after (Receipts number) none h reached = stays-keeps h _ _ (receipts-keeps number h)
@@ -101,37 +103,41 @@ record GoesOn (h later : PrimaryHistory) : Type 0 where
   stays : StaysClosed h later
   least : length h.connections ≤ length later.connections
   most : length later.connections ≤ suc (length h.connections)
-  shut : (k : ℕ) (c : Outward) → suc k < length later.connections → slice_get h.connections k ≡ Some c → c.closed ≡ true
+  shut : (k : ℕ) (c : PrimaryConnection) → suc k < length later.connections → slice_get h.connections k ≡ Some c → c.closed ≡ true
 
-same-from : (h later : PrimaryHistory) (number : ℕ) → later.settings ≡ h.settings → outward_at later number ≡ outward_at h number → SameTraffic h later number
+same-from : (h later : PrimaryHistory) (number : ℕ) → later.settings ≡ h.settings → primary_connection_at later number ≡ primary_connection_at h number
+    → SameTraffic h later number
 same-from h later number settings same = record {
-  pushed = ap (λ (c : Outward). take c.pushed (frames_due later.settings c)) same
-      ∙ ap (λ s. take (outward_at h number).pushed (frames_due s (outward_at h number))) settings;
-  taken = ap (λ (c : Outward). c.taken) same;
+  pushed = ap (λ (c : PrimaryConnection). take c.pushed (frames_due later.settings c)) same
+      ∙ ap (λ s. take (primary_connection_at h number).pushed (frames_due s (primary_connection_at h number))) settings;
+  taken = ap (λ (c : PrimaryConnection). c.taken) same;
 }
 
 -- an end that was never open
-never : (h later : PrimaryHistory) (number : ℕ) → outward_at h number ≡ no_outward h.tuple → outward_at later number ≡ no_outward later.tuple
+never : (h later : PrimaryHistory) (number : ℕ) → primary_connection_at h number ≡ no_primary_connection h.tuple
+    → primary_connection_at later number ≡ no_primary_connection later.tuple
     → SameTraffic h later number
 never h later number here there = record {
-  pushed = ap (λ (c : Outward). take c.pushed (frames_due later.settings c)) there ∙ sym (ap (λ (c : Outward). take c.pushed (frames_due h.settings c)) here);
-  taken = ap (λ (c : Outward). c.taken) there ∙ sym (ap (λ (c : Outward). c.taken) here);
+  pushed = ap (λ (c : PrimaryConnection). take c.pushed (frames_due later.settings c)) there
+      ∙ sym (ap (λ (c : PrimaryConnection). take c.pushed (frames_due h.settings c)) here);
+  taken = ap (λ (c : PrimaryConnection). c.taken) there ∙ sym (ap (λ (c : PrimaryConnection). c.taken) here);
 }
 
 same-traffic : (h later : PrimaryHistory) → GoesOn h later → (number : ℕ) → (number ≡ length later.connections → ⊥) → SameTraffic h later number
 same-traffic h later on zero other = never h later zero refl refl
 same-traffic h later on (suc k) other = go (slice_get h.connections k) refl (slice_get later.connections k) refl
   where
-    absent : (g : PrimaryHistory) → slice_get g.connections k ≡ None → outward_at g (suc k) ≡ no_outward g.tuple
-    absent g none = ap (λ (v : Option Outward). unwrap_or v (no_outward g.tuple)) none
+    absent : (g : PrimaryHistory) → slice_get g.connections k ≡ None → primary_connection_at g (suc k) ≡ no_primary_connection g.tuple
+    absent g none = ap (λ (v : Option PrimaryConnection). unwrap_or v (no_primary_connection g.tuple)) none
 
-    go : (v : Option Outward) → slice_get h.connections k ≡ v → (w : Option Outward) → slice_get later.connections k ≡ w → SameTraffic h later (suc k)
+    go : (v : Option PrimaryConnection) → slice_get h.connections k ≡ v → (w : Option PrimaryConnection) → slice_get later.connections k ≡ w
+        → SameTraffic h later (suc k)
     go (Some c) here w there =
         let inside = slice_get_within h.connections k c here in
         let least = on.least in
         let early : suc k < length later.connections = omega (arith, other) in
         let closed = on.shut k c early here in
-        same-from h later (suc k) on.settings (outward-there later k c (on.stays.same k c here closed) ∙ sym (outward-there h k c here))
+        same-from h later (suc k) on.settings (primary-connection-there later k c (on.stays.same k c here closed) ∙ sym (primary-connection-there h k c here))
     go None here None there = never h later (suc k) (absent h here) (absent later there)
     go None here (Some d) there =
         let inside = slice_get_within later.connections k d there in
@@ -143,40 +149,41 @@ same-traffic h later on (suc k) other = go (slice_get h.connections k) refl (sli
 -- The next history of a node over one link.
 
 -- the last connection by its number
-last-outward : (h : PrimaryHistory) → 0 < length h.connections → outward_at h (length h.connections) ≡ outward h
-last-outward h some = elim (last-at (no_outward h.tuple) h.connections) [
+last-primary-connection : (h : PrimaryHistory) → 0 < length h.connections → primary_connection_at h (length h.connections) ≡ primary_connection h
+last-primary-connection h some = elim (last-at (no_primary_connection h.tuple) h.connections) [
   | inl none ↦ absurd (let size : length h.connections ≡ 0 = ap length none in omega arith)
   | inr last ↦
       let next : suc (length h.connections - 1) ≡ length h.connections = omega arith in
-      sym (ap (outward_at h) next) ∙ outward-there h (length h.connections - 1) (outward h) last
+      sym (ap (primary_connection_at h) next) ∙ primary-connection-there h (length h.connections - 1) (primary_connection h) last
 ]
 
 -- The node goes on to a later history, of which both ends know the traffic, where they know what is new of it.
 has-next : (w : PrimaryView) (h later : PrimaryHistory) → NodeHas (node w) later → GoesOn h later → 0 < length later.connections
-    → (NextTraffic w.outgoing w.incoming (length later.connections) (sent h) (sent later) (came h) (came later) → KnowTraffic w.outgoing w.incoming (length later.connections) (sent later) (came later)) → PrimaryHas w later
+    → (NextTraffic w.outgoing w.incoming (length later.connections) (sent h) (sent later) (came h) (came later)
+    → KnowTraffic w.outgoing w.incoming (length later.connections) (sent later) (came later)) → PrimaryHas w later
 has-next w h later has on some know = record {
   has = has;
   over = record { traffic = ends; opened = some; ended = ended };
 }
   where
-    last : outward_at later (length later.connections) ≡ outward later
-    last = last-outward later some
+    last : primary_connection_at later (length later.connections) ≡ primary_connection later
+    last = last-primary-connection later some
 
     ends : KnowTraffic w.outgoing w.incoming (length later.connections) (sent later) (came later)
     ends = know (record {
-      pushed_last = has.leaves.pushed ∙ ap (λ (c : Outward). take c.pushed (frames_due later.settings c)) (sym last);
-      taken_last = has.leaves.taken ∙ ap (λ (c : Outward). c.taken) (sym last);
+      pushed_last = has.leaves.pushed ∙ ap (λ (c : PrimaryConnection). take c.pushed (frames_due later.settings c)) (sym last);
+      taken_last = has.leaves.taken ∙ ap (λ (c : PrimaryConnection). c.taken) (sym last);
       pushed = λ number other. (same-traffic h later on number other).pushed;
       taken = λ number other. (same-traffic h later on number other).taken;
     })
 
-    ended : (k : ℕ) (c : Outward) → suc k < length later.connections → slice_get later.connections k ≡ Some c → c.closed ≡ true
+    ended : (k : ℕ) (c : PrimaryConnection) → suc k < length later.connections → slice_get later.connections k ≡ Some c → c.closed ≡ true
     ended k c early at =
         let most = on.most in
         let within : k < length h.connections = omega arith in
         let found = get-there h.connections k within in
         let closed = on.shut k found.0 early found.1 in
-        ap (λ (x : Outward). x.closed) (same-at later.connections k c found.0 at (on.stays.same k found.0 found.1 closed)) ∙ closed
+        ap (λ (x : PrimaryConnection). x.closed) (same-at later.connections k c found.0 at (on.stays.same k found.0 found.1 closed)) ∙ closed
 
 -- A step that opens no end.
 has-step : (event : PrimaryEvent) → IsNoOpening event → (v w : PrimaryView) (h : PrimaryHistory) → PrimaryHas v h
@@ -236,7 +243,7 @@ had-runs v w had runs = record { history = _; has = (runs had.history had.has).1
 -- An opening: one connection more, over the ends that the node has.
 
 -- an opening that is accepted comes at a closed end, and adds a connection
-opened-shut : (sync loss : ℕ) (h : PrimaryHistory) → plainly tt ≡ (step.open_primary sync loss false h).0 → (outward h).closed ≡ true
+opened-shut : (sync loss : ℕ) (h : PrimaryHistory) → plainly tt ≡ (step.open_primary sync loss false h).0 → (primary_connection h).closed ≡ true
 opened-shut sync loss h is = go (first_refusal (step.open_tests h sync loss false)) refl is
   where
     go : (v : Option Refusal) → first_refusal (step.open_tests h sync loss false) ≡ v
@@ -244,7 +251,7 @@ opened-shut sync loss h is = go (first_refusal (step.open_tests h sync loss fals
           | Some refusal ↦ (reply.Refused refusal, h)
           | None ↦ step.succeeding what.Nothing
               (step.opened h sync loss)
-        ]).0 → (outward h).closed ≡ true
+        ]).0 → (primary_connection h).closed ≡ true
     go (Some refusal) none said = absurd (cc)
     go None none said = (may-open h sync loss false none).closed
 
@@ -259,7 +266,7 @@ opened-more sync loss h is =
 
 -- so the history goes on where all but the last end had been closed
 opens-on : (sync loss : ℕ) (h : PrimaryHistory) → plainly tt ≡ (step.open_primary sync loss false h).0
-    → ((k : ℕ) (c : Outward) → suc k < length h.connections → slice_get h.connections k ≡ Some c → c.closed ≡ true)
+    → ((k : ℕ) (c : PrimaryConnection) → suc k < length h.connections → slice_get h.connections k ≡ Some c → c.closed ≡ true)
     → GoesOn h (primary_after (Opens sync loss false) h)
 opens-on sync loss h said ended = record {
   settings = more.1;
@@ -273,18 +280,20 @@ opens-on sync loss h said ended = record {
         × ((step.open_primary sync loss false h).1.settings ≡ h.settings)
     more = opened-more sync loss h said
 
-    shut : (k : ℕ) (c : Outward) → suc k < length (step.open_primary sync loss false h).1.connections → slice_get h.connections k ≡ Some c → c.closed ≡ true
+    shut : (k : ℕ) (c : PrimaryConnection) → suc k < length (step.open_primary sync loss false h).1.connections → slice_get h.connections k ≡ Some c
+        → c.closed ≡ true
     shut k c early at = elim (cases_lt (suc k) (length h.connections)) [
       | inl before ↦ ended k c before at
       | inr end ↦
           let inside = slice_get_within h.connections k c at in
-          elim (last-at (no_outward h.tuple) h.connections) [
+          elim (last-at (no_primary_connection h.tuple) h.connections) [
             | inl none ↦ absurd (let size : length h.connections ≡ 0 = ap length none in omega arith)
             | inr last ↦
                 let size = more.0 in
                 let index : length h.connections - 1 ≡ k = omega arith in
-                let one : c ≡ outward h = same-at h.connections k c (outward h) at (subst (λ n. slice_get h.connections n ≡ Some (outward h)) index last) in
-                ap (λ (x : Outward). x.closed) one ∙ opened-shut sync loss h said
+                let one : c ≡ primary_connection h = same-at h.connections k c (primary_connection h) at
+                (subst (λ n. slice_get h.connections n ≡ Some (primary_connection h)) index last) in
+                ap (λ (x : PrimaryConnection). x.closed) one ∙ opened-shut sync loss h said
           ]
     ]
 
@@ -299,9 +308,9 @@ has-opened sync loss number v w h was said has counted restarted =
 
 -- So an end that opens anew goes on over its link, and one that is refused stays as it is.
 pub reopens-over : (sync loss : ℕ) (v w : PrimaryView) (result : Result ℕ Refusal)
-    → NodeSteps (Opens sync loss (is_starved result)) (node v) (replied (λ (number : ℕ). plainly tt) result) (node w)
+    → NodeSteps (Opens sync loss (is_out_of_memory result)) (node v) (replied (λ (number : ℕ). plainly tt) result) (node w)
     → IfOk result (λ number. IsRestarted number v w) → IfOk result (λ number. number ≡ w.core.connections) → OnErr result (w ≡ v)
-    → PrimarySteps (Opens sync loss (is_starved result)) v (replied (λ (number : ℕ). plainly tt) result) w
+    → PrimarySteps (Opens sync loss (is_out_of_memory result)) v (replied (λ (number : ℕ). plainly tt) result) w
 reopens-over sync loss v w (Ok number) s restarted counted unchanged = record {
   said = λ h was. s.said h was.has;
   after = λ h was. has-opened sync loss number v w h was (s.said h was.has) (s.after h was.has) counted restarted;
@@ -309,7 +318,8 @@ reopens-over sync loss v w (Ok number) s restarted counted unchanged = record {
 reopens-over sync loss v w (Err e) s restarted counted unchanged = record {
   said = λ h was. s.said h was.has;
   after = λ h was.
-      let stays : primary_after (Opens sync loss (is_starved {R = ℕ} (Err e))) h ≡ h = refused-same (Opens sync loss (is_starved {R = ℕ} (Err e))) tt h e
+      let stays : primary_after (Opens sync loss (is_out_of_memory {R = ℕ} (Err e))) h ≡ h =
+      refused-same (Opens sync loss (is_out_of_memory {R = ℕ} (Err e))) tt h e
       (s.said h was.has) in
       subst (PrimaryHas w) (sym stays) (subst (λ (x : PrimaryView). PrimaryHas x h) (sym unchanged) was);
 }
@@ -326,7 +336,8 @@ first-over sync loss v w h o i out inn none has steps out_there in_there = recor
   history = later;
   has = has-next w h later (steps.after h has) (opens-on sync loss h said (λ k c early at. absurd (omega (arith, ap length none)))) (omega (arith, one))
       (traffic-first o i out inn out_there in_there one
-      (λ number. ap (λ (c : Outward). take c.pushed (frames_due h.settings c)) (never-open number)) (λ number. ap (λ (c : Outward). c.taken) (never-open number)));
+      (λ number. ap (λ (c : PrimaryConnection). take c.pushed (frames_due h.settings c)) (never-open number))
+      (λ number. ap (λ (c : PrimaryConnection). c.taken) (never-open number)));
 }
   where
     later : PrimaryHistory
@@ -336,8 +347,8 @@ first-over sync loss v w h o i out inn none has steps out_there in_there = recor
     said = steps.said h has
 
     one : length (primary_after (Opens sync loss false) h).connections ≡ 1
-    one = (opened-more sync loss h said).0 ∙ ap (λ (l : List Outward). suc (length l)) none
+    one = (opened-more sync loss h said).0 ∙ ap (λ (l : List PrimaryConnection). suc (length l)) none
 
-    never-open : (number : ℕ) → outward_at h number ≡ no_outward h.tuple
+    never-open : (number : ℕ) → primary_connection_at h number ≡ no_primary_connection h.tuple
     never-open zero = refl
-    never-open (suc k) = ap (λ (l : List Outward). unwrap_or (slice_get l k) (no_outward h.tuple)) none
+    never-open (suc k) = ap (λ (l : List PrimaryConnection). unwrap_or (slice_get l k) (no_primary_connection h.tuple)) none

@@ -13,25 +13,26 @@ use Rattle.blocks.specs.declared.outcome.Reply.TheVariants as reply
 use Rattle.blocks.specs.declared.outcome.What.TheVariants as what
 use Rattle.model.specs.Refusals.{first_refusal, done_with}
 use Rattle.model.specs.Primary.{last_of, change_last}
-use Rattle.model.specs.Secondary.{Inward, SecondaryHistory, no_inward, inward, inward_at, with_inward, answers_due, is_drained, items_taken}
+use Rattle.model.specs.Secondary.{SecondaryConnection, SecondaryHistory, no_secondary_connection, secondary_connection, secondary_connection_at}
+use Rattle.model.specs.Secondary.{with_secondary_connection, answers_due, is_drained, items_taken}
 use Rattle.model.specs.SecondarySteps.{answering, applying, failing}
 use Rattle.model.specs.SecondarySteps as step
 use Rattle.model.specs.LocalRuns.{SecondaryEvent, OpensToo, Receives, Applies, FailsToApply, Acknowledges, ClosesToo, secondary_after, secondary_run}
 use Rattle.model.specs.Headline.{StaysClosedToo}
 use Rattle.link.specs.Ends.{InEnd, OutEnd}
 use Rattle.endpoint.specs.Calls.{IsNewIn, IsNewOut}
-use Rattle.endpoint.specs.Incoming.{incoming}
-use Rattle.endpoint.specs.Outgoing.{outgoing}
+use Rattle.endpoint.specs.PacketReceiver.{incoming}
+use Rattle.endpoint.specs.PacketSender.{outgoing}
 use Rattle.laws.proofs.Lists.Elements.{get-there, same-at}
 use Rattle.laws.proofs.Lists.Last.{last-at, last-change, last-more, length-change}
 use Rattle.laws.proofs.Lists.Tests.{test-passed}
 use Rattle.laws.proofs.Secondary.Moves.{framed, receipting, pushed_one, closed_end, after-receive, after-peer, after-fault, after-push}
 use Rattle.laws.proofs.Secondary.Moves.{after-close}
-use Rattle.laws.proofs.Secondary.Numbers.{NumbersRise, numbers-rise, inward-there, inward-cases}
+use Rattle.laws.proofs.Secondary.Numbers.{NumbersRise, numbers-rise, secondary-connection-there, secondary-connection-cases}
 use Rattle.laws.proofs.Secondary.Stays.{secondary_stays_closed}
-use Rattle.secondary_steps.specs.Steps.{plainly, replied}
-use Rattle.secondary_steps.specs.Node.{IsReached, NodeHas, NodeSteps, secondary_step}
-use Rattle.secondary_steps.proofs.Node.Runs.{opens-to, refused-same}
+use Rattle.secondary_protocol.specs.Steps.{plainly, replied}
+use Rattle.secondary_protocol.specs.Node.{IsReached, NodeHas, NodeSteps, secondary_step}
+use Rattle.secondary_protocol.proofs.Node.Runs.{opens-to, refused-same}
 use Rattle.secondary.specs.State.{IsRestarted, SecondaryView, node}
 use Rattle.session_nodes.specs.Traffic.{KnowTraffic}
 use Rattle.session_nodes.proofs.Ends.{NextTraffic, SameEnds, traffic-begins, traffic-first, traffic-stays}
@@ -47,59 +48,63 @@ IsNoOpening event = Unit {0}
 -- as many connections, the last of the same number, and the settings
 record Stays (h later : SecondaryHistory) : Type 0 where
   connections : length later.connections ≡ length h.connections
-  number : (inward later).number ≡ (inward h).number
+  number : (secondary_connection later).number ≡ (secondary_connection h).number
   settings : later.settings ≡ h.settings
 
 stays-self : (h : SecondaryHistory) → Stays h h
 stays-self h = record { connections = refl; number = refl; settings = refl }
 
 -- a change of the last connection that leaves its number leaves the last number
-number-with : (f : Inward → Inward) → ((d : Inward) → (f d).number ≡ d.number) → (g later : SecondaryHistory) → later.connections ≡ change_last f g.connections
-    → (inward later).number ≡ (inward g).number
-number-with f same g later changed = elim (last-change f (no_inward g) (no_inward later) g.connections) [
+number-with : (f : SecondaryConnection → SecondaryConnection) → ((d : SecondaryConnection) → (f d).number ≡ d.number) → (g later : SecondaryHistory)
+    → later.connections ≡ change_last f g.connections
+    → (secondary_connection later).number ≡ (secondary_connection g).number
+number-with f same g later changed = elim (last-change f (no_secondary_connection g) (no_secondary_connection later) g.connections) [
   | inl none ↦
       let empty : later.connections ≡ [] = changed ∙ ap (change_last f) none in
-      ap (λ (l : List Inward). (last_of (no_inward later) l).number) empty ∙ sym (ap (λ (l : List Inward). (last_of (no_inward g) l).number) none)
-  | inr last ↦ ap (λ (l : List Inward). (last_of (no_inward later) l).number) changed ∙ (ap (λ (d : Inward). d.number) last ∙ same (inward g))
+      ap (λ (l : List SecondaryConnection). (last_of (no_secondary_connection later) l).number) empty
+      ∙ sym (ap (λ (l : List SecondaryConnection). (last_of (no_secondary_connection g) l).number) none)
+  | inr last ↦ ap (λ (l : List SecondaryConnection). (last_of (no_secondary_connection later) l).number) changed
+      ∙ (ap (λ (d : SecondaryConnection). d.number) last ∙ same (secondary_connection g))
 ]
 
-stays-with : (f : Inward → Inward) → ((d : Inward) → (f d).number ≡ d.number) → (h g : SecondaryHistory) → Stays h g → Stays h (with_inward f g)
+stays-with : (f : SecondaryConnection → SecondaryConnection) → ((d : SecondaryConnection) → (f d).number ≡ d.number) → (h g : SecondaryHistory) → Stays h g
+    → Stays h (with_secondary_connection f g)
 stays-with f same h g was = record {
   connections = length-change f g.connections ∙ was.connections;
-  number = number-with f same g (with_inward f g) refl ∙ was.number;
+  number = number-with f same g (with_secondary_connection f g) refl ∙ was.number;
   settings = was.settings;
 }
 
-number-answering : (d : Inward) → (answering d).number ≡ d.number
+number-answering : (d : SecondaryConnection) → (answering d).number ≡ d.number
 number-answering d = elim (cases_Bool d.closed) [ inl is ↦ rw is refl | inr is ↦ rw is refl ]
 
-number-applying : (asked : Protocol) (place : ℕ) (d : Inward) → (applying asked place d).number ≡ d.number
+number-applying : (asked : Protocol) (place : ℕ) (d : SecondaryConnection) → (applying asked place d).number ≡ d.number
 number-applying asked place d = elim (slice_get_cases (items_taken d) place).1 [ inl at ↦ rw (at.2, applying) refl | inr past ↦ rw (past.1, applying) refl ]
 
-stays-answering : (h g : SecondaryHistory) → Stays h g → Stays h (with_inward answering g)
+stays-answering : (h g : SecondaryHistory) → Stays h g → Stays h (with_secondary_connection answering g)
 stays-answering h g was = stays-with answering number-answering h g was
 
 stays-after : (event : SecondaryEvent) → IsNoOpening event → (h : SecondaryHistory) → Stays h (secondary_after event h)
 stays-after (OpensToo unseen) none h = absurd none
-stays-after (Receives frame starved) none h = after-receive (Stays h) h frame starved (stays-self h) (λ taken is standing.
-    let framed_too : Stays h (with_inward (framed taken) h) = stays-with (framed taken) (λ d. refl) h h (stays-self h) in
+stays-after (Receives frame out_of_memory) none h = after-receive (Stays h) h frame out_of_memory (stays-self h) (λ taken is standing.
+    let framed_too : Stays h (with_secondary_connection (framed taken) h) = stays-with (framed taken) (λ d. refl) h h (stays-self h) in
     record {
       accepts = stays-answering h _ framed_too;
       receipts = λ write at frame_is late. stays-answering h _
-          (stays-with (receipting (length (items_taken (inward h))) write) (λ d. refl) h (with_inward (framed taken) h) framed_too);
-      adopts = λ item tuple consistent brings late. stays-answering h (step.adopting tuple consistent (with_inward (framed taken) h))
+          (stays-with (receipting (length (items_taken (secondary_connection h))) write) (λ d. refl) h (with_secondary_connection (framed taken) h) framed_too);
+      adopts = λ item tuple consistent brings late. stays-answering h (step.adopting tuple consistent (with_secondary_connection (framed taken) h))
           (record {
             connections = framed_too.connections;
-            number = number-with (framed taken) (λ d. refl) h (step.adopting tuple consistent (with_inward (framed taken) h)) refl;
+            number = number-with (framed taken) (λ d. refl) h (step.adopting tuple consistent (with_secondary_connection (framed taken) h)) refl;
             settings = framed_too.settings;
           });
-      refuses = stays-with refused_end (λ d. refl) h (with_inward (framed taken) h) framed_too;
+      refuses = stays-with refused_end (λ d. refl) h (with_secondary_connection (framed taken) h) framed_too;
     })
 stays-after (Applies place) none h = after-peer (Stays h) h place (stays-self h) (λ waiting first.
     stays-answering h _ (stays-with (applying h.settings.protocol place) (number-applying h.settings.protocol place) h h (stays-self h)))
 stays-after (FailsToApply place offsets) none h = after-fault (Stays h) h place offsets (stays-self h)
     (λ waiting first. stays-with (failing place offsets) (λ d. refl) h h (stays-self h))
-stays-after (Acknowledges room starved) none h = after-push (Stays h) h room starved (stays-self h)
+stays-after (Acknowledges room out_of_memory) none h = after-push (Stays h) h room out_of_memory (stays-self h)
     (λ standing due. stays-with pushed_one (λ d. refl) h h (stays-self h))
 stays-after ClosesToo none h = after-close (Stays h) h (stays-self h) (λ standing. stays-with closed_end (λ d. refl) h h (stays-self h))
 
@@ -120,68 +125,73 @@ record GoesOn (h later : SecondaryHistory) : Type 0 where
   stays : StaysClosedToo h later
   least : length h.connections ≤ length later.connections
   most : length later.connections ≤ suc (length h.connections)
-  last : length later.connections ≡ length h.connections → (inward later).number ≡ (inward h).number
-  shut : (k : ℕ) (c : Inward) → suc k < length later.connections → slice_get h.connections k ≡ Some c → c.closed ≡ true
+  last : length later.connections ≡ length h.connections → (secondary_connection later).number ≡ (secondary_connection h).number
+  shut : (k : ℕ) (c : SecondaryConnection) → suc k < length later.connections → slice_get h.connections k ≡ Some c → c.closed ≡ true
 
 -- what stands where a closed connection stood
-stayed : (h later : SecondaryHistory) → StaysClosedToo h later → (k : ℕ) (c d : Inward) → slice_get h.connections k ≡ Some c → c.closed ≡ true
+stayed : (h later : SecondaryHistory) → StaysClosedToo h later → (k : ℕ) (c d : SecondaryConnection) → slice_get h.connections k ≡ Some c → c.closed ≡ true
     → slice_get later.connections k ≡ Some d → d ≡ record c { applied = d.applied; gone = d.gone }
 stayed h later stays k c d at closed there =
     let kept = stays.same k c at closed in
-    subst (λ (x : Inward). x ≡ record c { applied = x.applied; gone = x.gone }) (same-at later.connections k kept.0 d kept.1 there) kept.2
+    subst (λ (x : SecondaryConnection). x ≡ record c { applied = x.applied; gone = x.gone }) (same-at later.connections k kept.0 d kept.1 there) kept.2
 
 -- it keeps its number
-number-stays : (c d : Inward) → d ≡ record c { applied = d.applied; gone = d.gone } → d.number ≡ c.number
-number-stays c d same = ap (λ (x : Inward). x.number) same
+number-stays : (c d : SecondaryConnection) → d ≡ record c { applied = d.applied; gone = d.gone } → d.number ≡ c.number
+number-stays c d same = ap (λ (x : SecondaryConnection). x.number) same
 
 -- an end that stayed as it was, but for what is still applied there
-same-from : (h later : SecondaryHistory) (number : ℕ) → later.settings ≡ h.settings → (c d : Inward) → d ≡ record c { applied = d.applied; gone = d.gone }
-    → inward_at later number ≡ d → inward_at h number ≡ c → SameTraffic h later number
+same-from : (h later : SecondaryHistory) (number : ℕ) → later.settings ≡ h.settings → (c d : SecondaryConnection)
+    → d ≡ record c { applied = d.applied; gone = d.gone }
+    → secondary_connection_at later number ≡ d → secondary_connection_at h number ≡ c → SameTraffic h later number
 same-from h later number settings c d same there here = record {
-  pushed = ap (λ (x : Inward). take x.pushed (answers_due later.settings x)) there
-      ∙ (ap (λ (x : Inward). take x.pushed (answers_due later.settings x)) same
-      ∙ (ap (λ s. take c.pushed (answers_due s c)) settings ∙ sym (ap (λ (x : Inward). take x.pushed (answers_due h.settings x)) here)));
-  taken = ap (λ (x : Inward). x.taken) there ∙ (ap (λ (x : Inward). x.taken) same ∙ sym (ap (λ (x : Inward). x.taken) here));
+  pushed = ap (λ (x : SecondaryConnection). take x.pushed (answers_due later.settings x)) there
+      ∙ (ap (λ (x : SecondaryConnection). take x.pushed (answers_due later.settings x)) same
+      ∙ (ap (λ s. take c.pushed (answers_due s c)) settings ∙ sym (ap (λ (x : SecondaryConnection). take x.pushed (answers_due h.settings x)) here)));
+  taken = ap (λ (x : SecondaryConnection). x.taken) there
+      ∙ (ap (λ (x : SecondaryConnection). x.taken) same ∙ sym (ap (λ (x : SecondaryConnection). x.taken) here));
 }
 
 -- an end that was never open
-never : (h later : SecondaryHistory) (number : ℕ) → inward_at h number ≡ no_inward h → inward_at later number ≡ no_inward later → SameTraffic h later number
+never : (h later : SecondaryHistory) (number : ℕ) → secondary_connection_at h number ≡ no_secondary_connection h
+    → secondary_connection_at later number ≡ no_secondary_connection later → SameTraffic h later number
 never h later number here there = record {
-  pushed = ap (λ (c : Inward). take c.pushed (answers_due later.settings c)) there ∙ sym (ap (λ (c : Inward). take c.pushed (answers_due h.settings c)) here);
-  taken = ap (λ (c : Inward). c.taken) there ∙ sym (ap (λ (c : Inward). c.taken) here);
+  pushed = ap (λ (c : SecondaryConnection). take c.pushed (answers_due later.settings c)) there
+      ∙ sym (ap (λ (c : SecondaryConnection). take c.pushed (answers_due h.settings c)) here);
+  taken = ap (λ (c : SecondaryConnection). c.taken) there ∙ sym (ap (λ (c : SecondaryConnection). c.taken) here);
 }
 
 -- where the last connection stands
-last-stands : (h : SecondaryHistory) → 0 < length h.connections → slice_get h.connections (length h.connections - 1) ≡ Some (inward h)
-last-stands h some = elim (last-at (no_inward h) h.connections) [
+last-established : (h : SecondaryHistory) → 0 < length h.connections → slice_get h.connections (length h.connections - 1) ≡ Some (secondary_connection h)
+last-established h some = elim (last-at (no_secondary_connection h) h.connections) [
   | inl none ↦ absurd (let size : length h.connections ≡ 0 = ap length none in omega arith)
   | inr last ↦ last
 ]
 
 -- a connection of another number than the last one's is no last one
-not-last : (h : SecondaryHistory) (j : ℕ) (d : Inward) → slice_get h.connections j ≡ Some d → (d.number ≡ (inward h).number → ⊥) → suc j < length h.connections
+not-last : (h : SecondaryHistory) (j : ℕ) (d : SecondaryConnection) → slice_get h.connections j ≡ Some d → (d.number ≡ (secondary_connection h).number → ⊥)
+    → suc j < length h.connections
 not-last h j d at other = elim (cases_lt (suc j) (length h.connections)) [
   | inl before ↦ before
   | inr end ↦
       let inside = slice_get_within h.connections j d at in
       let index : length h.connections - 1 ≡ j = omega arith in
-      let last = last-stands h (omega arith) in
-      absurd (other (ap (λ (x : Inward). x.number)
-      (same-at h.connections j d (inward h) at (subst (λ n. slice_get h.connections n ≡ Some (inward h)) index last))))
+      let last = last-established h (omega arith) in
+      absurd (other (ap (λ (x : SecondaryConnection). x.number)
+      (same-at h.connections j d (secondary_connection h) at (subst (λ n. slice_get h.connections n ≡ Some (secondary_connection h)) index last))))
 ]
 
 -- the end of a closed connection goes on under its number
-same-closed : (h later : SecondaryHistory) → NumbersRise h.connections → NumbersRise later.connections → GoesOn h later → (j : ℕ) (c : Inward)
+same-closed : (h later : SecondaryHistory) → NumbersRise h.connections → NumbersRise later.connections → GoesOn h later → (j : ℕ) (c : SecondaryConnection)
     → suc j < length later.connections → slice_get h.connections j ≡ Some c → SameTraffic h later c.number
 same-closed h later rise also on j c early at =
     let stays = on.stays.same j c at (on.shut j c early at) in
     let number : stays.0.number ≡ c.number = number-stays c stays.0 stays.2 in
-    same-from h later c.number on.settings c stays.0 stays.2 (ap (inward_at later) (sym number)
-    ∙ inward-there later also j stays.0 stays.1) (inward-there h rise j c at)
+    same-from h later c.number on.settings c stays.0 stays.2 (ap (secondary_connection_at later) (sym number)
+    ∙ secondary-connection-there later also j stays.0 stays.1) (secondary-connection-there h rise j c at)
 
 same-traffic : (h later : SecondaryHistory) → NumbersRise h.connections → NumbersRise later.connections → GoesOn h later → (number : ℕ)
-    → (number ≡ (inward later).number → ⊥) → SameTraffic h later number
-same-traffic h later rise also on number other = elim (inward-cases later number) [
+    → (number ≡ (secondary_connection later).number → ⊥) → SameTraffic h later number
+same-traffic h later rise also on number other = elim (secondary-connection-cases later number) [
   | inl there ↦
       let d = there.1 in
       let early = not-last later there.0 d there.2 (λ last. other (sym there.3 ∙ last)) in
@@ -190,7 +200,7 @@ same-traffic h later rise also on number other = elim (inward-cases later number
       let kept = stayed h later on.stays there.0 found.0 d found.1 (on.shut there.0 found.0 early found.1) there.2 in
       let is : found.0.number ≡ number = sym (number-stays found.0 d kept) ∙ there.3 in
       subst (SameTraffic h later) is (same-closed h later rise also on there.0 found.0 early found.1)
-  | inr none ↦ elim (inward-cases h number) [
+  | inr none ↦ elim (secondary-connection-cases h number) [
     | inl here ↦
         let inside = slice_get_within h.connections here.0 here.1 here.2 in
         elim (cases_lt (suc here.0) (length later.connections)) [
@@ -199,9 +209,9 @@ same-traffic h later rise also on number other = elim (inward-cases later number
               let least = on.least in
               let equal : length later.connections ≡ length h.connections = omega arith in
               let index : length h.connections - 1 ≡ here.0 = omega arith in
-              let last : here.1 ≡ inward h = same-at h.connections here.0 here.1 (inward h) here.2
-              (subst (λ n. slice_get h.connections n ≡ Some (inward h)) index (last-stands h (omega arith))) in
-              absurd (other (sym here.3 ∙ (ap (λ (x : Inward). x.number) last ∙ sym (on.last equal))))
+              let last : here.1 ≡ secondary_connection h = same-at h.connections here.0 here.1 (secondary_connection h) here.2
+              (subst (λ n. slice_get h.connections n ≡ Some (secondary_connection h)) index (last-established h (omega arith))) in
+              absurd (other (sym here.3 ∙ (ap (λ (x : SecondaryConnection). x.number) last ∙ sym (on.last equal))))
         ]
     | inr nor ↦ never h later number nor none
   ]
@@ -210,38 +220,41 @@ same-traffic h later rise also on number other = elim (inward-cases later number
 -- The next history of a node over one link.
 
 -- the last connection by its number
-last-inward : (h : SecondaryHistory) → NumbersRise h.connections → 0 < length h.connections → inward_at h (inward h).number ≡ inward h
-last-inward h rise some = inward-there h rise (length h.connections - 1) (inward h) (last-stands h some)
+last-secondary-connection : (h : SecondaryHistory) → NumbersRise h.connections → 0 < length h.connections
+    → secondary_connection_at h (secondary_connection h).number ≡ secondary_connection h
+last-secondary-connection h rise some = secondary-connection-there h rise (length h.connections - 1) (secondary_connection h) (last-established h some)
 
 -- The node goes on to a later history, of which both ends know the traffic, where they know what is new of it.
 has-next : (w : SecondaryView) (h later : SecondaryHistory) → IsReached h → NodeHas (node w) later → GoesOn h later → 0 < length later.connections
-    → (NextTraffic w.outgoing w.incoming (inward later).number (sent h) (sent later) (came h) (came later) → KnowTraffic w.outgoing w.incoming (inward later).number (sent later) (came later)) → SecondaryHas w later
+    → (NextTraffic w.outgoing w.incoming (secondary_connection later).number (sent h) (sent later) (came h) (came later)
+    → KnowTraffic w.outgoing w.incoming (secondary_connection later).number (sent later) (came later)) → SecondaryHas w later
 has-next w h later reached has on some know = record {
   has = has;
   over = record { traffic = ends; opened = some; ended = ended };
 }
   where
-    last : inward_at later (inward later).number ≡ inward later
-    last = last-inward later (has-rise later has.reached) some
+    last : secondary_connection_at later (secondary_connection later).number ≡ secondary_connection later
+    last = last-secondary-connection later (has-rise later has.reached) some
 
-    traffic : (number : ℕ) → (number ≡ (inward later).number → ⊥) → SameTraffic h later number
+    traffic : (number : ℕ) → (number ≡ (secondary_connection later).number → ⊥) → SameTraffic h later number
     traffic = same-traffic h later (has-rise h reached) (has-rise later has.reached) on
 
-    ends : KnowTraffic w.outgoing w.incoming (inward later).number (sent later) (came later)
+    ends : KnowTraffic w.outgoing w.incoming (secondary_connection later).number (sent later) (came later)
     ends = know (record {
-      pushed_last = has.leaves.pushed ∙ ap (λ (d : Inward). take d.pushed (answers_due later.settings d)) (sym last);
-      taken_last = has.leaves.taken ∙ ap (λ (d : Inward). d.taken) (sym last);
+      pushed_last = has.leaves.pushed ∙ ap (λ (d : SecondaryConnection). take d.pushed (answers_due later.settings d)) (sym last);
+      taken_last = has.leaves.taken ∙ ap (λ (d : SecondaryConnection). d.taken) (sym last);
       pushed = λ number other. (traffic number other).pushed;
       taken = λ number other. (traffic number other).taken;
     })
 
-    ended : (k : ℕ) (d : Inward) → suc k < length later.connections → slice_get later.connections k ≡ Some d → d.closed ≡ true
+    ended : (k : ℕ) (d : SecondaryConnection) → suc k < length later.connections → slice_get later.connections k ≡ Some d → d.closed ≡ true
     ended k d early at =
         let most = on.most in
         let within : k < length h.connections = omega arith in
         let found = get-there h.connections k within in
         let closed = on.shut k found.0 early found.1 in
-        ap (λ (x : Inward). x.closed) {y = record found.0 { applied = d.applied; gone = d.gone }} (stayed h later on.stays k found.0 d found.1 closed at)
+        ap (λ (x : SecondaryConnection). x.closed) {y = record found.0 { applied = d.applied; gone = d.gone }}
+        (stayed h later on.stays k found.0 d found.1 closed at)
         ∙ closed
 
 -- A step that opens no end.
@@ -304,7 +317,7 @@ had-runs v w had runs = record { history = _; has = (runs had.history had.has).1
 -- An opening: one connection more, over the ends that the node has.
 
 -- An opening that is accepted comes at a closed end.
-opened-shut : (unseen : ℕ) (h : SecondaryHistory) → reply.Ok (plainly tt) ≡ (step.open_secondary unseen h).0 → (inward h).closed ≡ true
+opened-shut : (unseen : ℕ) (h : SecondaryHistory) → reply.Ok (plainly tt) ≡ (step.open_secondary unseen h).0 → (secondary_connection h).closed ≡ true
 opened-shut unseen h is = go (first_refusal (step.open_secondary_tests h)) refl is
   where
     go : (v : Option Refusal) → first_refusal (step.open_secondary_tests h) ≡ v
@@ -313,30 +326,30 @@ opened-shut unseen h is = go (first_refusal (step.open_secondary_tests h)) refl 
           | Some refusal ↦ (reply.Refused refusal, h)
           | None ↦ step.succeeding_secondary what.Nothing
               (step.opened_secondary unseen h)
-        ]).0 → (inward h).closed ≡ true
+        ]).0 → (secondary_connection h).closed ≡ true
     go (Some refusal) none said = absurd (cc)
     go None none said =
-        let passed = test-passed (not ((inward h).closed && is_drained h)) NotDrained [] none in
-        (and_parts (inward h).closed (is_drained h) (not-false ((inward h).closed && is_drained h) passed.0)).0
+        let passed = test-passed (not ((secondary_connection h).closed && is_drained h)) NotDrained [] none in
+        (and_parts (secondary_connection h).closed (is_drained h) (not-false ((secondary_connection h).closed && is_drained h) passed.0)).0
 
 -- It adds a connection of the next number.
 record Opened (unseen : ℕ) (h later : SecondaryHistory) : Type 0 where
   connections : length later.connections ≡ suc (length h.connections)
-  number : (inward later).number ≡ suc ((inward h).number + unseen)
+  number : (secondary_connection later).number ≡ suc ((secondary_connection h).number + unseen)
   settings : later.settings ≡ h.settings
 
 opened-more : (unseen : ℕ) (h : SecondaryHistory) → reply.Ok (plainly tt) ≡ (step.open_secondary unseen h).0
     → Opened unseen h (secondary_after (OpensToo unseen) h)
 opened-more unseen h is = subst (Opened unseen h) (sym (opens-to unseen h (done_with what.Nothing) is)) (record {
   connections = length-change answering (step.opened_secondary unseen h).connections ∙ (length-append h.connections _ ∙ omega arith);
-  number = number-with answering number-answering (step.opened_secondary unseen h) (with_inward answering (step.opened_secondary unseen h)) refl
-      ∙ ap (λ (d : Inward). d.number) (last-more (no_inward (step.opened_secondary unseen h)) _ h.connections);
+  number = number-with answering number-answering (step.opened_secondary unseen h) (with_secondary_connection answering (step.opened_secondary unseen h)) refl
+      ∙ ap (λ (d : SecondaryConnection). d.number) (last-more (no_secondary_connection (step.opened_secondary unseen h)) _ h.connections);
   settings = refl;
 })
 
 -- so the history goes on where all but the last end had been closed
 opens-on : (unseen : ℕ) (h : SecondaryHistory) → reply.Ok (plainly tt) ≡ (step.open_secondary unseen h).0
-    → ((k : ℕ) (d : Inward) → suc k < length h.connections → slice_get h.connections k ≡ Some d → d.closed ≡ true)
+    → ((k : ℕ) (d : SecondaryConnection) → suc k < length h.connections → slice_get h.connections k ≡ Some d → d.closed ≡ true)
     → GoesOn h (secondary_after (OpensToo unseen) h)
 opens-on unseen h said ended = record {
   settings = more.settings;
@@ -350,21 +363,22 @@ opens-on unseen h said ended = record {
     more : Opened unseen h (secondary_after (OpensToo unseen) h)
     more = opened-more unseen h said
 
-    shut : (k : ℕ) (d : Inward) → suc k < length (secondary_after (OpensToo unseen) h).connections → slice_get h.connections k ≡ Some d → d.closed ≡ true
+    shut : (k : ℕ) (d : SecondaryConnection) → suc k < length (secondary_after (OpensToo unseen) h).connections → slice_get h.connections k ≡ Some d
+        → d.closed ≡ true
     shut k d early at = elim (cases_lt (suc k) (length h.connections)) [
       | inl before ↦ ended k d before at
       | inr end ↦
           let size = more.connections in
           let inside = slice_get_within h.connections k d at in
           let index : length h.connections - 1 ≡ k = omega arith in
-          let one : d ≡ inward h = same-at h.connections k d (inward h) at
-          (subst (λ n. slice_get h.connections n ≡ Some (inward h)) index (last-stands h (omega arith))) in
-          ap (λ (x : Inward). x.closed) one ∙ opened-shut unseen h said
+          let one : d ≡ secondary_connection h = same-at h.connections k d (secondary_connection h) at
+          (subst (λ n. slice_get h.connections n ≡ Some (secondary_connection h)) index (last-established h (omega arith))) in
+          ap (λ (x : SecondaryConnection). x.closed) one ∙ opened-shut unseen h said
     ]
 
 has-opened : (unseen number : ℕ) (v w : SecondaryView) (h : SecondaryHistory) → SecondaryHas v h → reply.Ok (plainly tt) ≡ (step.open_secondary unseen h).0
     → NodeHas (node w) (secondary_after (OpensToo unseen) h)
-    → number ≡ suc ((inward h).number + unseen) → IsRestarted number v w → SecondaryHas w (secondary_after (OpensToo unseen) h)
+    → number ≡ suc ((secondary_connection h).number + unseen) → IsRestarted number v w → SecondaryHas w (secondary_after (OpensToo unseen) h)
 has-opened unseen number v w h was said has counted restarted =
     let more = opened-more unseen h said in
     let size = more.connections in
@@ -402,7 +416,8 @@ first-over v w h o i out inn none has steps out_there in_there = record {
   history = later;
   has = has-next w h later has.reached (steps.after h has) (opens-on 0 h said (λ k d early at. absurd (omega (arith, ap length none)))) (omega (arith, one))
       (traffic-first o i out inn out_there in_there first
-      (λ number. ap (λ (d : Inward). take d.pushed (answers_due h.settings d)) (never-open number)) (λ number. ap (λ (d : Inward). d.taken) (never-open number)));
+      (λ number. ap (λ (d : SecondaryConnection). take d.pushed (answers_due h.settings d)) (never-open number))
+      (λ number. ap (λ (d : SecondaryConnection). d.taken) (never-open number)));
 }
   where
     later : SecondaryHistory
@@ -412,13 +427,14 @@ first-over v w h o i out inn none has steps out_there in_there = record {
     said = steps.said h has
 
     one : length (secondary_after (OpensToo 0) h).connections ≡ 1
-    one = (opened-more 0 h said).connections ∙ ap (λ (l : List Inward). suc (length l)) none
+    one = (opened-more 0 h said).connections ∙ ap (λ (l : List SecondaryConnection). suc (length l)) none
 
-    first : (inward (secondary_after (OpensToo 0) h)).number ≡ 1
+    first : (secondary_connection (secondary_after (OpensToo 0) h)).number ≡ 1
     first =
-        let before : (inward h).number ≡ 0 = ap (λ (l : List Inward). (last_of (no_inward h) l).number) none in
+        let before : (secondary_connection h).number ≡ 0 = ap (λ (l : List SecondaryConnection). (last_of (no_secondary_connection h) l).number) none in
         let next = (opened-more 0 h said).number in
         omega arith
 
-    never-open : (number : ℕ) → inward_at h number ≡ no_inward h
-    never-open number = ap (λ (l : List Inward). unwrap_or (find (λ (d : Inward). d.number == number) l) (no_inward h)) none
+    never-open : (number : ℕ) → secondary_connection_at h number ≡ no_secondary_connection h
+    never-open number = ap (λ (l : List SecondaryConnection). unwrap_or (find (λ (d : SecondaryConnection). d.number == number) l) (no_secondary_connection h))
+        none

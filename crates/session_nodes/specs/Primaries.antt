@@ -1,32 +1,32 @@
 -- A primary whose connections all went over one link.
 use Rattle.std.specs.Prelude.{ℕ, suc, ◌≡◌, ◌<◌, List, take, Some, slice_get, length, true, ◌&&◌, Option, is_none, Result}
-use Rattle.model.specs.Primary.{Outward, PrimaryHistory, outward_at, frames_due}
+use Rattle.model.specs.Primary.{PrimaryConnection, PrimaryHistory, primary_connection_at, frames_due}
 use Rattle.model.specs.Frames.{Packet, Received}
 use Rattle.model.specs.LocalRuns.{PrimaryEvent, Takes, primary_run}
 use Rattle.blocks.specs.declared.refusal.Refusal.{Refusal}
 use Rattle.blocks.specs.declared.outcome.Done.{Done}
 use Rattle.blocks.specs.declared.outcome.Reply.{Reply}
 use Rattle.blocks.specs.declared.outcome.Reply.TheVariants as reply
-use Rattle.endpoint.specs.Calls.{is_starved}
-use Rattle.primary_steps.specs.Node.{NodeHas, primary_step}
-use Rattle.primary_steps.specs.Steps.{replied}
+use Rattle.endpoint.specs.Calls.{is_out_of_memory}
+use Rattle.primary_protocol.specs.Node.{NodeHas, primary_step}
+use Rattle.primary_protocol.specs.Steps.{replied}
 use Rattle.primary.specs.State.{PrimaryView, node}
 use Rattle.session_nodes.specs.Traffic.{KnowTraffic}
 
 -- what the history pushed on the connection of a number, the present one or an earlier one
 abbrev pub sent : PrimaryHistory → ℕ → List Packet
-sent h number = take (outward_at h number).pushed (frames_due h.settings (outward_at h number))
+sent h number = take (primary_connection_at h number).pushed (frames_due h.settings (primary_connection_at h number))
 
 -- and what it took
 abbrev pub came : PrimaryHistory → ℕ → List Received
-came h number = (outward_at h number).taken
+came h number = (primary_connection_at h number).taken
 
 -- Every connection of the history went over the ends that the node has: of each number, what went out there is what the history
 -- pushed, and what came in is what it took. The ends are on the last connection, and the earlier ones are closed.
 pub record PrimaryOver (v : PrimaryView) (h : PrimaryHistory) : Type 0 where
   pub traffic : KnowTraffic v.outgoing v.incoming (length h.connections) (sent h) (came h)
   pub opened : 0 < length h.connections
-  pub ended : (k : ℕ) (c : Outward) → suc k < length h.connections → slice_get h.connections k ≡ Some c → c.closed ≡ true
+  pub ended : (k : ℕ) (c : PrimaryConnection) → suc k < length h.connections → slice_get h.connections k ≡ Some c → c.closed ≡ true
 
 -- the node has this history, and all of its connections went over the node's ends
 pub record PrimaryHas (v : PrimaryView) (h : PrimaryHistory) : Type 0 where
@@ -54,4 +54,4 @@ PrimaryRuns v w = (h : PrimaryHistory) → PrimaryHas v h → (events : List Pri
 -- A frame was taken, or none, and that was the step.
 pub record PrimaryTakes (result : Result Done Refusal) (v w : PrimaryView) : Type 0 where
   pub frame : Option Received
-  pub step : PrimarySteps (Takes frame (is_none frame && is_starved result)) v (replied reply.Ok result) w
+  pub step : PrimarySteps (Takes frame (is_none frame && is_out_of_memory result)) v (replied reply.Ok result) w

@@ -1,31 +1,31 @@
 -- A secondary whose connections all went over one link.
 use Rattle.std.specs.Prelude.{ℕ, suc, ◌≡◌, ◌<◌, ◌&&◌, List, take, Option, Some, Result, is_none, slice_get, length, true}
-use Rattle.model.specs.Secondary.{Inward, SecondaryHistory, inward, inward_at, answers_due}
+use Rattle.model.specs.Secondary.{SecondaryConnection, SecondaryHistory, secondary_connection, secondary_connection_at, answers_due}
 use Rattle.model.specs.Frames.{Packet, Received}
 use Rattle.model.specs.LocalRuns.{SecondaryEvent, Receives, secondary_run}
 use Rattle.blocks.specs.declared.refusal.Refusal.{Refusal}
 use Rattle.blocks.specs.declared.outcome.Done.{Done}
 use Rattle.blocks.specs.declared.outcome.Reply.{Reply}
-use Rattle.endpoint.specs.Calls.{is_starved}
-use Rattle.secondary_steps.specs.Node.{NodeHas, secondary_step}
-use Rattle.secondary_steps.specs.Steps.{replied}
+use Rattle.endpoint.specs.Calls.{is_out_of_memory}
+use Rattle.secondary_protocol.specs.Node.{NodeHas, secondary_step}
+use Rattle.secondary_protocol.specs.Steps.{replied}
 use Rattle.secondary.specs.State.{SecondaryView, node}
 use Rattle.session_nodes.specs.Traffic.{KnowTraffic}
 
 -- what the history pushed on the connection of a number, the present one or an earlier one
 abbrev pub sent : SecondaryHistory → ℕ → List Packet
-sent h number = take (inward_at h number).pushed (answers_due h.settings (inward_at h number))
+sent h number = take (secondary_connection_at h number).pushed (answers_due h.settings (secondary_connection_at h number))
 
 -- and what it took
 abbrev pub came : SecondaryHistory → ℕ → List Received
-came h number = (inward_at h number).taken
+came h number = (secondary_connection_at h number).taken
 
 -- Every connection of the history went over the ends that the node has: of each number, what went out there is what the history
 -- pushed, and what came in is what it took. The ends are on the last connection, and the earlier ones are closed.
 pub record SecondaryOver (v : SecondaryView) (h : SecondaryHistory) : Type 0 where
-  pub traffic : KnowTraffic v.outgoing v.incoming (inward h).number (sent h) (came h)
+  pub traffic : KnowTraffic v.outgoing v.incoming (secondary_connection h).number (sent h) (came h)
   pub opened : 0 < length h.connections
-  pub ended : (k : ℕ) (d : Inward) → suc k < length h.connections → slice_get h.connections k ≡ Some d → d.closed ≡ true
+  pub ended : (k : ℕ) (d : SecondaryConnection) → suc k < length h.connections → slice_get h.connections k ≡ Some d → d.closed ≡ true
 
 -- the node has this history, and all of its connections went over the node's ends
 pub record SecondaryHas (v : SecondaryView) (h : SecondaryHistory) : Type 0 where
@@ -54,4 +54,4 @@ SecondaryRuns v w = (h : SecondaryHistory) → SecondaryHas v h → (events : Li
 -- A frame was taken, or none, and that was the step.
 pub record SecondaryReceives (result : Result Done Refusal) (v w : SecondaryView) : Type 0 where
   pub frame : Option Received
-  pub step : SecondarySteps (Receives frame (is_none frame && is_starved result)) v (replied (λ done. done) result) w
+  pub step : SecondarySteps (Receives frame (is_none frame && is_out_of_memory result)) v (replied (λ done. done) result) w

@@ -2,15 +2,15 @@
 use Rattle.std.specs.Prelude.{ℕ, ◌≡◌, ◌<◌, List, Option, Some}
 use Rattle.std.specs.List.{AllByRecursion}
 use Rattle.model.specs.Frames.{Packet, Received}
-use Rattle.endpoint.specs.Incoming.{IncomingState}
-use Rattle.endpoint.specs.Outgoing.{OutgoingState}
+use Rattle.endpoint.specs.PacketReceiver.{PacketReceiverState}
+use Rattle.endpoint.specs.PacketSender.{PacketSenderState}
 use Rattle.endpoint.specs.Joined.{pushed_at, taken_at}
 
 -- Both ends are on the last connection, those before it have lower numbers, and of each number this was pushed and this was taken.
-pub record KnowTraffic (outgoing : Option OutgoingState) (incoming : Option IncomingState) (last : ℕ) (sent : ℕ → List Packet)
+pub record KnowTraffic (outgoing : Option PacketSenderState) (incoming : Option PacketReceiverState) (last : ℕ) (sent : ℕ → List Packet)
     (came : ℕ → List Received) : Type 0 where
-  pub out : OutgoingState
-  pub inn : IncomingState
+  pub out : PacketSenderState
+  pub inn : PacketReceiverState
   pub out_there : outgoing ≡ Some out
   pub in_there : incoming ≡ Some inn
   pub out_number : out.number ≡ last

@@ -1,11 +1,11 @@
 //! The primary under its lock.
 ghost use Rattle.std.specs.Prelude.{◌≡◌, IfOk, OnOk, OnErr};
 ghost use Rattle.blocks.specs.declared.outcome.Reply.TheVariants as reply;
-ghost use Rattle.endpoint.specs.Calls.{IsNewIn, IsNewOut, has_room, is_starved};
+ghost use Rattle.endpoint.specs.Calls.{IsNewIn, IsNewOut, has_room, is_out_of_memory};
 ghost use Rattle.model.specs.LocalRuns.{Closes, Opens, Sends, Submits};
-ghost use Rattle.primary_steps.specs.Node.{take_receipt};
-ghost use Rattle.primary_steps.specs.Steps.{plainly, replied};
-ghost use Rattle.primary_steps.specs.Transitions.{whole_blocks};
+ghost use Rattle.primary_protocol.specs.Node.{take_receipt};
+ghost use Rattle.primary_protocol.specs.Steps.{plainly, replied};
+ghost use Rattle.primary_protocol.specs.Transitions.{whole_blocks};
 ghost use Rattle.session_nodes.specs.Primaries.{IsPrimaryStep, PrimaryIsHad, PrimaryRuns, PrimarySteps, PrimaryTakes};
 
 use blocks::{Done, Refusal, Settings, Store, Tuple};
@@ -63,7 +63,7 @@ impl<O: FrameOut + Drop, I: FrameIn + Drop, S: Store + Drop> Local<O, I, S> {
 
     /// Accepts a write and returns its number. The refusals are those of `Primary::submit`.
     pub fn submit(&mut self, first: u64, bytes: &Bytes) -> Result<(u64, Done), Refusal>
-        ensures step { PrimarySteps (Submits first (whole_blocks bytes.now) (is_starved result)) self.old (replied (λ told. reply.Ok told.1) result) self.new }
+        ensures step { PrimarySteps (Submits first (whole_blocks bytes.now) (is_out_of_memory result)) self.old (replied (λ told. reply.Ok told.1) result) self.new }
     {
         self.node.submit(first, bytes)
     }
@@ -82,7 +82,7 @@ impl<O: FrameOut + Drop, I: FrameIn + Drop, S: Store + Drop> Local<O, I, S> {
 
     /// Sends the next frame. The refusals are those of `Primary::send`.
     pub fn send(&mut self) -> Result<Done, Refusal>
-        ensures step { PrimarySteps (Sends (has_room result) (is_starved result)) self.old (replied reply.Ok result) self.new }
+        ensures step { PrimarySteps (Sends (has_room result) (is_out_of_memory result)) self.old (replied reply.Ok result) self.new }
         ensures runs { PrimaryRuns self.old self.new }
     {
         self.node.send()
@@ -130,7 +130,7 @@ impl<O: FrameOut + Drop, I: FrameIn + Drop, S: Store + Drop> Local<O, I, S> {
 
     /// Opens the end anew and returns the connection's number. The refusals are those of `Primary::reopen`.
     pub fn reopen(&mut self, sync: u64, loss: u64) -> Result<u32, Refusal>
-        ensures step { PrimarySteps (Opens sync loss (is_starved result)) self.old (replied (λ number. plainly tt) result) self.new }
+        ensures step { PrimarySteps (Opens sync loss (is_out_of_memory result)) self.old (replied (λ number. plainly tt) result) self.new }
     {
         self.node.reopen(sync, loss)
     }

@@ -1,12 +1,12 @@
 //! The secondary under its lock.
 ghost use Rattle.std.specs.Prelude.{◌≡◌, ◌-◌, ◌+◌, ◌<◌, ◌≤◌, ◌&&◌, true, false, Err, IfErr, OnErr, OnOk};
 ghost use Rattle.blocks.specs.declared.refusal.Refusal.TheVariants.{NotDrained};
-ghost use Rattle.endpoint.specs.Calls.{IsNewIn, IsNewOut, has_room, is_starved};
+ghost use Rattle.endpoint.specs.Calls.{IsNewIn, IsNewOut, has_room, is_out_of_memory};
 ghost use Rattle.model.specs.LocalRuns.{Acknowledges, ClosesToo, OpensToo};
-ghost use Rattle.model.specs.Secondary.{SecondaryHistory, inward, is_drained};
+ghost use Rattle.model.specs.Secondary.{SecondaryHistory, secondary_connection, is_drained};
 ghost use Rattle.secondary.specs.State.{node};
-ghost use Rattle.secondary_steps.specs.Node.{NodeHas};
-ghost use Rattle.secondary_steps.specs.Steps.{plainly, replied};
+ghost use Rattle.secondary_protocol.specs.Node.{NodeHas};
+ghost use Rattle.secondary_protocol.specs.Steps.{plainly, replied};
 ghost use Rattle.session_nodes.specs.Secondaries.{SecondaryIsHad, SecondaryReceives, SecondaryRuns, SecondarySteps};
 
 use blocks::{Done, Refusal, Settings, Store, Tuple};
@@ -68,7 +68,7 @@ impl<O: FrameOut + Drop, I: FrameIn + Drop, S: Store + Drop> Peer<O, I, S> {
 
     /// Sends the next frame. The refusals are those of `Secondary::ack_out`.
     pub fn ack_out(&mut self) -> Result<Done, Refusal>
-        ensures step { SecondarySteps (Acknowledges (has_room result) (is_starved result)) self.old (replied (λ done. done) result) self.new }
+        ensures step { SecondarySteps (Acknowledges (has_room result) (is_out_of_memory result)) self.old (replied (λ done. done) result) self.new }
         ensures runs { SecondaryRuns self.old self.new }
     {
         self.node.ack_out()
@@ -100,8 +100,8 @@ impl<O: FrameOut + Drop, I: FrameIn + Drop, S: Store + Drop> Peer<O, I, S> {
 
     /// Whether the end may open again: it is closed, and nothing is pending. `NotDrained` (36) if not.
     pub fn may_reopen(&self) -> Result<(), Refusal>
-        ensures may { (h : SecondaryHistory) → NodeHas (node self.now) h → OnOk result (((inward h).closed ≡ true) × (is_drained h ≡ true)) }
-        ensures refused { (h : SecondaryHistory) → NodeHas (node self.now) h → IfErr result (λ e. (e ≡ NotDrained) × (((inward h).closed && is_drained h) ≡ false)) }
+        ensures may { (h : SecondaryHistory) → NodeHas (node self.now) h → OnOk result (((secondary_connection h).closed ≡ true) × (is_drained h ≡ true)) }
+        ensures refused { (h : SecondaryHistory) → NodeHas (node self.now) h → IfErr result (λ e. (e ≡ NotDrained) × (((secondary_connection h).closed && is_drained h) ≡ false)) }
     {
         if self.node.is_open() || !self.node.is_drained() {
             return Err(Refusal::NotDrained);

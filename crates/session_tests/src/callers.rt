@@ -1,9 +1,9 @@
-//! What callers do with a session.
+//! Callers of a session.
 use crate::disks::Signals;
 use crate::outcome::Answers;
 use blocks::{BLOCK_BYTES, Refusal};
 use bytes::Bytes;
-use primary::{Kind, Receipt};
+use primary::{CompletionKind, Receipt};
 use std::alloc::Global;
 use std::process::Abort;
 use std::sync::Wait;
@@ -282,7 +282,7 @@ fn two_connections<R: Abort + Wait + Clock>(
 fn linked(alloc: Global, mirror: &impl Device, connection: u32) -> Result<Receipt, Refusal> {
     for _ in 0..100_000u32 {
         let receipt = write(alloc, mirror, 0, 0xAA)?;
-        if let (Kind::Linked, Some(home)) = (receipt.kind(), receipt.home())
+        if let (CompletionKind::Linked, Some(home)) = (receipt.kind(), receipt.home())
             && home.connection() == connection
         {
             return Ok(receipt);

@@ -1,7 +1,7 @@
-//! What a session came to.
+//! The outcome of a session.
 use blocks::{BLOCK_BYTES, Block, Refusal, Store};
 use link::{FrameIn, FrameOut};
-use primary::{Kind, Primary, Receipt};
+use primary::{CompletionKind, Primary, Receipt};
 use secondary::Secondary;
 use settle::{Settled, settle};
 use std::fmt::Debug;
@@ -23,7 +23,7 @@ impl Answers {
     pub(crate) fn linked(&self) -> u32 {
         let mut linked = 0u32;
         for receipt in &self.receipts {
-            linked = linked.saturating_add(u32::from(receipt.kind() == Kind::Linked));
+            linked = linked.saturating_add(u32::from(receipt.kind() == CompletionKind::Linked));
         }
         linked
     }

@@ -1,4 +1,4 @@
-//! What a session refuses, at its start and while it runs.
+//! Refusals of a session, at its start and while it runs.
 use crate::callers::Work;
 use crate::disks::{GatedDisk, Signals, TellingDisk, memory};
 use crate::outcome::Outcome;

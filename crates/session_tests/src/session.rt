@@ -22,7 +22,7 @@ pub(crate) const ALIKE: Tuple = Tuple {
     second_historical: 0,
 };
 
-/// The identifiers of a disk of which nothing is known.
+/// The identifiers of a disk about which nothing is known.
 pub(crate) const UNKNOWN: Tuple = Tuple {
     current: 0,
     bitmap: 0,
@@ -121,25 +121,11 @@ fn run_named<
 {
     let (local, peer) = disks;
     match Session::<R, L, S, T>::start(rt, alloc, there, back, local, peer, parts) {
-        Ok(session) => Ok(use_session(rt, alloc, work, session, signals)),
+        Ok(session) => {
+            let answers = carry_out(&rt, alloc, session.mirror(), signals, work);
+            let nodes = session.finish().expect(&rt, "both nodes");
+            Ok(bring_together(&rt, nodes, &answers))
+        }
         Err(refusal) => Err(refusal),
     }
-}
-
-// Lets the callers do their work, ends the session, and settles.
-fn use_session<
-    L: Linked + Send + Sync + 'static,
-    R: Abort + Runtime,
-    S: Store + Drop + Send + 'static,
-    T: Store + Drop + Send + 'static,
->(
-    rt: R,
-    alloc: Global,
-    work: Work,
-    session: Session<R, L, S, T>,
-    signals: &Arc<Signals, Global>,
-) -> Outcome {
-    let answers = carry_out(&rt, alloc, session.mirror(), signals, work);
-    let nodes = session.finish().expect(&rt, "both nodes");
-    bring_together(&rt, nodes, &answers)
 }

@@ -30,7 +30,7 @@ enum End {
 }
 
 impl End {
-    // This end fails after so many bytes.
+    // This end fails after this number of bytes.
     fn after(self, bytes: u64) -> Failing {
         match self {
             End::Writer => Failing {
@@ -78,21 +78,14 @@ fn over_ways<R: Abort + Runtime, W: Sink, D: Source, V: Sink, E: Source>(
     let parts = case.parts(alloc).expect(&rt, "settings");
     let (local, peer) = (memory(&rt, alloc, false), memory(&rt, alloc, false));
     match WireSession::start_over(rt, alloc, local, peer, parts, ways) {
-        Ok(session) => Ok(use_session(rt, alloc, case.work, session)),
+        Ok(session) => {
+            let signals = Signals::new();
+            let answers = carry_out(&rt, alloc, session.mirror(), &signals, case.work);
+            let nodes = session.finish().expect(&rt, "both nodes");
+            Ok(bring_together(&rt, nodes, &answers))
+        }
         Err(refusal) => Err(refusal),
     }
-}
-
-// Lets the callers do their work, ends the session, and settles.
-fn use_session<R: Abort + Runtime>(
-    rt: R,
-    alloc: Global,
-    work: Work,
-    session: WireSession<R, MemStore, MemStore>,
-) -> Outcome {
-    let answers = carry_out(&rt, alloc, session.mirror(), &Signals::new(), work);
-    let nodes = session.finish().expect(&rt, "both nodes");
-    bring_together(&rt, nodes, &answers)
 }
 
 #[test]
@@ -133,7 +126,7 @@ fn is_sound<R: Abort + Runtime>(rt: R, alloc: Global, failing: Failing) -> bool 
 // How many sessions run at a time, each in a thread that does one after another.
 const LANES: usize = 16;
 
-// For how many of these numbers of bytes a session is sound in which a stream fails after so many.
+// Counts the numbers of bytes after which a stream may fail and leave a session sound.
 fn count_sound<R: Abort + Runtime>(rt: R, alloc: Global, bytes: Range<u64>, end: End) -> u32 {
     let each = thread::map_indices(
         &rt,

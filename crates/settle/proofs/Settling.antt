@@ -10,18 +10,18 @@ use Rattle.blocks.specs.declared.refusal.Refusal.TheVariants.{ReadFault, Strange
 use Rattle.model.specs.Headline.{IsJoined, Cover, opening_marked}
 use Rattle.model.specs.LocalRuns.{primary_run, secondary_run}
 use Rattle.model.specs.Pair.{same_block}
-use Rattle.model.specs.Primary.{PrimaryHistory, items_sent, outward}
+use Rattle.model.specs.Primary.{PrimaryHistory, items_sent, primary_connection}
 use Rattle.model.specs.Refusals.{first_refusal}
-use Rattle.model.specs.Secondary.{Inward, SecondaryHistory, no_inward, inward, inward_at, items_taken}
+use Rattle.model.specs.Secondary.{SecondaryConnection, SecondaryHistory, no_secondary_connection, secondary_connection, secondary_connection_at, items_taken}
 use Rattle.model.specs.Settlement.{Receipt, Settlement, applied_items, has_strange, is_at_rest, settlement, settle, unmarked_differences}
 use Rattle.model.specs.Theorems.{Opening, primary_at, secondary_at, marks_at, IsSoundOpening, Settles, SettlesAnyhow}
 use Rattle.laws.proofs.Theorems.Joined.{joined_settles, joined_settles_anyhow}
 use Rattle.laws.proofs.Joining.Openings.{kept-opening-primary, kept-opening-secondary}
 use Rattle.laws.proofs.Lists.Elements.{same-at}
 use Rattle.laws.proofs.Lists.Last.{last-at}
-use Rattle.laws.proofs.Secondary.Numbers.{NumbersRise, numbers-rise, inward-there, inward-cases}
-use Rattle.primary_steps.specs.Steps as primary
-use Rattle.secondary_steps.specs.Node as secondary
+use Rattle.laws.proofs.Secondary.Numbers.{NumbersRise, numbers-rise, secondary-connection-there, secondary-connection-cases}
+use Rattle.primary_protocol.specs.Steps as primary
+use Rattle.secondary_protocol.specs.Node as secondary
 use Rattle.settle.specs.Settled.{WereHonest, kept}
 
 -- The connection of a number.
@@ -30,29 +30,34 @@ rises : (s : SecondaryHistory) → secondary.IsReached s → NumbersRise s.conne
 rises s r = subst (λ (x : SecondaryHistory). NumbersRise x.connections) (sym r.reached) (numbers-rise r.events _ refl)
 
 -- the last connection is found by its number
-pub at-last : (s : SecondaryHistory) (n : ℕ) → secondary.IsReached s → (inward s).number ≡ n → inward_at s n ≡ inward s
-at-last s n r is = elim (last-at (no_inward s) s.connections) [
+pub at-last : (s : SecondaryHistory) (n : ℕ) → secondary.IsReached s → (secondary_connection s).number ≡ n
+    → secondary_connection_at s n ≡ secondary_connection s
+at-last s n r is = elim (last-at (no_secondary_connection s) s.connections) [
   | inl none ↦ none-at s n none
-  | inr at ↦ ap (inward_at s) (sym is) ∙ inward-there s (rises s r) (length s.connections - 1) (inward s) at
+  | inr at ↦ ap (secondary_connection_at s) (sym is) ∙ secondary-connection-there s (rises s r) (length s.connections - 1) (secondary_connection s) at
 ]
   where
-    none-at : (s : SecondaryHistory) (n : ℕ) → s.connections ≡ [] → inward_at s n ≡ inward s
-    none-at s n none = subst (λ (l : List Inward). inward_at (record s { connections = l }) n ≡ inward (record s { connections = l })) (sym none) refl
+    none-at : (s : SecondaryHistory) (n : ℕ) → s.connections ≡ [] → secondary_connection_at s n ≡ secondary_connection s
+    none-at s n none = subst (λ (l : List SecondaryConnection). secondary_connection_at (record s { connections = l }) n ≡ secondary_connection
+        (record s { connections = l })) (sym none) refl
 
 -- no connection has a number above the last one's
-pub at-none : (s : SecondaryHistory) (n : ℕ) → secondary.IsReached s → (inward s).number < n → inward_at s n ≡ no_inward s
-at-none s n r above = elim (inward-cases s n) [
+pub at-none : (s : SecondaryHistory) (n : ℕ) → secondary.IsReached s → (secondary_connection s).number < n
+    → secondary_connection_at s n ≡ no_secondary_connection s
+at-none s n r above = elim (secondary-connection-cases s n) [
   | inr none ↦ none
-  | inl (j, d, at, number, is) ↦ elim (last-at (no_inward s) s.connections) [
-    | inl none ↦ absurd (let wrong : slice_get [] j ≡ Some d = subst (λ (l : List Inward). slice_get l j ≡ Some d) none at in cc (wrong))
+  | inl (j, d, at, number, is) ↦ elim (last-at (no_secondary_connection s) s.connections) [
+    | inl none ↦ absurd (let wrong : slice_get [] j ≡ Some d = subst (λ (l : List SecondaryConnection). slice_get l j ≡ Some d) none at in cc (wrong))
     | inr last ↦
         let within = slice_get_within s.connections j d at in
         elim (cases_lt j (length s.connections - 1)) [
-          | inl less ↦ let more = (rises s r).rise j (length s.connections - 1) d (inward s) less at last in absurd (omega (arith, more, number, above))
+          | inl less ↦ let more = (rises s r).rise j (length s.connections - 1) d (secondary_connection s) less at last in absurd
+              (omega (arith, more, number, above))
           | inr end ↦
               let index : length s.connections - 1 ≡ j = omega (arith, within, end) in
-              let same : inward s ≡ d = same-at s.connections j (inward s) d (subst (λ (k : ℕ). slice_get s.connections k ≡ Some (inward s)) index last) at in
-              let equal = ap (λ (x : Inward). x.number) same in
+              let same : secondary_connection s ≡ d = same-at s.connections j (secondary_connection s) d
+              (subst (λ (k : ℕ). slice_get s.connections k ≡ Some (secondary_connection s)) index last) at in
+              let equal = ap (λ (x : SecondaryConnection). x.number) same in
               absurd (omega (arith, equal, number, above))
         ]
   ]
@@ -60,32 +65,35 @@ at-none s n r above = elim (inward-cases s n) [
 
 -- What is kept of it: the last connection, under its own number alone.
 
-pub kept-last : (s : SecondaryHistory) (n : ℕ) → (inward s).number ≡ n → inward_at (kept s) n ≡ inward s
-kept-last s n is = ap (λ (b : Bool). unwrap_or (cond b (Some (inward s)) None) (no_inward s)) (eq-eqb (inward s).number n is)
+pub kept-last : (s : SecondaryHistory) (n : ℕ) → (secondary_connection s).number ≡ n → secondary_connection_at (kept s) n ≡ secondary_connection s
+kept-last s n is = ap (λ (b : Bool). unwrap_or (cond b (Some (secondary_connection s)) None) (no_secondary_connection s))
+    (eq-eqb (secondary_connection s).number n is)
 
-pub kept-none : (s : SecondaryHistory) (n : ℕ) → ((inward s).number ≡ n → ⊥) → inward_at (kept s) n ≡ no_inward s
-kept-none s n other = ap (λ (b : Bool). unwrap_or (cond b (Some (inward s)) None) (no_inward s)) (ne_eqb (inward s).number n other)
+pub kept-none : (s : SecondaryHistory) (n : ℕ) → ((secondary_connection s).number ≡ n → ⊥) → secondary_connection_at (kept s) n ≡ no_secondary_connection s
+kept-none s n other = ap (λ (b : Bool). unwrap_or (cond b (Some (secondary_connection s)) None) (no_secondary_connection s))
+    (ne_eqb (secondary_connection s).number n other)
 
 -- that is all of it where no connection is numbered above
-pub kept-at : (s : SecondaryHistory) (n : ℕ) → secondary.IsReached s → (inward s).number ≤ n → inward_at (kept s) n ≡ inward_at s n
-kept-at s n r most = elim (cases_lt (inward s).number n) [
+pub kept-at : (s : SecondaryHistory) (n : ℕ) → secondary.IsReached s → (secondary_connection s).number ≤ n
+    → secondary_connection_at (kept s) n ≡ secondary_connection_at s n
+kept-at s n r most = elim (cases_lt (secondary_connection s).number n) [
   | inl less ↦ kept-none s n (λ is. absurd (omega (arith, less, is))) ∙ sym (at-none s n r less)
-  | inr least ↦ let is : (inward s).number ≡ n = omega (arith, most, least) in kept-last s n is ∙ sym (at-last s n r is)
+  | inr least ↦ let is : (secondary_connection s).number ≡ n = omega (arith, most, least) in kept-last s n is ∙ sym (at-last s n r is)
 ]
 
 -- How many items were taken at a number, and how many are applied: those of the last connection, or none.
-pub items-last : (s : SecondaryHistory) (n taken applied : ℕ) → (inward s).number ≡ n → taken ≡ length (items_taken (inward s))
-    → applied ≡ applied_items (inward s)
-    → (taken ≡ length (items_taken (inward_at (kept s) n))) × (applied ≡ applied_items (inward_at (kept s) n))
+pub items-last : (s : SecondaryHistory) (n taken applied : ℕ) → (secondary_connection s).number ≡ n → taken ≡ length (items_taken (secondary_connection s))
+    → applied ≡ applied_items (secondary_connection s)
+    → (taken ≡ length (items_taken (secondary_connection_at (kept s) n))) × (applied ≡ applied_items (secondary_connection_at (kept s) n))
 items-last s n taken applied is one two = (
-  one ∙ ap (λ (d : Inward). length (items_taken d)) (sym (kept-last s n is)),
+  one ∙ ap (λ (d : SecondaryConnection). length (items_taken d)) (sym (kept-last s n is)),
   two
       ∙ ap applied_items (sym (kept-last s n is)),
 )
 
-pub items-none : (s : SecondaryHistory) (n : ℕ) → ((inward s).number ≡ n → ⊥)
-    → (0 ≡ length (items_taken (inward_at (kept s) n))) × (0 ≡ applied_items (inward_at (kept s) n))
-items-none s n other = (ap (λ (d : Inward). length (items_taken d)) (sym (kept-none s n other)), ap applied_items (sym (kept-none s n other)))
+pub items-none : (s : SecondaryHistory) (n : ℕ) → ((secondary_connection s).number ≡ n → ⊥)
+    → (0 ≡ length (items_taken (secondary_connection_at (kept s) n))) × (0 ≡ applied_items (secondary_connection_at (kept s) n))
+items-none s n other = (ap (λ (d : SecondaryConnection). length (items_taken d)) (sym (kept-none s n other)), ap applied_items (sym (kept-none s n other)))
 
 -- The answer, by its tests.
 
@@ -115,16 +123,16 @@ is-settled p s receipts rest strange = λ i. by p s receipts (rest i) (strange i
 
 -- Where no connection is numbered above the primary's last one, what is kept settles as the whole does.
 pub kept-settles : (p : PrimaryHistory) (s : SecondaryHistory) (receipts : List Receipt) (faulty : Bool) → secondary.IsReached s
-    → (inward s).number ≤ length p.connections
+    → (secondary_connection s).number ≤ length p.connections
     → settle p (kept s) receipts faulty ≡ settle p s receipts faulty
 kept-settles p s receipts faulty r most =
-    ap (λ (d : Inward). elim (first_refusal ((not (is_at_rest p s), NotDrained) ∷ (has_strange p.journal [] receipts, StrangeReceipt) ∷ (
+    ap (λ (d : SecondaryConnection). elim (first_refusal ((not (is_at_rest p s), NotDrained) ∷ (has_strange p.journal [] receipts, StrangeReceipt) ∷ (
       faulty,
       ReadFault,
     ) ∷ [])) as (λ _. Result Settlement Refusal) [
       | Some refusal ↦ Err refusal
       | None ↦ Ok (record {
-        sent = items_sent (outward p);
+        sent = items_sent (primary_connection p);
         taken = length (items_taken d);
         applied = applied_items d;
         confirmed = length receipts;

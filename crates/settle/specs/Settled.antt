@@ -3,7 +3,7 @@ use Rattle.std.specs.Prelude.{Bool, true, false, [], ◌∷◌, Result, Ok, Err}
 use Rattle.blocks.specs.declared.refusal.Refusal.{Refusal}
 use Rattle.blocks.specs.declared.refusal.Refusal.TheVariants.{ReadFault}
 use Rattle.model.specs.Primary.{PrimaryHistory}
-use Rattle.model.specs.Secondary.{SecondaryHistory, inward}
+use Rattle.model.specs.Secondary.{SecondaryHistory, secondary_connection}
 use Rattle.model.specs.Headline.{IsHonest, opening_marked}
 use Rattle.model.specs.Settlement.{Settlement}
 use Rattle.settle.specs.declared.settlement.Settled.{Settled}
@@ -28,4 +28,4 @@ WereHonest p s = IsHonest p.opening_tuple s.opening_tuple (opening_marked p) p.o
 
 -- A secondary's history as far as its numbers are kept: its last connection alone.
 abbrev pub kept : SecondaryHistory → SecondaryHistory
-kept s = record s { connections = inward s ∷ [] }
+kept s = record s { connections = secondary_connection s ∷ [] }

@@ -8,9 +8,9 @@ ghost use Rattle.model.specs.Secondary.{SecondaryHistory, secondary_map};
 ghost use Rattle.model.specs.Settlement.{unmarked_differences};
 ghost use Rattle.settle.specs.Reads.{is_there};
 ghost use Rattle.primary.specs.State.{node as primary_node};
-ghost use Rattle.primary_steps.specs.Node.{NodeHas as PrimaryHas};
+ghost use Rattle.primary_protocol.specs.Node.{NodeHas as PrimaryHas};
 ghost use Rattle.secondary.specs.State.{node as secondary_node};
-ghost use Rattle.secondary_steps.specs.Node.{NodeHas as SecondaryHas};
+ghost use Rattle.secondary_protocol.specs.Node.{NodeHas as SecondaryHas};
 
 use blocks::{BLOCK_BYTES, Block, Refusal, Store};
 use link::{FrameIn, FrameOut};

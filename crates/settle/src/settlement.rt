@@ -3,13 +3,13 @@ ghost use Rattle.std.specs.Prelude.{◌≡◌, ◌⊎◌, ◌<◌, ◌≤◌, le
 ghost use Rattle.blocks.specs.declared.refusal.Refusal.TheVariants.{ReadFault};
 ghost use Rattle.model.specs.Headline.{IsJoined};
 ghost use Rattle.model.specs.Primary.{PrimaryHistory};
-ghost use Rattle.model.specs.Secondary.{SecondaryHistory, inward_at, items_taken};
+ghost use Rattle.model.specs.Secondary.{SecondaryHistory, secondary_connection_at, items_taken};
 ghost use Rattle.model.specs.Settlement.{applied_items, is_at_rest, settle};
 ghost use Rattle.model.specs.Theorems.{Settles, SettlesAnyhow};
 ghost use Rattle.primary.specs.State.{node as primary_node};
-ghost use Rattle.primary_steps.specs.Node.{NodeHas as PrimaryHas};
+ghost use Rattle.primary_protocol.specs.Node.{NodeHas as PrimaryHas};
 ghost use Rattle.secondary.specs.State.{node as secondary_node};
-ghost use Rattle.secondary_steps.specs.Node.{NodeHas as SecondaryHas};
+ghost use Rattle.secondary_protocol.specs.Node.{NodeHas as SecondaryHas};
 ghost use Rattle.settle.specs.Settled.{WereHonest, is_read_fault, kept, numbers, settled};
 
 use crate::compare::unmarked;
@@ -114,7 +114,7 @@ fn items_at<P: FrameOut + Drop, J: FrameIn + Drop, T: Store + Drop>(
     number: u32,
 ) -> (u32, u32)
     ensures { (s : SecondaryHistory) → SecondaryHas (secondary_node secondary.now) s
-        → (result.0 ≡ length (items_taken (inward_at (kept s) number))) × (result.1 ≡ applied_items (inward_at (kept s) number)) }
+        → (result.0 ≡ length (items_taken (secondary_connection_at (kept s) number))) × (result.1 ≡ applied_items (secondary_connection_at (kept s) number)) }
 {
     if secondary.number() != number {
         return (0, 0);

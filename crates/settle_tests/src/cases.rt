@@ -1,4 +1,4 @@
-//! What is done to two nodes before they settle.
+//! Cases: the steps of two nodes before they settle.
 
 use crate::nodes::{Local, Peer, close, connect, open_alone, submit, write};
 use blocks::Refusal;
@@ -19,7 +19,7 @@ pub(super) enum Case {
     Write(u64),
     /// Four writes, one after the other.
     Writes,
-    /// Two writes, of which the link is lost when one of them is taken.
+    /// Two writes; the link is lost once the peer has taken one of them.
     Unfinished,
     /// A write on each of two connections.
     Connections,
@@ -81,7 +81,7 @@ fn writes<R: Wait + Drop>(
     is_twice(rt, local, peer, receipts, wanted);
 }
 
-/// Two writes are sent, of which the peer takes one.
+/// Two writes are sent; the peer takes one of them.
 fn takes_one<R: Wait + Drop>(
     rt: &impl Abort,
     alloc: Global,

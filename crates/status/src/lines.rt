@@ -6,7 +6,7 @@ ghost use Rattle.model.specs.Pair.{PairHistory};
 ghost use Rattle.model.specs.Status.{primary_line, secondary_line};
 ghost use Rattle.node_lines.specs.Text.{primary_text, secondary_text};
 ghost use Rattle.pair.specs.State.{state};
-ghost use Rattle.pair_steps.specs.State.{PairHas};
+ghost use Rattle.pair_protocol.specs.State.{PairHas};
 
 use blocks::Refusal;
 use node_lines::{primary_line, secondary_line};

@@ -1,4 +1,4 @@
-//! What a server tells of its nodes.
+//! The report of a server on its nodes.
 use std::alloc::{AllocError, Global};
 
 /// A resync that goes on.

@@ -1,4 +1,4 @@
-//! What the local disk did with a write.
+//! The local outcome of a write.
 
 /// What the local disk did with a write.
 #[derive(Clone, Copy, Debug, PartialEq, Eq)]

@@ -1,4 +1,4 @@
-//! What the replication protocols ask of the peer (DRBD User's Guide, "Replication modes").
+//! The acknowledgements that each replication protocol asks of the peer (DRBD User's Guide, "Replication modes").
 ghost use Rattle.std.specs.Prelude.{◌≡◌};
 ghost use Rattle.transferlog.specs.Log.{answers_sent, asks_answers, is_asked};
 

@@ -1,4 +1,4 @@
-//! What a call of the log reports.
+//! The report of a call of the log.
 ghost use Rattle.std.specs.Prelude.{◌≡◌, ◌<◌, ◌++◌, vec_len, vec_capacity, IsSome};
 ghost use Rattle.std.specs.Option.{option_to_list};
 

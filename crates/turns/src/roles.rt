@@ -1,4 +1,4 @@
-//! What the threads of a session are there for.
+//! The roles of a session's threads.
 
 /// What a thread of the primary's half is there for.
 #[derive(Clone, Copy, Debug, PartialEq, Eq)]

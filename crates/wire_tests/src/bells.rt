@@ -1,4 +1,4 @@
-//! What waits on a bell, and rings it, in two threads.
+//! A bell between two threads, one that waits and one that rings.
 use bell::Bell;
 use std::process::Abort;
 use std::sync::Wait;

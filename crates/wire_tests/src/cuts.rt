@@ -16,7 +16,7 @@ use std::time::Clock;
 /// The bytes of a hello (12, 16 and 40), of a write of one block (4,128) and of a barrier (16).
 const ALL_BYTES: usize = 4_212;
 
-/// The frames that are whole within so many bytes.
+/// How many frames are whole within the first `count` bytes.
 fn whole_frames(count: usize) -> u32 {
     match count {
         0..12 => 0,
@@ -44,7 +44,7 @@ fn taken<R: Wait + Clock + Drop, D: Read>(
     (end, take_frames(peer))
 }
 
-/// A secondary that gets what a reader gives takes so many frames, and there is no more.
+/// A secondary that gets what a reader gives takes the wanted number of frames, and then finds nothing.
 fn takes<R: Wait + Clock + Copy + Drop + Abort, D: Read>(
     rt: R,
     alloc: Global,
@@ -63,7 +63,7 @@ fn is(rt: &impl Abort, found: Taken, wanted: Taken) {
     assert_eq!(rt; found, wanted);
 }
 
-/// What a writer gets of these bytes that fails after so many.
+/// The bytes that a writer gets which fails after `left` of them.
 fn written<R: Wait + Clock>(
     rt: &R,
     alloc: Global,
@@ -84,7 +84,7 @@ fn written<R: Wait + Clock>(
     writer.got
 }
 
-/// What arrives of these bytes over a connection that is lost after so many.
+/// The bytes that arrive over a connection which is lost after `left` of them.
 fn arrived<R: Wait + Clock + Copy + Drop + Abort>(
     rt: R,
     alloc: Global,

@@ -1,4 +1,4 @@
-//! What is sent over a link, and sending and receiving it.
+//! Frames that go over a measured link.
 ghost use Rattle.std.specs.Prelude.{◌≡◌, None, IfOk};
 ghost use Rattle.packets.specs.Cutting.{IsCut};
 ghost use Rattle.packets.specs.Spelling.{IsSpellable};

@@ -1,4 +1,4 @@
-//! What is measured.
+//! Measurements of a link.
 ghost use Rattle.std.specs.Prelude.{◌≡◌, None};
 
 use crate::links::frames::{Sample, receive, send};

@@ -1,4 +1,4 @@
-//! What is measured of a session.
+//! Measurements of a session.
 use blocks::BLOCK_BYTES;
 use std::time::{Duration, Instant};
 

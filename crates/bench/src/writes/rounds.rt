@@ -128,7 +128,7 @@ impl Rounds {
             self.step(Event::Send)?;
             self.step(Event::Receive)?;
         }
-        if self.pair.primary().stands() {
+        if self.pair.primary().is_established() {
             Ok(())
         } else {
             Err(Refusal::NotConnected)

@@ -1,4 +1,4 @@
-//! What is written, and where.
+//! The workload: the bytes and the blocks of writes.
 ghost use Rattle.std.specs.Prelude.{◌≡◌, ◌<◌, ◌≤◌, ◌+◌, ◌*◌, length, IfOk};
 
 use blocks::{BLOCK_BYTES, Refusal};

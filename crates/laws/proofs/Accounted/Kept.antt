@@ -8,13 +8,14 @@ use Rattle.std.proofs.lemmas.List.Folds.{list_any-append}
 use Rattle.blocks.specs.declared.settings.Settings.{Settings}
 use Rattle.blocks.specs.declared.tuple.Tuple.{Tuple}
 use Rattle.model.specs.Contents.{BlockMap, Write, covers}
-use Rattle.model.specs.Stream.{Item, WriteItem, ResyncItem, BarrierItem, SyncUuidItem, UuidsItem, last_epoch, within}
+use Rattle.model.specs.Stream.{StreamItem, WriteItem, ResyncItem, BarrierItem, SyncUuidItem, UuidsItem, last_epoch, within}
 use Rattle.model.specs.Frames.{Received, RecvAckFrame, WriteAckFrame, RsWriteAckFrame, BarrierAckFrame, Acknowledged, naming}
 use Rattle.model.specs.Identifiers.{are_fresh, sync_end}
 use Rattle.model.specs.Marks.{marking, clearing}
-use Rattle.model.specs.Primary.{OnDisk, Failed, Accepted, Outward, PrimaryHistory, primary_opening, no_outward, outward, last_index, change_last, with_outward}
-use Rattle.model.specs.Primary.{stands, in_resync, free_block, resync_runs, is_resync, was_resynced, local_map, is_rs_write_ack, under_way}
-use Rattle.model.specs.Primary.{same_naming, items_sent, new_outward}
+use Rattle.model.specs.Primary.{OnDisk, Failed, Accepted, PrimaryConnection, PrimaryHistory, primary_opening, no_primary_connection, primary_connection}
+use Rattle.model.specs.Primary.{last_index, change_last, with_primary_connection}
+use Rattle.model.specs.Primary.{is_established, in_resync, free_block, resync_runs, is_resync, was_resynced, local_map, is_rs_write_ack, under_way}
+use Rattle.model.specs.Primary.{same_naming, items_sent, new_primary_connection}
 use Rattle.model.specs.PrimarySteps.{known_tuples, with_completions, epoch_is_over, appending, resync_is_over, ending_resync, follows, opened, is_unfinished}
 use Rattle.model.specs.PrimarySteps.{with_outcome, faulted, accepted_at, faulted_by}
 use Rattle.laws.proofs.Rules.FreeBlocks.{free-found}
@@ -40,14 +41,14 @@ use Rattle.laws.proofs.Accounted.Steps.{open-plain, begun-at, accounted-appendin
 use Rattle.laws.proofs.Primary.Writes.{KeepsWrites, keeps-writes, keeps-outcome}
 use Rattle.laws.proofs.Lists.Elements.{get-left, get-more}
 use Rattle.laws.proofs.Blocks.Ranges.{touches-nothing}
-use Rattle.laws.proofs.Primary.Ends.{stands-parts, accepted-all}
+use Rattle.laws.proofs.Primary.Ends.{established-parts, accepted-all}
 use Rattle.laws.proofs.Primary.HomesFollowing.{runs-begun}
 use Rattle.std.proofs.lemmas.Option.{slice_get_past}
 
 -- A new connection has an empty stream.
 carries-open : (h : PrimaryHistory) (sync loss : ℕ) → Carries h (opened h sync loss)
 carries-open h sync loss =
-    let new : Outward = new_outward sync loss h.tuple in
+    let new : PrimaryConnection = new_primary_connection sync loss h.tuple in
     record {
       grow = λ k c at. (c, get-left h.connections (new ∷ []) k c at, grows-self c);
       former =
@@ -61,62 +62,66 @@ carries-open h sync loss =
 
 pub keeps-open : (h : PrimaryHistory) (sync loss : ℕ) → KeepsBegun h (opened h sync loss)
 keeps-open h sync loss =
-    let new : Outward = new_outward sync loss h.tuple in
+    let new : PrimaryConnection = new_primary_connection sync loss h.tuple in
     record {
       forward = λ k c at begun. (c, get-left h.connections (new ∷ []) k c at, begun, begins-self c.taken);
-      back = λ k d at. elim (get-more h.connections new k d at) [ inl old ↦ inl (d, old, refl) | inr added ↦ inr (ap (λ (x : Outward). x.begun) added.1) ];
+      back = λ k d at. elim (get-more h.connections new k d at)
+          [ inl old ↦ inl (d, old, refl) | inr added ↦ inr (ap (λ (x : PrimaryConnection). x.begun) added.1) ];
     }
 
 same-some : {X : Type 0} {x y : X} → Some x ≡ Some y → x ≡ y
 same-some {X} {x} {y} e = cc
 
 -- An acknowledgement of a resync names a block that is under way.
-pub named-item : (h : PrimaryHistory) (ack : Acknowledged) → (outward h).closed ≡ false → (outward h).begun ≡ true → MayAcknowledge h is_resync was_resynced ack
-    → (contents : List ℕ) × IsUnderWay (outward h) ack.place ack.first contents × (same_naming (naming ack.place (ResyncItem ack.first contents)) ack ≡ true)
-named-item h ack standing begun may = go (slice_get (outward h).stream ack.place) refl may.names may.first
+pub named-item : (h : PrimaryHistory) (ack : Acknowledged) → (primary_connection h).closed ≡ false → (primary_connection h).begun ≡ true
+    → MayAcknowledge h is_resync was_resynced ack
+    → (contents : List ℕ) × IsUnderWay (primary_connection h) ack.place ack.first contents
+    × (same_naming (naming ack.place (ResyncItem ack.first contents)) ack ≡ true)
+named-item h ack standing begun may = go (slice_get (primary_connection h).stream ack.place) refl may.names may.first
   where
-    stood : stands (outward h) ≡ true
-    stood = and_from (not (outward h).closed) (outward h).begun (subst (λ b. not b ≡ true) (sym standing) refl) begun
+    stood : is_established (primary_connection h) ≡ true
+    stood = and_from (not (primary_connection h).closed) (primary_connection h).begun (subst (λ b. not b ≡ true) (sym standing) refl) begun
 
-    one : (item : Item) → slice_get (outward h).stream ack.place ≡ Some item
-        → ((is_resync item && same_naming (naming ack.place item) ack) && nat_lt ack.place (items_sent (outward h))) ≡ true
-        → was_resynced (outward h) ack.place item ≡ false
-        → (contents : List ℕ) × IsUnderWay (outward h) ack.place ack.first contents
+    one : (item : StreamItem) → slice_get (primary_connection h).stream ack.place ≡ Some item
+        → ((is_resync item && same_naming (naming ack.place item) ack) && nat_lt ack.place (items_sent (primary_connection h))) ≡ true
+        → was_resynced (primary_connection h) ack.place item ≡ false
+        → (contents : List ℕ) × IsUnderWay (primary_connection h) ack.place ack.first contents
         × (same_naming (naming ack.place (ResyncItem ack.first contents)) ack ≡ true)
     one (WriteItem write) is names first = absurd (cc)
     one (BarrierItem epoch) is names first = absurd (cc)
     one (SyncUuidItem word) is names first = absurd (cc)
     one (UuidsItem tuple) is names first = absurd (cc)
     one (ResyncItem block contents) is names first =
-        let both = (and_parts (same_naming (naming ack.place (ResyncItem block contents)) ack) (nat_lt ack.place (items_sent (outward h))) names).0 in
+        let both = (and_parts (same_naming (naming ack.place (ResyncItem block contents)) ack) (nat_lt ack.place (items_sent (primary_connection h)))
+        names).0 in
         let firsts = (and_parts ((block == ack.first) && (0 == ack.number)) ((1 == ack.count) && (ack.place == ack.place)) both).0 in
         let same : block ≡ ack.first = eqb-true block ack.first (and_parts (block == ack.first) (0 == ack.number) firsts).0 in (
           contents,
-          subst (λ (b : ℕ). IsUnderWay (outward h) ack.place b contents) same (record { standing = stood; there = is; unanswered = first }),
+          subst (λ (b : ℕ). IsUnderWay (primary_connection h) ack.place b contents) same (record { standing = stood; there = is; unanswered = first }),
           subst (λ (b : ℕ). same_naming (naming ack.place (ResyncItem b contents)) ack ≡ true) same both,
         )
 
-    go : (v : Option Item) → slice_get (outward h).stream ack.place ≡ v
+    go : (v : Option StreamItem) → slice_get (primary_connection h).stream ack.place ≡ v
         → elim v as (λ _. Bool) [
           | None ↦ false
           | Some item ↦ (is_resync item && same_naming (naming ack.place item) ack)
-              && nat_lt ack.place (items_sent (outward h))
+              && nat_lt ack.place (items_sent (primary_connection h))
         ] ≡ true
-        → elim v as (λ _. Bool) [ None ↦ false | Some item ↦ was_resynced (outward h) ack.place item ] ≡ false
-        → (contents : List ℕ) × IsUnderWay (outward h) ack.place ack.first contents
+        → elim v as (λ _. Bool) [ None ↦ false | Some item ↦ was_resynced (primary_connection h) ack.place item ] ≡ false
+        → (contents : List ℕ) × IsUnderWay (primary_connection h) ack.place ack.first contents
         × (same_naming (naming ack.place (ResyncItem ack.first contents)) ack ≡ true)
     go None is names first = absurd (cc)
     go (Some item) is names first = one item is names first
 
 -- once its frame is taken, the block is acknowledged
-pub resynced-now : (h : PrimaryHistory) (ack : Acknowledged) (contents : List ℕ) → (outward h).refused ≡ false
+pub resynced-now : (h : PrimaryHistory) (ack : Acknowledged) (contents : List ℕ) → (primary_connection h).refused ≡ false
     → same_naming (naming ack.place (ResyncItem ack.first contents)) ack ≡ true
-    → was_resynced (with_frame (Ok (RsWriteAckFrame ack)) (outward h)) ack.place (ResyncItem ack.first contents) ≡ true
+    → was_resynced (with_frame (Ok (RsWriteAckFrame ack)) (primary_connection h)) ack.place (ResyncItem ack.first contents) ≡ true
 resynced-now h ack contents plain same =
     let test = is_rs_write_ack (naming ack.place (ResyncItem ack.first contents)) in
-    ap (list_any test) (accepted-all (with_frame (Ok (RsWriteAckFrame ack)) (outward h)) plain)
-    ∙ (list_any-append test (outward h).taken (Ok (RsWriteAckFrame ack) ∷ [])
-    ∙ or_right (list_any test (outward h).taken) (same_naming (naming ack.place (ResyncItem ack.first contents)) ack || false)
+    ap (list_any test) (accepted-all (with_frame (Ok (RsWriteAckFrame ack)) (primary_connection h)) plain)
+    ∙ (list_any-append test (primary_connection h).taken (Ok (RsWriteAckFrame ack) ∷ [])
+    ∙ or_right (list_any test (primary_connection h).taken) (same_naming (naming ack.place (ResyncItem ack.first contents)) ack || false)
     (or_left (same_naming (naming ack.place (ResyncItem ack.first contents)) ack) false same))
 
 -- What follows a step's effect.
@@ -124,10 +129,11 @@ account-completions : (h : PrimaryHistory) → IsAccounted h → IsAccounted (wi
 account-completions h accounted = accounted-still h (with_completions h) accounted (known-completions h accounted.known) refl
     (keeps-writes h.writes) refl refl refl (λ none. refl) (λ block unmarked. unmarked)
 
-account-parting : (g : PrimaryHistory) → epoch_is_over g ≡ true → IsAccounted g → IsAccounted (appending (BarrierItem (last_epoch (outward g).stream)) g)
-account-parting g over accounted = accounted-appending g (appending (BarrierItem (last_epoch (outward g).stream)) g)
-    (BarrierItem (last_epoch (outward g).stream)) (λ block unmarked. touches-nothing 0 block) accounted (known-parting g over accounted.known)
-    (stands-parts (outward g) (over-standing g over)).1 refl refl refl refl refl refl
+account-parting : (g : PrimaryHistory) → epoch_is_over g ≡ true → IsAccounted g
+    → IsAccounted (appending (BarrierItem (last_epoch (primary_connection g).stream)) g)
+account-parting g over accounted = accounted-appending g (appending (BarrierItem (last_epoch (primary_connection g).stream)) g)
+    (BarrierItem (last_epoch (primary_connection g).stream)) (λ block unmarked. touches-nothing 0 block) accounted (known-parting g over accounted.known)
+    (established-parts (primary_connection g) (over-standing g over)).1 refl refl refl refl refl refl
 
 account-ending : (g : PrimaryHistory) → resync_is_over g ≡ true → IsAccounted g → IsAccounted (ending_resync g)
 account-ending g over accounted =
@@ -138,7 +144,7 @@ account-following : (h : PrimaryHistory) → IsAccounted h → IsAccounted (foll
 account-following = following-from IsAccounted IsAccounted IsAccounted account-completions account-parting (λ g on a. a) account-ending (λ g a. a)
 
 -- Effects.
-account-opens : (h : PrimaryHistory) (sync loss : ℕ) → (outward h).closed ≡ true → are_fresh sync loss (known_tuples h) ≡ true → IsAccounted h
+account-opens : (h : PrimaryHistory) (sync loss : ℕ) → (primary_connection h).closed ≡ true → are_fresh sync loss (known_tuples h) ≡ true → IsAccounted h
     → IsAccounted (opened h sync loss)
 account-opens h sync loss closed fresh accounted = accounted-carries h (opened h sync loss) accounted
     (known-kept.opens h sync loss closed fresh accounted.known) (carries-open h sync loss) (keeps-writes h.writes).back (keeps-open h sync loss) refl refl refl
@@ -162,9 +168,10 @@ account-faults h number offsets waits accounted = go (accepted_at h number) (kno
         (keeps-outcome number (Failed (within (length failed.write.contents) offsets)) h.writes refl) refl refl refl (λ none. refl)
         (λ block unmarked. (unmarked-by failed.write h.marks block unmarked).0)
 
-account-change : (h later : PrimaryHistory) (f : Outward → Outward) → IsAccounted h → IsKnown later → later.connections ≡ change_last f h.connections
-    → KeepsEnd (outward h) (f (outward h))
-    → (f (outward h)).begun ≡ (outward h).begun → (f (outward h)).stream ≡ (outward h).stream
+account-change : (h later : PrimaryHistory) (f : PrimaryConnection → PrimaryConnection) → IsAccounted h → IsKnown later
+    → later.connections ≡ change_last f h.connections
+    → KeepsEnd (primary_connection h) (f (primary_connection h))
+    → (f (primary_connection h)).begun ≡ (primary_connection h).begun → (f (primary_connection h)).stream ≡ (primary_connection h).stream
     → later.writes ≡ h.writes → later.settings ≡ h.settings → later.opening_marks ≡ h.opening_marks → later.opening_tuple ≡ h.opening_tuple
     → later.tuple ≡ h.tuple → later.marks ≡ h.marks → IsAccounted later
 account-change h later f accounted known connections keeps begun stream writes settings opening_marks opening_tuple tuple marks =
@@ -172,13 +179,14 @@ account-change h later f accounted known connections keeps begun stream writes s
     opening_marks opening_tuple (λ none. tuple)
     (λ block unmarked. ap (λ (m : ℕ → Bool). m block) (sym marks) ∙ unmarked)
 
-account-frame : (h : PrimaryHistory) (frame : Received) → (outward h).closed ≡ false → IsKnown (with_outward (with_frame frame) h) → IsAccounted h
-    → IsAccounted (with_outward (with_frame frame) h)
+account-frame : (h : PrimaryHistory) (frame : Received) → (primary_connection h).closed ≡ false → IsKnown (with_primary_connection (with_frame frame) h)
+    → IsAccounted h
+    → IsAccounted (with_primary_connection (with_frame frame) h)
 account-frame h frame standing known accounted =
-    account-change h (with_outward (with_frame frame) h) (with_frame frame) accounted known refl
-    (keeps-taken (outward h) frame (open-plain h accounted.known.tracked.homes standing)) refl refl refl refl refl refl refl refl
+    account-change h (with_primary_connection (with_frame frame) h) (with_frame frame) accounted known refl
+    (keeps-taken (primary_connection h) frame (open-plain h accounted.known.tracked.homes standing)) refl refl refl refl refl refl refl refl
 
-account-resyncs : (h : PrimaryHistory) (block : ℕ) → resync_runs (outward h) ≡ true → nat_lt 0 (length (under_way (outward h))) ≡ false
+account-resyncs : (h : PrimaryHistory) (block : ℕ) → resync_runs (primary_connection h) ≡ true → nat_lt 0 (length (under_way (primary_connection h))) ≡ false
     → free_block h ≡ Some block → IsAccounted h
     → IsAccounted (appending (ResyncItem block (unwrap_or (local_map h block) [])) h)
 account-resyncs h block runs alone is accounted = accounted-appending h (appending (ResyncItem block (unwrap_or (local_map h block) [])) h)
@@ -192,18 +200,20 @@ account-resyncs h block runs alone is accounted = accounted-appending h (appendi
           let same : block ≡ other = omega arith in
           both_ways (h.marks other) unmarked (subst (λ (b : ℕ). h.marks b ≡ true) same (free-found h block is).marked))
     ]) accounted (known-kept.resyncs h block runs alone is accounted.known)
-    (stands-parts (outward h) (and_parts (stands (outward h)) (in_resync (outward h).stream) runs).0).1 refl refl refl refl refl refl
+    (established-parts (primary_connection h) (and_parts (is_established (primary_connection h)) (in_resync (primary_connection h).stream) runs).0).1 refl refl
+    refl refl refl refl
 
 -- A block of a resync is acknowledged: it was under way, so it is the last item there, and sure now.
-account-clears : (h : PrimaryHistory) (ack : Acknowledged) → (outward h).closed ≡ false → (outward h).begun ≡ true → MayAcknowledge h is_resync was_resynced ack
+account-clears : (h : PrimaryHistory) (ack : Acknowledged) → (primary_connection h).closed ≡ false → (primary_connection h).begun ≡ true
+    → MayAcknowledge h is_resync was_resynced ack
     → IsAccounted h
-    → IsAccounted (record (with_outward (with_frame (Ok (RsWriteAckFrame ack))) h) { marks = clearing ack.first h.marks })
+    → IsAccounted (record (with_primary_connection (with_frame (Ok (RsWriteAckFrame ack))) h) { marks = clearing ack.first h.marks })
 account-clears h ack standing begun may accounted =
-    let later : PrimaryHistory = record (with_outward (with_frame (Ok (RsWriteAckFrame ack))) h) { marks = clearing ack.first h.marks } in
+    let later : PrimaryHistory = record (with_primary_connection (with_frame (Ok (RsWriteAckFrame ack))) h) { marks = clearing ack.first h.marks } in
     let known : IsKnown later = known-kept.clears h ack standing begun may accounted.known in
-    let keeps = keeps-taken (outward h) (Ok (RsWriteAckFrame ack)) (open-plain h accounted.known.tracked.homes standing) in
+    let keeps = keeps-taken (primary_connection h) (Ok (RsWriteAckFrame ack)) (open-plain h accounted.known.tracked.homes standing) in
     let carries : Carries h later = carries-change h later (with_frame (Ok (RsWriteAckFrame ack))) refl (keeps-writes h.writes).forward keeps in
-    let last : (block : ℕ) → latest later.connections block ≡ latest h.connections block = λ block. latest-same-last (no_outward h.tuple)
+    let last : (block : ℕ) → latest later.connections block ≡ latest h.connections block = λ block. latest-same-last (no_primary_connection h.tuple)
     (with_frame (Ok (RsWriteAckFrame ack))) h.connections block refl in
     let named = named-item h ack standing begun may in
     let way = accounted.known.tracked.under_way ack.place ack.first named.0 named.1 in
@@ -241,21 +251,23 @@ account-clears h ack standing begun may accounted =
           elim (elsewhere block unmarked) [
             | inl clean ↦ settled-carries h later block touch accounted carries (latest-at h.connections block touch was) clean was is
             | inr same ↦ inl (
-                let at : slice_get later.connections (last_index h.connections) ≡ Some (with_frame (Ok (RsWriteAckFrame ack)) (outward h)) =
-                get-last-changed (with_frame (Ok (RsWriteAckFrame ack))) (no_outward h.tuple) h.connections (outward h) (open-at h standing) refl in
+                let at : slice_get later.connections (last_index h.connections) ≡ Some (with_frame (Ok (RsWriteAckFrame ack)) (primary_connection h)) =
+                get-last-changed (with_frame (Ok (RsWriteAckFrame ack))) (no_primary_connection h.tuple) h.connections (primary_connection h)
+                (open-at h standing) refl in
                 let one : touch ≡ record { connection = last_index h.connections; place = ack.place; item = ResyncItem ack.first named.0 } = same-some (sym was
                 ∙ subst (λ (n : ℕ). latest h.connections n ≡ Some
                 (record { connection = last_index h.connections; place = ack.place; item = ResyncItem ack.first named.0 })) (sym same) way) in
-                let sure : is_sure (with_frame (Ok (RsWriteAckFrame ack)) (outward h)) touch.place touch.item ≡ true =
-                subst (λ (t : Touch). is_sure (with_frame (Ok (RsWriteAckFrame ack)) (outward h)) t.place t.item ≡ true) (sym one)
+                let sure : is_sure (with_frame (Ok (RsWriteAckFrame ack)) (primary_connection h)) touch.place touch.item ≡ true =
+                subst (λ (t : Touch). is_sure (with_frame (Ok (RsWriteAckFrame ack)) (primary_connection h)) t.place t.item ≡ true) (sym one)
                 (resynced-now h ack named.0 (open-plain h accounted.known.tracked.homes standing) named.2) in
-                sure-last later.connections block touch (with_frame (Ok (RsWriteAckFrame ack)) (outward h)) is
-                (subst (λ (t : Touch). slice_get later.connections t.connection ≡ Some (with_frame (Ok (RsWriteAckFrame ack)) (outward h))) (sym one) at)
+                sure-last later.connections block touch (with_frame (Ok (RsWriteAckFrame ack)) (primary_connection h)) is
+                (subst (λ (t : Touch). slice_get later.connections t.connection ≡ Some (with_frame (Ok (RsWriteAckFrame ack)) (primary_connection h)))
+                (sym one) at)
                 sure)
           ];
       untouched = λ block inside unmarked none. accounted.untouched block inside (free block unmarked (sym (last block) ∙ none)) (sym (last block) ∙ none);
       began = elim accounted.began [
-        | inl none ↦ absurd (both_ways (outward h).begun (none.none (length h.connections - 1) (outward h) (begun-at h begun)) begun)
+        | inl none ↦ absurd (both_ways (primary_connection h).begun (none.none (length h.connections - 1) (primary_connection h) (begun-at h begun)) begun)
         | inr first ↦ inr (
           first.0,
           first-carries h later first.0 (begun-change h later (with_frame (Ok (RsWriteAckFrame ack))) refl refl keeps.taken) refl first.1,
@@ -272,8 +284,8 @@ accounted-kept = record {
   submits = λ h first contents may a. account-submits h first contents a (known-kept.submits h first contents may a.known);
   writes = account-writes;
   faults = account-faults;
-  sends = λ h standing due a. account-change h (with_outward pushing h) pushing a (known-kept.sends h standing due a.known) refl
-      (keeps-pushed (outward h)) refl refl refl refl refl refl refl refl;
+  sends = λ h standing due a. account-change h (with_primary_connection pushing h) pushing a (known-kept.sends h standing due a.known) refl
+      (keeps-pushed (primary_connection h)) refl refl refl refl refl refl refl refl;
   greets = λ h frame standing new met a. account-frame h frame standing (known-kept.greets h frame standing new met a.known) a;
   begins = λ h peer decided standing new late is fresh a. account-begins h peer decided standing new is a
       (known-kept.begins h peer decided standing new late is fresh a.known);

@@ -6,9 +6,9 @@ use Rattle.blocks.specs.Positions.{StreamPosition}
 use Rattle.blocks.specs.declared.tuple.Tuple.{Tuple}
 use Rattle.blocks.specs.declared.outcome.Decision.{Decision}
 use Rattle.model.specs.Contents.{Write, covers}
-use Rattle.model.specs.Stream.{Item, WriteItem}
+use Rattle.model.specs.Stream.{StreamItem, WriteItem}
 use Rattle.model.specs.Frames.{Received, UuidsFrame}
-use Rattle.model.specs.Primary.{Accepted, Outward, PrimaryHistory, is_waiting, is_alone, is_released}
+use Rattle.model.specs.Primary.{Accepted, PrimaryConnection, PrimaryHistory, is_waiting, is_alone, is_released}
 use Rattle.model.specs.Identifiers.{decision}
 use Rattle.laws.specs.Reflections.{touches, is_sure, NoneBegan, FirstBegan}
 use Rattle.laws.proofs.Primary.Homes.{alone-homeless, HasHomes, AllGrow, alone-at, confirmed-at}
@@ -19,8 +19,9 @@ use Rattle.laws.proofs.Lists.Elements.{get-left, get-split, same-at}
 use Rattle.laws.proofs.Rules.Releases.{freed-cases, freed-alone, released-parts, released-by}
 
 -- Where the last item on a block stands.
-abbrev pub IsThere : List Outward → ℕ → Touch → Type 0
-IsThere connections block touch = (c : Outward) × (slice_get connections touch.connection ≡ Some c) × (slice_get c.stream touch.place ≡ Some touch.item)
+abbrev pub IsThere : List PrimaryConnection → ℕ → Touch → Type 0
+IsThere connections block touch = (c : PrimaryConnection) × (slice_get connections touch.connection ≡ Some c)
+    × (slice_get c.stream touch.place ≡ Some touch.item)
     × (touches touch.item block ≡ true)
 
 -- what is sure stays so where connections grow
@@ -32,17 +33,18 @@ sure-carries h later block touch grow there last sure =
     let more : sure.end.stream ++ new.2.stream.0 ≡ new.0.stream = new.2.stream.1 in
     let end : there.0 ≡ sure.end = same-at h.connections touch.connection there.0 sure.end there.1 sure.at in
     let within = slice_get_within sure.end.stream touch.place touch.item
-    (subst (λ (c : Outward). slice_get c.stream touch.place ≡ Some touch.item) end there.2) in
+    (subst (λ (c : PrimaryConnection). slice_get c.stream touch.place ≡ Some touch.item) end there.2) in
     record {
       place = sure.place;
       end = new.0;
       item = sure.item;
       at = new.1;
-      there = subst (λ (l : List Item). slice_get l sure.place ≡ Some sure.item) more (get-left sure.end.stream new.2.stream.0 sure.place sure.item sure.there);
+      there = subst (λ (l : List StreamItem). slice_get l sure.place ≡ Some sure.item) more
+          (get-left sure.end.stream new.2.stream.0 sure.place sure.item sure.there);
       touched = sure.touched;
       sure = sure-grows sure.end new.0 sure.place sure.item new.2 sure.there sure.sure;
       same = λ next i behind found touched. elim
-          (get-split sure.end.stream new.2.stream.0 next i (subst (λ (l : List Item). slice_get l next ≡ Some i) (sym more) found)) [
+          (get-split sure.end.stream new.2.stream.0 next i (subst (λ (l : List StreamItem). slice_get l next ≡ Some i) (sym more) found)) [
             | inl old ↦ sure.same next i behind old touched
             | inr added ↦ absurd (elim (latest-last later.connections block touch last touch.connection next new.0 i new.1 found touched) [
               | inl before ↦ omega arith
@@ -64,7 +66,7 @@ alone-before h later i a b homes carries at same alone = go a.home refl
         let closed : new.0.closed ≡ true = sym (alone-at later b home new.0 (same ∙ is) new.1) ∙ alone in
         alone-at h a home was.0 is was.1 ∙ elim (carries.former home.index new.0 new.1) [
           | inl old ↦ let c : old.0 ≡ was.0 = same-at h.connections home.index old.0 was.0 old.1 was.1 in
-              subst (λ (x : Outward). x.closed ≡ true) c (old.2 closed)
+              subst (λ (x : PrimaryConnection). x.closed ≡ true) c (old.2 closed)
           | inr none ↦ absurd (let some = was.1 in cc (none, some))
         ]
 
@@ -86,10 +88,10 @@ held-carries h later block touch homes carries there last held free =
                 let was = homes.housed held.0 touch.connection touch.place a held.2 held.3 in
                 let same : there.0 ≡ was.0 = same-at h.connections touch.connection there.0 was.0 there.1 was.1 in
                 let item : WriteItem a.write ≡ touch.item = same-at was.0.stream touch.place (WriteItem a.write) touch.item was.2
-                (subst (λ (c : Outward). slice_get c.stream touch.place ≡ Some touch.item) same there.2) in
+                (subst (λ (c : PrimaryConnection). slice_get c.stream touch.place ≡ Some touch.item) same there.2) in
                 let grown = carries.grow touch.connection was.0 was.1 in
                 inl (sure-last later.connections block touch grown.0 last grown.1
-                (subst (λ (x : Item). is_sure grown.0 touch.place x ≡ true) item
+                (subst (λ (x : StreamItem). is_sure grown.0 touch.place x ≡ true) item
                 (sym (confirmed-at later b (record { index = touch.connection; place = touch.place }) grown.0 home grown.1) ∙ confirmed)))
             | inr alone ↦ absurd (
                 let before = alone-before h later held.0 a b homes carries held.2 new.3 alone in
@@ -115,8 +117,9 @@ settled-carries h later block touch accounted carries there unmarked last still 
           let was = homes.housed held.0 touch.connection touch.place a held.2 held.3 in
           let same : there.0 ≡ was.0 = same-at h.connections touch.connection there.0 was.0 there.1 was.1 in
           let item : touch.item ≡ WriteItem a.write = same-at was.0.stream touch.place touch.item (WriteItem a.write)
-          (subst (λ (c : Outward). slice_get c.stream touch.place ≡ Some touch.item) same there.2) was.2 in
-          both_ways (h.marks block) unmarked (accounted.waiting held.0 block a held.2 alone waits (subst (λ (x : Item). touches x block ≡ true) item there.3)))
+          (subst (λ (c : PrimaryConnection). slice_get c.stream touch.place ≡ Some touch.item) same there.2) was.2 in
+          both_ways (h.marks block) unmarked
+          (accounted.waiting held.0 block a held.2 alone waits (subst (λ (x : StreamItem). touches x block ≡ true) item there.3)))
     ]
 
 -- Writes that come from writes: none waits that did not.

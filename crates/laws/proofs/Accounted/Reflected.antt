@@ -3,8 +3,8 @@ use Rattle.std.proofs.Common.{ℕ, ◌≡◌, ◌<◌, ◌⊎◌, inl, inr, true
 use Rattle.std.specs.List.{list_any}
 use Rattle.std.proofs.lemmas.Bool.{cases_Bool, both_ways, or_parts, or_cases, and_from, not-true, lt-ltb, cases_lt, le-ltb}
 use Rattle.model.specs.Contents.{covers}
-use Rattle.model.specs.Stream.{Item, WriteItem}
-use Rattle.model.specs.Primary.{Accepted, Outward, PrimaryHistory, is_waiting, is_released, unreleased, local_map, outward, stands}
+use Rattle.model.specs.Stream.{StreamItem, WriteItem}
+use Rattle.model.specs.Primary.{Accepted, PrimaryConnection, PrimaryHistory, is_waiting, is_released, unreleased, local_map, primary_connection, is_established}
 use Rattle.model.specs.Headline.{is_marked, is_covered}
 use Rattle.laws.specs.Reflections.{touches, content_at, FromItem, FromOpening}
 use Rattle.laws.proofs.Blocks.Latest.{Touch, latest, sent_map, content_of}
@@ -62,8 +62,8 @@ reflected h block a clean = elim (cases_lt block h.settings.blocks) [
               let home = a.known.tracked.homes.housed held.0 touch.connection touch.place accepted held.2 held.3 in
               let end : there.0 ≡ home.0 = same-at h.connections touch.connection there.0 home.0 there.1 home.1 in
               let item : touch.item ≡ WriteItem accepted.write = same-at home.0.stream touch.place touch.item (WriteItem accepted.write)
-              (subst (λ (c : Outward). slice_get c.stream touch.place ≡ Some touch.item) end there.2) home.2 in
-              both_ways (covers accepted.write block) (free held.0 accepted held.2 held.4) (subst (λ (x : Item). touches x block ≡ true) item there.3))
+              (subst (λ (c : PrimaryConnection). slice_get c.stream touch.place ≡ Some touch.item) end there.2) home.2 in
+              both_ways (covers accepted.write block) (free held.0 accepted held.2 held.4) (subst (λ (x : StreamItem). touches x block ≡ true) item there.3))
           | inl sure ↦
               let last : content_at touch.item block ≡ local_map h block = sym (ap (content_of (h.opening_map block) block) is) ∙ same in
               inl (record {
@@ -76,20 +76,20 @@ reflected h block a clean = elim (cases_lt block h.settings.blocks) [
                 touched = sure.touched;
                 sure = sure.sure;
                 content = sure.same sure.place sure.item (omega arith) sure.there sure.touched ∙ last;
-                later = λ other next c i at stands touched after. elim after [
-                  | inl beyond_it ↦ absurd (elim (latest-last h.connections block touch is other next c i at stands touched)
+                later = λ other next c i at is_established touched after. elim after [
+                  | inl beyond_it ↦ absurd (elim (latest-last h.connections block touch is other next c i at is_established touched)
                       [ inl before ↦ omega arith | inr here ↦ let e = here.0 in omega arith ])
                   | inr behind ↦
                       let less = behind.1 in
                       let end : c ≡ sure.end = same-at h.connections touch.connection c sure.end
                       (subst (λ (n : ℕ). slice_get h.connections n ≡ Some c) (sym behind.0) at) sure.at in
-                      sure.same next i (omega arith) (subst (λ (x : Outward). slice_get x.stream next ≡ Some i) end stands) touched ∙ last
+                      sure.same next i (omega arith) (subst (λ (x : PrimaryConnection). slice_get x.stream next ≡ Some i) end is_established) touched ∙ last
                 ];
               })
         ]
 
 -- Where no stream stands, an unreleased write waits without a connection, so its blocks are marked.
-pub rest-marked : (h : PrimaryHistory) (block : ℕ) → IsAccounted h → IsLastOpen h → stands (outward h) ≡ false → is_covered h block ≡ true
+pub rest-marked : (h : PrimaryHistory) (block : ℕ) → IsAccounted h → IsLastOpen h → is_established (primary_connection h) ≡ false → is_covered h block ≡ true
     → is_marked h block ≡ true
 rest-marked h block a closed resting covered = elim (or_cases (is_marked h block) (list_any (λ (x : Accepted). covers x.write block) (unreleased h)) covered) [
   | inl marked ↦ marked

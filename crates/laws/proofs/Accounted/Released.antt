@@ -9,7 +9,7 @@ use Rattle.model.specs.Contents.{BlockMap, covers}
 use Rattle.model.specs.Stream.{WriteItem}
 use Rattle.model.specs.LocalRuns.{PrimaryEvent, primary_run}
 use Rattle.model.specs.Marks.{is_cleared, releasing}
-use Rattle.model.specs.Primary.{OnDisk, Accepted, PrimaryHistory, primary_opening, outward, last_index, is_waiting}
+use Rattle.model.specs.Primary.{OnDisk, Accepted, PrimaryHistory, primary_opening, primary_connection, last_index, is_waiting}
 use Rattle.model.specs.PrimarySteps.{with_outcome}
 use Rattle.laws.proofs.Rules.EpochEnds.{takes-writes}
 use Rattle.laws.specs.Reflections.{touches}
@@ -49,9 +49,9 @@ sure-cleared h block touch a order c is =
     let last = latest-since h block a.known.tracked order c touch is in
     record {
       place = c.place;
-      end = outward h;
+      end = primary_connection h;
       item = WriteItem c.accepted.write;
-      at = subst (λ (n : ℕ). slice_get h.connections n ≡ Some (outward h)) last.0 c.connected;
+      at = subst (λ (n : ℕ). slice_get h.connections n ≡ Some (primary_connection h)) last.0 c.connected;
       there = c.there;
       touched = c.covered;
       sure = c.confirmed;
@@ -83,7 +83,8 @@ account-release h later clears order known a = record {
       | inr cleared ↦ absurd (
           let c = clears block (not-false (is_cleared h later block) cleared) in
           both_ways (touches (WriteItem c.accepted.write) block)
-          (latest-none later.connections block none (last_index later.connections) c.place (outward later) (WriteItem c.accepted.write) c.connected c.there)
+          (latest-none later.connections block none (last_index later.connections) c.place (primary_connection later) (WriteItem c.accepted.write) c.connected
+          c.there)
           c.covered)
     ]
 

@@ -7,9 +7,10 @@ use Rattle.blocks.specs.declared.settings.Settings.{Settings}
 use Rattle.blocks.specs.declared.outcome.Decision.{Decision}
 use Rattle.blocks.specs.declared.outcome.Decision.TheVariants.{FullSync}
 use Rattle.model.specs.Contents.{covers}
-use Rattle.model.specs.Stream.{Item, IsBeginning}
+use Rattle.model.specs.Stream.{StreamItem, IsBeginning}
 use Rattle.model.specs.Frames.{Received}
-use Rattle.model.specs.Primary.{Accepted, Outward, PrimaryHistory, no_outward, last_of, last_index, outward, change_last, accepted_frames, is_waiting}
+use Rattle.model.specs.Primary.{Accepted, PrimaryConnection, PrimaryHistory, no_primary_connection, last_of, last_index, primary_connection, change_last}
+use Rattle.model.specs.Primary.{accepted_frames, is_waiting}
 use Rattle.laws.specs.Reflections.{touches, NoneBegan, FirstBegan}
 use Rattle.laws.proofs.Lists.Beginnings.{begins-self}
 use Rattle.laws.proofs.Lists.Last.{get-change, get-change-back, change-none, last-at}
@@ -25,7 +26,7 @@ use Rattle.laws.proofs.Primary.Ends.{not-refused, frames-taking}
 use Rattle.laws.proofs.Primary.Writes.{KeepsWrites, keeps-writes}
 
 -- What a move has to keep of the connection that it changes.
-pub record KeepsEnd (c d : Outward) : Type 0 where
+pub record KeepsEnd (c d : PrimaryConnection) : Type 0 where
   pub grows : Grows c d
   pub closed : d.closed ≡ true → c.closed ≡ true
   pub taken : IsBeginning c.taken d.taken
@@ -36,51 +37,55 @@ StayThere ws vs = (i : ℕ) (a : Accepted) → slice_get ws i ≡ Some a
     → (b : Accepted) × (slice_get vs i ≡ Some b) × (b.write ≡ a.write) × (b.home ≡ a.home) × (is_waiting a.outcome ≡ false → is_waiting b.outcome ≡ false)
 
 -- a change of the last connection
-pub grows-change : (h later : PrimaryHistory) (f : Outward → Outward) → later.connections ≡ change_last f h.connections → Grows (outward h) (f (outward h))
+pub grows-change : (h later : PrimaryHistory) (f : PrimaryConnection → PrimaryConnection) → later.connections ≡ change_last f h.connections
+    → Grows (primary_connection h) (f (primary_connection h))
     → AllGrow h.connections later.connections
 grows-change h later f connections grows = subst (AllGrow h.connections) (sym connections)
-    (λ k c at. elim (get-change f (no_outward h.tuple) h.connections k c at) [
+    (λ k c at. elim (get-change f (no_primary_connection h.tuple) h.connections k c at) [
       | inl same ↦ (c, same, grows-self c)
-      | inr changed ↦ (f c, changed.0, subst (λ (x : Outward). Grows x (f x)) (sym changed.1) grows)
+      | inr changed ↦ (f c, changed.0, subst (λ (x : PrimaryConnection). Grows x (f x)) (sym changed.1) grows)
     ])
 
 -- a change of the last connection that keeps its end carries what accounts for a block
-pub carries-change : (h later : PrimaryHistory) (f : Outward → Outward) → later.connections ≡ change_last f h.connections → StayThere h.writes later.writes
-    → KeepsEnd (outward h) (f (outward h)) → Carries h later
+pub carries-change : (h later : PrimaryHistory) (f : PrimaryConnection → PrimaryConnection) → later.connections ≡ change_last f h.connections
+    → StayThere h.writes later.writes
+    → KeepsEnd (primary_connection h) (f (primary_connection h)) → Carries h later
 carries-change h later f connections writes keeps = record {
   grow = grows-change h later f connections keeps.grows;
-  former = λ k d at. elim (get-change-back f (no_outward h.tuple) h.connections k d (subst (λ (l : List Outward). slice_get l k ≡ Some d) connections at)) [
-    | inl same ↦ inl (d, same, λ c. c, begins-self d.taken)
-    | inr changed ↦ inl (
-      outward h,
-      changed.1,
-      λ closed. keeps.closed (subst (λ (x : Outward). x.closed ≡ true) changed.0 closed),
-      subst (λ (x : Outward). IsBeginning (outward h).taken x.taken) (sym changed.0) keeps.taken,
-    )
-  ];
+  former = λ k d at. elim (get-change-back f (no_primary_connection h.tuple) h.connections k d
+      (subst (λ (l : List PrimaryConnection). slice_get l k ≡ Some d) connections at)) [
+        | inl same ↦ inl (d, same, λ c. c, begins-self d.taken)
+        | inr changed ↦ inl (
+          primary_connection h,
+          changed.1,
+          λ closed. keeps.closed (subst (λ (x : PrimaryConnection). x.closed ≡ true) changed.0 closed),
+          subst (λ (x : PrimaryConnection). IsBeginning (primary_connection h).taken x.taken) (sym changed.0) keeps.taken,
+        )
+      ];
   writes = writes;
 }
 
 -- a change of the last connection that begins nothing
-pub begun-change : (h later : PrimaryHistory) (f : Outward → Outward) → later.connections ≡ change_last f h.connections
-    → (f (outward h)).begun ≡ (outward h).begun
-    → IsBeginning (outward h).taken (f (outward h)).taken → KeepsBegun h later
+pub begun-change : (h later : PrimaryHistory) (f : PrimaryConnection → PrimaryConnection) → later.connections ≡ change_last f h.connections
+    → (f (primary_connection h)).begun ≡ (primary_connection h).begun
+    → IsBeginning (primary_connection h).taken (f (primary_connection h)).taken → KeepsBegun h later
 begun-change h later f connections begun taken =
-    let none : Outward = no_outward h.tuple in
+    let none : PrimaryConnection = no_primary_connection h.tuple in
     record {
-      forward = λ k c at was. subst (λ (l : List Outward). (d : Outward) × (slice_get l k ≡ Some d) × (d.begun ≡ true) × IsBeginning c.taken d.taken)
+      forward = λ k c at was. subst (λ (l : List PrimaryConnection). (d : PrimaryConnection) × (slice_get l k ≡ Some d) × (d.begun ≡ true)
+          × IsBeginning c.taken d.taken)
           (sym connections) (elim (get-change f none h.connections k c at) [
             | inl same ↦ (c, same, was, begins-self c.taken)
             | inr changed ↦ (
               f c,
               changed.0,
-              subst (λ (x : Outward). (f x).begun ≡ x.begun) (sym changed.1) begun ∙ was,
-              subst (λ (x : Outward). IsBeginning x.taken (f x).taken) (sym changed.1) taken,
+              subst (λ (x : PrimaryConnection). (f x).begun ≡ x.begun) (sym changed.1) begun ∙ was,
+              subst (λ (x : PrimaryConnection). IsBeginning x.taken (f x).taken) (sym changed.1) taken,
             )
           ]);
-      back = λ k d at. elim (get-change-back f none h.connections k d (subst (λ (l : List Outward). slice_get l k ≡ Some d) connections at)) [
+      back = λ k d at. elim (get-change-back f none h.connections k d (subst (λ (l : List PrimaryConnection). slice_get l k ≡ Some d) connections at)) [
         | inl same ↦ inl (d, same, refl)
-        | inr changed ↦ inl (outward h, changed.1, subst (λ (x : Outward). x.begun ≡ (outward h).begun) (sym changed.0) begun)
+        | inr changed ↦ inl (primary_connection h, changed.1, subst (λ (x : PrimaryConnection). x.begun ≡ (primary_connection h).begun) (sym changed.0) begun)
       ];
     }
 
@@ -148,18 +153,21 @@ accounted-carries h later accounted known carries come keeps settings opening_ma
     accounted.began) (λ block inside unmarked. marks block unmarked) last
 
 -- the same, where the last connection changes and its stream does not
-pub accounted-change : (h later : PrimaryHistory) (f : Outward → Outward) → IsAccounted h → IsKnown later → later.connections ≡ change_last f h.connections
-    → KeepsWrites h.writes later.writes → KeepsEnd (outward h) (f (outward h)) → (f (outward h)).begun ≡ (outward h).begun
-    → (f (outward h)).stream ≡ (outward h).stream
+pub accounted-change : (h later : PrimaryHistory) (f : PrimaryConnection → PrimaryConnection) → IsAccounted h → IsKnown later
+    → later.connections ≡ change_last f h.connections
+    → KeepsWrites h.writes later.writes → KeepsEnd (primary_connection h) (f (primary_connection h))
+    → (f (primary_connection h)).begun ≡ (primary_connection h).begun
+    → (f (primary_connection h)).stream ≡ (primary_connection h).stream
     → later.settings ≡ h.settings → later.opening_marks ≡ h.opening_marks → later.opening_tuple ≡ h.opening_tuple → (NoneBegan h → later.tuple ≡ h.tuple)
     → ((block : ℕ) → later.marks block ≡ false → h.marks block ≡ false) → IsAccounted later
 accounted-change h later f accounted known connections writes keeps begun stream settings opening_marks opening_tuple tuple marks =
     accounted-carries h later accounted known (carries-change h later f connections writes.forward keeps) writes.back
     (begun-change h later f connections begun keeps.taken) settings opening_marks opening_tuple tuple marks
-    (λ block unmarked. ap (λ (l : List Outward). latest l block) connections ∙ latest-same-last (no_outward h.tuple) f h.connections block stream)
+    (λ block unmarked. ap (λ (l : List PrimaryConnection). latest l block) connections
+    ∙ latest-same-last (no_primary_connection h.tuple) f h.connections block stream)
 
 -- no connection changes
-pub keeps-end : (c : Outward) → KeepsEnd c c
+pub keeps-end : (c : PrimaryConnection) → KeepsEnd c c
 keeps-end c = record { grows = grows-self c; closed = λ x. x; taken = begins-self c.taken }
 
 -- a move that changes no connection keeps the account
@@ -169,10 +177,10 @@ pub accounted-still : (h later : PrimaryHistory) → IsAccounted h → IsKnown l
     → (NoneBegan h → later.tuple ≡ h.tuple) → ((block : ℕ) → later.marks block ≡ false → h.marks block ≡ false) → IsAccounted later
 accounted-still h later accounted known connections writes settings opening_marks opening_tuple tuple marks =
     accounted-change h later (λ c. c) accounted known (connections
-    ∙ sym (change-none h.connections)) writes (keeps-end (outward h)) refl refl settings opening_marks opening_tuple tuple marks
+    ∙ sym (change-none h.connections)) writes (keeps-end (primary_connection h)) refl refl settings opening_marks opening_tuple tuple marks
 
 -- one more frame was pushed, or taken
-pub keeps-pushed : (c : Outward) → KeepsEnd c (pushing c)
+pub keeps-pushed : (c : PrimaryConnection) → KeepsEnd c (pushing c)
 keeps-pushed c = record {
   grows = record { stream = begins-self c.stream; pushed = omega arith; frames = begins-self (accepted_frames c) };
   closed = λ x. x;
@@ -180,7 +188,7 @@ keeps-pushed c = record {
 }
 
 -- an end that takes a frame more is kept
-pub keeps-taken : (c : Outward) (frame : Received) → c.refused ≡ false → KeepsEnd c (with_frame frame c)
+pub keeps-taken : (c : PrimaryConnection) (frame : Received) → c.refused ≡ false → KeepsEnd c (with_frame frame c)
 keeps-taken c frame plain = record {
   grows = record { stream = begins-self c.stream; pushed = omega arith; frames = frames-taking c frame plain };
   closed = λ x. x;
@@ -188,40 +196,42 @@ keeps-taken c frame plain = record {
 }
 
 -- the open end has refused nothing
-pub open-plain : (h : PrimaryHistory) → HasHomes h → (outward h).closed ≡ false → (outward h).refused ≡ false
+pub open-plain : (h : PrimaryHistory) → HasHomes h → (primary_connection h).closed ≡ false → (primary_connection h).refused ≡ false
 open-plain h homes standing = not-refused h homes standing (length h.connections - 1) (open-at h standing)
 
 -- a stream that has begun is that of a connection
-pub begun-at : (h : PrimaryHistory) → (outward h).begun ≡ true → slice_get h.connections (length h.connections - 1) ≡ Some (outward h)
-begun-at h begun = elim (last-at (no_outward h.tuple) h.connections) [
-  | inl none ↦ absurd (both_ways (outward h).begun (ap (λ (l : List Outward). (last_of (no_outward h.tuple) l).begun) none) begun)
+pub begun-at : (h : PrimaryHistory) → (primary_connection h).begun ≡ true → slice_get h.connections (length h.connections - 1) ≡ Some (primary_connection h)
+begun-at h begun = elim (last-at (no_primary_connection h.tuple) h.connections) [
+  | inl none ↦ absurd (both_ways (primary_connection h).begun (ap (λ (l : List PrimaryConnection). (last_of (no_primary_connection h.tuple) l).begun) none)
+      begun)
   | inr at ↦ at
 ]
 
 -- a stream that has begun is on a connection
-pub begun-some : (h : PrimaryHistory) → (outward h).begun ≡ true → h.connections ≡ [] → ⊥
-begun-some h begun none = both_ways (outward h).begun (ap (λ (l : List Outward). (last_of (no_outward h.tuple) l).begun) none) begun
+pub begun-some : (h : PrimaryHistory) → (primary_connection h).begun ≡ true → h.connections ≡ [] → ⊥
+begun-some h begun none = both_ways (primary_connection h).begun (ap (λ (l : List PrimaryConnection). (last_of (no_primary_connection h.tuple) l).begun) none)
+    begun
 
 -- An item that touches marked blocks alone, or none, goes to the end of the stream.
-pub accounted-appending : (h later : PrimaryHistory) (item : Item) → ((block : ℕ) → h.marks block ≡ false → touches item block ≡ false) → IsAccounted h
+pub accounted-appending : (h later : PrimaryHistory) (item : StreamItem) → ((block : ℕ) → h.marks block ≡ false → touches item block ≡ false) → IsAccounted h
     → IsKnown later
-    → (outward h).begun ≡ true → later.connections ≡ change_last (λ c. record c { stream = c.stream ++ item ∷ [] }) h.connections
+    → (primary_connection h).begun ≡ true → later.connections ≡ change_last (λ c. record c { stream = c.stream ++ item ∷ [] }) h.connections
     → later.writes ≡ h.writes → later.settings ≡ h.settings → later.opening_marks ≡ h.opening_marks → later.opening_tuple ≡ h.opening_tuple
     → later.marks ≡ h.marks → IsAccounted later
 accounted-appending h later item none accounted known begun connections writes settings opening_marks opening_tuple marks =
-    let f : Outward → Outward = λ c. record c { stream = c.stream ++ item ∷ [] } in
-    let keeps : KeepsEnd (outward h) (f (outward h)) =
+    let f : PrimaryConnection → PrimaryConnection = λ c. record c { stream = c.stream ++ item ∷ [] } in
+    let keeps : KeepsEnd (primary_connection h) (f (primary_connection h)) =
     record {
-      grows = record { stream = (item ∷ [], refl); pushed = omega arith; frames = begins-self (accepted_frames (outward h)) };
+      grows = record { stream = (item ∷ [], refl); pushed = omega arith; frames = begins-self (accepted_frames (primary_connection h)) };
       closed = λ x. x;
-      taken = begins-self (outward h).taken;
+      taken = begins-self (primary_connection h).taken;
     } in
     let kept : KeepsWrites h.writes later.writes = subst (KeepsWrites h.writes) (sym writes) (keeps-writes h.writes) in
     accounted-carries h later accounted known (carries-change h later f connections kept.forward keeps) kept.back
     (begun-change h later f connections refl keeps.taken) settings opening_marks opening_tuple
-    (λ began. absurd (both_ways (outward h).begun (began.none (length h.connections - 1) (outward h) (begun-at h begun)) begun))
+    (λ began. absurd (both_ways (primary_connection h).begun (began.none (length h.connections - 1) (primary_connection h) (begun-at h begun)) begun))
     (λ block unmarked. ap (λ (m : ℕ → Bool). m block) (sym marks) ∙ unmarked)
-    (λ block unmarked. ap (λ (l : List Outward). latest l block) connections
-    ∙ (latest-appended (no_outward h.tuple) f item h.connections block (begun-some h begun) refl
-    ∙ ap (λ b. if b then Some (record { connection = last_index h.connections; place = length (outward h).stream; item = item })
+    (λ block unmarked. ap (λ (l : List PrimaryConnection). latest l block) connections
+    ∙ (latest-appended (no_primary_connection h.tuple) f item h.connections block (begun-some h begun) refl
+    ∙ ap (λ b. if b then Some (record { connection = last_index h.connections; place = length (primary_connection h).stream; item = item })
     else latest h.connections block) (none block (ap (λ (m : ℕ → Bool). m block) (sym marks) ∙ unmarked))))

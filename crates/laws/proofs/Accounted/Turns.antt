@@ -8,11 +8,12 @@ use Rattle.std.proofs.lemmas.List.{append-nil}
 use Rattle.blocks.specs.Positions.{StreamPosition}
 use Rattle.blocks.specs.declared.tuple.Tuple.{Tuple}
 use Rattle.model.specs.Contents.{Write, covers}
-use Rattle.model.specs.Stream.{Item, WriteItem, IsBeginning, epoch_of}
+use Rattle.model.specs.Stream.{StreamItem, WriteItem, IsBeginning, epoch_of}
 use Rattle.model.specs.Frames.{Received}
 use Rattle.model.specs.Identifiers.{lost}
 use Rattle.model.specs.Marks.{marking}
-use Rattle.model.specs.Primary.{Waiting, Accepted, Outward, PrimaryHistory, no_outward, last_of, outward, last_index, change_last, stands}
+use Rattle.model.specs.Primary.{Waiting, Accepted, PrimaryConnection, PrimaryHistory, no_primary_connection, last_of, primary_connection, last_index}
+use Rattle.model.specs.Primary.{change_last, is_established}
 use Rattle.model.specs.Primary.{accepted_frames, is_waiting, is_released, unreleased, barrier_acknowledged, is_barrier_ack}
 use Rattle.model.specs.PrimarySteps.{appending, submission, submitted, closing, submitted_with}
 use Rattle.laws.proofs.Rules.CloseMarks.{close-parts}
@@ -29,25 +30,28 @@ use Rattle.laws.proofs.Accounted.{home-of, IsAccounted, Carries, KeepsBegun, hel
 use Rattle.laws.proofs.Accounted.Moves.{sure-carries, settled-carries, alone-before}
 use Rattle.laws.proofs.Accounted.Steps.{KeepsEnd, open-plain, begun-some, grows-change, carries-change, begun-change, began-carries}
 use Rattle.laws.proofs.Lists.Elements.{get-left, get-more, get-end, same-at}
-use Rattle.laws.proofs.Primary.Ends.{stands-parts, frames-refusing}
+use Rattle.laws.proofs.Primary.Ends.{established-parts, frames-refusing}
 use Rattle.laws.proofs.Rules.RefusedFrames.{refusing_frame, refused_out, refused_by, refusing-last}
 use Rattle.laws.proofs.Rules.Releases.{held-waiting, released-same, released-none}
 
 -- The end closes.
 
 -- what a close does: the end's last frame may be refused, its stream stays, and all that is not released is marked
-pub account-shuts : (h later : PrimaryHistory) (f : Outward → Outward) → (outward h).closed ≡ false → IsAccounted h → IsKnown later
+pub account-shuts : (h later : PrimaryHistory) (f : PrimaryConnection → PrimaryConnection) → (primary_connection h).closed ≡ false → IsAccounted h
+    → IsKnown later
     → later.connections ≡ change_last f h.connections
-    → later.writes ≡ h.writes → Grows (outward h) (f (outward h)) → (f (outward h)).stream ≡ (outward h).stream → (f (outward h)).begun ≡ (outward h).begun
-    → IsBeginning (outward h).taken (f (outward h)).taken
+    → later.writes ≡ h.writes → Grows (primary_connection h) (f (primary_connection h)) → (f (primary_connection h)).stream ≡ (primary_connection h).stream
+    → (f (primary_connection h)).begun ≡ (primary_connection h).begun
+    → IsBeginning (primary_connection h).taken (f (primary_connection h)).taken
     → later.settings ≡ h.settings → later.opening_marks ≡ h.opening_marks → later.opening_tuple ≡ h.opening_tuple
-    → ((outward h).begun ≡ false → later.tuple ≡ h.tuple)
+    → ((primary_connection h).begun ≡ false → later.tuple ≡ h.tuple)
     → ((block : ℕ) → later.marks block ≡ false → (h.marks block ≡ false) × ((i : ℕ) (a : Accepted) → slice_get h.writes i ≡ Some a → is_released h a ≡ false
     → covers a.write block ≡ false)) → IsAccounted later
 account-shuts h later f standing accounted known connections writes grows stream begun taken settings opening_marks opening_tuple tuple marks =
     let grow : AllGrow h.connections later.connections = grows-change h later f connections grows in
-    let last : (block : ℕ) → latest later.connections block ≡ latest h.connections block = λ block. ap (λ (l : List Outward). latest l block) connections
-    ∙ latest-same-last (no_outward h.tuple) f h.connections block stream in
+    let last : (block : ℕ) → latest later.connections block ≡ latest h.connections block =
+    λ block. ap (λ (l : List PrimaryConnection). latest l block) connections
+    ∙ latest-same-last (no_primary_connection h.tuple) f h.connections block stream in
     record {
       known = known;
       waiting = λ i block b at alone waits covered. elim (cases_Bool (later.marks block)) [
@@ -67,14 +71,14 @@ account-shuts h later f standing accounted known connections writes grows stream
                 let home = accounted.known.tracked.homes.housed held.0 touch.connection touch.place a held.2 held.3 in
                 let same : there.0 ≡ home.0 = same-at h.connections touch.connection there.0 home.0 there.1 home.1 in
                 let item : touch.item ≡ WriteItem a.write = same-at home.0.stream touch.place touch.item (WriteItem a.write)
-                (subst (λ (c : Outward). slice_get c.stream touch.place ≡ Some touch.item) same there.2) home.2 in
-                both_ways (covers a.write block) (clean.1 held.0 a held.2 held.4) (subst (λ (x : Item). touches x block ≡ true) item there.3))
+                (subst (λ (c : PrimaryConnection). slice_get c.stream touch.place ≡ Some touch.item) same there.2) home.2 in
+                both_ways (covers a.write block) (clean.1 held.0 a held.2 held.4) (subst (λ (x : StreamItem). touches x block ≡ true) item there.3))
           ];
       untouched =
           λ block inside unmarked none. ap (λ (m : ℕ → Bool). m block) opening_marks
           ∙ accounted.untouched block (subst (λ s. block < s) (ap (λ s. s.blocks) settings) inside) (marks block unmarked).0 (sym (last block) ∙ none);
       began = began-carries h later (begun-change h later f connections begun taken) settings opening_tuple
-          (λ none. tuple (none.none (length h.connections - 1) (outward h) (open-at h standing)))
+          (λ none. tuple (none.none (length h.connections - 1) (primary_connection h) (open-at h standing)))
           (λ block inside unmarked none. ((marks block unmarked).0, sym (last block) ∙ none)) accounted.began;
     }
 
@@ -92,10 +96,11 @@ tuple-stays : (loss : ℕ) (t : Tuple) (b : Bool) → b ≡ false → (if b then
 tuple-stays loss t b new = ap (λ x. if x then lost loss t else t) new
 
 -- the close of an end keeps the account
-pub account-closes : (h : PrimaryHistory) → (outward h).closed ≡ false → IsAccounted h → IsKnown (closing h) → IsAccounted (closing h)
+pub account-closes : (h : PrimaryHistory) → (primary_connection h).closed ≡ false → IsAccounted h → IsKnown (closing h) → IsAccounted (closing h)
 account-closes h standing accounted known = account-shuts h (closing h) (λ c. record c { closed = true }) standing accounted known refl refl
-    (record { stream = begins-self (outward h).stream; pushed = omega arith; frames = begins-self (accepted_frames (outward h)) }) refl refl
-    (begins-self (outward h).taken) refl refl refl (λ new. tuple-stays (outward h).loss h.tuple (outward h).begun new)
+    (record { stream = begins-self (primary_connection h).stream; pushed = omega arith; frames = begins-self (accepted_frames (primary_connection h)) }) refl
+    refl
+    (begins-self (primary_connection h).taken) refl refl refl (λ new. tuple-stays (primary_connection h).loss h.tuple (primary_connection h).begun new)
     (λ block unmarked.
     let parts = close-parts h block unmarked in
     (parts.0, λ i a at held. none-unreleased h block i a parts.1 at held))
@@ -103,57 +108,66 @@ account-closes h standing accounted known = account-shuts h (closing h) (λ c. r
 -- A refused frame releases nothing.
 
 -- a change of the last connection that neither accepts a frame nor closes the end
-same-released : (h later : PrimaryHistory) (f : Outward → Outward) → HasHomes h → later.connections ≡ change_last f h.connections
-    → (f (outward h)).stream ≡ (outward h).stream
-    → accepted_frames (f (outward h)) ≡ accepted_frames (outward h) → (f (outward h)).closed ≡ (outward h).closed
+same-released : (h later : PrimaryHistory) (f : PrimaryConnection → PrimaryConnection) → HasHomes h → later.connections ≡ change_last f h.connections
+    → (f (primary_connection h)).stream ≡ (primary_connection h).stream
+    → accepted_frames (f (primary_connection h)) ≡ accepted_frames (primary_connection h) → (f (primary_connection h)).closed ≡ (primary_connection h).closed
     → (i : ℕ) (a : Accepted) → slice_get h.writes i ≡ Some a → is_released later a ≡ is_released h a
 same-released h later f homes connections stream frames closed i a at = go a.home refl
   where
     -- on a connection whose end changed so
-    alike : (c : Outward) (place : ℕ) → outward h ≡ c
+    alike : (c : PrimaryConnection) (place : ℕ) → primary_connection h ≡ c
         → barrier_acknowledged (f c) (epoch_of (f c).stream place) ≡ barrier_acknowledged c (epoch_of c.stream place)
     alike c place same =
-        subst (λ (x : Outward). barrier_acknowledged (f x) (epoch_of (f x).stream place) ≡ barrier_acknowledged x (epoch_of x.stream place)) same
+        subst (λ (x : PrimaryConnection). barrier_acknowledged (f x) (epoch_of (f x).stream place) ≡ barrier_acknowledged x (epoch_of x.stream place)) same
         (λ i. list_any (is_barrier_ack (epoch_of (stream i) place)) (frames i))
 
     go : (v : Option StreamPosition) → a.home ≡ v → is_released later a ≡ is_released h a
     go None is = released-none later a (alone-homeless later a is) ∙ sym (released-none h a (alone-homeless h a is))
     go (Some home) is =
         let was = homes.housed i home.index home.place a at is in
-        elim (get-change f (no_outward h.tuple) h.connections home.index was.0 was.1) [
+        elim (get-change f (no_primary_connection h.tuple) h.connections home.index was.0 was.1) [
           | inl same ↦
-              let there = subst (λ (l : List Outward). slice_get l home.index ≡ Some was.0) (sym connections) same in
+              let there = subst (λ (l : List PrimaryConnection). slice_get l home.index ≡ Some was.0) (sym connections) same in
               released-same h later a (confirmed-at later a home was.0 is there ∙ sym (confirmed-at h a home was.0 is was.1))
               (alone-at later a home was.0 is there ∙ sym (alone-at h a home was.0 is was.1))
           | inr changed ↦
-              let there = subst (λ (l : List Outward). slice_get l home.index ≡ Some (f was.0)) (sym connections) changed.0 in
+              let there = subst (λ (l : List PrimaryConnection). slice_get l home.index ≡ Some (f was.0)) (sym connections) changed.0 in
               released-same h later a
               (confirmed-at later a home (f was.0) is there ∙ (alike was.0 home.place (sym changed.1) ∙ sym (confirmed-at h a home was.0 is was.1)))
               (alone-at later a home (f was.0) is there
-              ∙ (subst (λ (x : Outward). (f x).closed ≡ x.closed) (sym changed.1) closed ∙ sym (alone-at h a home was.0 is was.1)))
+              ∙ (subst (λ (x : PrimaryConnection). (f x).closed ≡ x.closed) (sym changed.1) closed ∙ sym (alone-at h a home was.0 is was.1)))
         ]
 
 -- a frame that is refused closes the end, and keeps the account
-pub account-refuses : (h : PrimaryHistory) (frame : Received) (peer : Option Tuple) → (outward h).closed ≡ false → IsAccounted h
+pub account-refuses : (h : PrimaryHistory) (frame : Received) (peer : Option Tuple) → (primary_connection h).closed ≡ false → IsAccounted h
     → IsKnown (closing (refused_by frame peer h))
     → IsAccounted (closing (refused_by frame peer h))
 account-refuses h frame peer standing accounted known =
-    let g : Outward → Outward = refusing_frame frame in
-    let f : Outward → Outward = refused_out frame in
+    let g : PrimaryConnection → PrimaryConnection = refusing_frame frame in
+    let f : PrimaryConnection → PrimaryConnection = refused_out frame in
     let before : PrimaryHistory = refused_by frame peer h in
     let plain = open-plain h accounted.known.tracked.homes standing in
     let twice : before.connections ≡ change_last g h.connections = refusing-last frame h.connections in
-    let frames : accepted_frames (f (outward h)) ≡ accepted_frames (outward h) = frames-refusing (outward h) frame plain in
-    let ends : outward before ≡ g (outward h) = ap (last_of (no_outward h.tuple)) twice
-    ∙ elim (last-change g (no_outward h.tuple) (no_outward h.tuple) h.connections) [
-      | inl none ↦ absurd (both_ways (outward h).closed standing (ap (λ (l : List Outward). (last_of (no_outward h.tuple) l).closed) none))
+    let frames : accepted_frames (f (primary_connection h)) ≡ accepted_frames (primary_connection h) = frames-refusing (primary_connection h) frame plain in
+    let ends : primary_connection before ≡ g (primary_connection h) = ap (last_of (no_primary_connection h.tuple)) twice
+    ∙ elim (last-change g (no_primary_connection h.tuple) (no_primary_connection h.tuple) h.connections) [
+      | inl none ↦ absurd (both_ways (primary_connection h).closed standing
+          (ap (λ (l : List PrimaryConnection). (last_of (no_primary_connection h.tuple) l).closed) none))
       | inr is ↦ is
     ] in
     account-shuts h (closing before) f standing accounted known
-    (ap (change_last (λ (c : Outward). record c { closed = true })) twice ∙ change-twice g (λ c. record c { closed = true }) h.connections) refl
-    (record { stream = begins-self (outward h).stream; pushed = omega arith; frames = ([], append-nil (accepted_frames (outward h)) ∙ sym frames) }) refl refl
+    (ap (change_last (λ (c : PrimaryConnection). record c { closed = true })) twice ∙ change-twice g (λ c. record c { closed = true }) h.connections) refl
+    (record {
+      stream = begins-self (primary_connection h).stream;
+      pushed = omega arith;
+      frames = (
+        [],
+        append-nil (accepted_frames (primary_connection h))
+            ∙ sym frames,
+      );
+    }) refl refl
     (frame ∷ [], refl) refl refl refl
-    (λ new. tuple-stays (outward before).loss h.tuple (outward before).begun (ap (λ (c : Outward). c.begun) ends ∙ new))
+    (λ new. tuple-stays (primary_connection before).loss h.tuple (primary_connection before).begun (ap (λ (c : PrimaryConnection). c.begun) ends ∙ new))
     (λ block unmarked.
     let parts = close-parts before block unmarked in (
       parts.0,
@@ -172,9 +186,9 @@ stay-and-one ws added i a at = (a, get-left ws (added ∷ []) i a at, refl, refl
 -- accepting a write keeps the account
 pub account-submits : (h : PrimaryHistory) (first : ℕ) (contents : List (List ℕ)) → IsAccounted h → IsKnown (submitted h first contents)
     → IsAccounted (submitted h first contents)
-account-submits h first contents accounted known = go (stands (outward h)) refl known
+account-submits h first contents accounted known = go (is_established (primary_connection h)) refl known
   where
-    go : (b : Bool) → stands (outward h) ≡ b → IsKnown (submitted_with b h first contents) → IsAccounted (submitted_with b h first contents)
+    go : (b : Bool) → is_established (primary_connection h) ≡ b → IsKnown (submitted_with b h first contents) → IsAccounted (submitted_with b h first contents)
     go false is known =
         let w : Write = submission h first contents in
         let added : Accepted = record { write = w; journal_length = length h.journal; home = None; outcome = Waiting } in
@@ -199,24 +213,25 @@ account-submits h first contents accounted known = go (stands (outward h)) refl 
         }
     go true is known =
         let w : Write = submission h first contents in
-        let standing = stands-parts (outward h) is in
+        let standing = established-parts (primary_connection h) is in
         let k0 : ℕ = last_index h.connections in
-        let p0 : ℕ = length (outward h).stream in
+        let p0 : ℕ = length (primary_connection h).stream in
         let added : Accepted = record { write = w; journal_length = length h.journal; home = Some (record { index = k0; place = p0 }); outcome = Waiting } in
-        let f : Outward → Outward = λ c. record c { stream = c.stream ++ WriteItem w ∷ [] } in
+        let f : PrimaryConnection → PrimaryConnection = λ c. record c { stream = c.stream ++ WriteItem w ∷ [] } in
         let later : PrimaryHistory = appending (WriteItem w) (record h { writes = h.writes ++ added ∷ [] }) in
-        let keeps : KeepsEnd (outward h) (f (outward h)) =
+        let keeps : KeepsEnd (primary_connection h) (f (primary_connection h)) =
         record {
-          grows = record { stream = (WriteItem w ∷ [], refl); pushed = omega arith; frames = begins-self (accepted_frames (outward h)) };
+          grows = record { stream = (WriteItem w ∷ [], refl); pushed = omega arith; frames = begins-self (accepted_frames (primary_connection h)) };
           closed = λ x. x;
-          taken = begins-self (outward h).taken;
+          taken = begins-self (primary_connection h).taken;
         } in
         let carries : Carries h later = carries-change h later f refl (stay-and-one h.writes added) keeps in
-        let there : slice_get later.connections k0 ≡ Some (f (outward h)) = get-last-changed f (no_outward h.tuple) h.connections (outward h)
+        let there : slice_get later.connections k0 ≡ Some (f (primary_connection h)) = get-last-changed f (no_primary_connection h.tuple) h.connections
+        (primary_connection h)
         (open-at h standing.0) refl in
         let last : (block : ℕ) → latest later.connections block ≡ (if covers w block then Some (record { connection = k0; place = p0; item = WriteItem w })
         else latest h.connections block)
-        = λ block. latest-appended (no_outward h.tuple) f (WriteItem w) h.connections block (begun-some h standing.1) refl in
+        = λ block. latest-appended (no_primary_connection h.tuple) f (WriteItem w) h.connections block (begun-some h standing.1) refl in
         let past : (block : ℕ) → latest later.connections block ≡ None → latest h.connections block ≡ None = λ block none. elim (cases_Bool (covers w block)) [
           | inl covered ↦ absurd (let e : latest later.connections block ≡ Some (record { connection = k0; place = p0; item = WriteItem w }) = last block
               ∙ ap (λ b. if b then Some (record { connection = k0; place = p0; item = WriteItem w }) else latest h.connections block) covered in cc (e, none))
@@ -227,8 +242,8 @@ account-submits h first contents accounted known = go (stands (outward h)) refl 
           known = known;
           waiting = λ i block b at alone waits covered. elim (get-more h.writes added i b at) [
             | inl old ↦ accounted.waiting i block b old (alone-before h later i b b accounted.known.tracked.homes carries old refl alone) waits covered
-            | inr new ↦ absurd (both_ways (outward h).closed standing.0
-                (sym (alone-at later b (record { index = k0; place = p0 }) (f (outward h)) (ap (λ (x : Accepted). x.home) new.1) there) ∙ alone))
+            | inr new ↦ absurd (both_ways (primary_connection h).closed standing.0
+                (sym (alone-at later b (record { index = k0; place = p0 }) (f (primary_connection h)) (ap (λ (x : Accepted). x.home) new.1) there) ∙ alone))
           ];
           settled = λ block touch unmarked is. elim (cases_Bool (covers w block)) [
             | inl covered ↦
@@ -243,6 +258,6 @@ account-submits h first contents accounted known = go (stands (outward h)) refl 
                 settled-carries h later block touch accounted carries (latest-at h.connections block touch was) unmarked was is
           ];
           untouched = λ block inside unmarked none. accounted.untouched block inside unmarked (past block none);
-          began = began-carries h later (begun-change h later f refl refl (begins-self (outward h).taken)) refl refl (λ none. refl)
+          began = began-carries h later (begun-change h later f refl refl (begins-self (primary_connection h).taken)) refl refl (λ none. refl)
               (λ block inside unmarked none. (unmarked, past block none)) accounted.began;
         }

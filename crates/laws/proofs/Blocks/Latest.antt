@@ -2,33 +2,33 @@
 use Rattle.std.proofs.Common.{ℕ, suc, ◌≡◌, ◌+◌, ◌||◌, List, [], ◌∷◌, ◌++◌, length, map, Option, Some, None, ◌∙◌, ap, arith}
 use Rattle.std.specs.Prelude.{if◌then◌else◌}
 use Rattle.model.specs.Contents.{Layer, overlay}
-use Rattle.model.specs.Stream.{Item}
-use Rattle.model.specs.Primary.{Accepted, Outward, PrimaryHistory, is_waiting, offset_reached}
+use Rattle.model.specs.Stream.{StreamItem}
+use Rattle.model.specs.Primary.{Accepted, PrimaryConnection, PrimaryHistory, is_waiting, offset_reached}
 use Rattle.laws.specs.Reflections.{touches, content_at}
 
 -- An item that touches a block, with where it stands: the number of its connection, and its place there.
 pub record Touch : Type 0 where
   pub connection : ℕ
   pub place : ℕ
-  pub item : Item
+  pub item : StreamItem
 
 -- the last item of a stream that touches a block, with its place, or else what was found before
-abbrev pub latest_from : ℕ → ℕ → Option (ℕ × Item) → List Item → Option (ℕ × Item)
+abbrev pub latest_from : ℕ → ℕ → Option (ℕ × StreamItem) → List StreamItem → Option (ℕ × StreamItem)
 latest_from block place found [] = found
 latest_from block place found (item ∷ items) = latest_from block (suc place) (if touches item block then Some (place, item) else found) items
 
 -- what is found in a connection, or else what was found before
-abbrev pub found_in : ℕ → Option (ℕ × Item) → Option Touch → Option Touch
+abbrev pub found_in : ℕ → Option (ℕ × StreamItem) → Option Touch → Option Touch
 found_in k None found = found
 found_in k (Some entry) found = Some (record { connection = k; place = entry.0; item = entry.1 })
 
 -- the last of several connections, of which the first has this number
-abbrev pub latest_of : ℕ → ℕ → Option Touch → List Outward → Option Touch
+abbrev pub latest_of : ℕ → ℕ → Option Touch → List PrimaryConnection → Option Touch
 latest_of block k found [] = found
 latest_of block k found (c ∷ cs) = latest_of block (suc k) (found_in k (latest_from block 0 None c.stream) found) cs
 
 -- the last of all items that touches a block
-abbrev pub latest : List Outward → ℕ → Option Touch
+abbrev pub latest : List PrimaryConnection → ℕ → Option Touch
 latest connections block = latest_of block 0 None connections
 
 -- what a block holds once the last item is applied that touches it
@@ -53,7 +53,7 @@ abbrev pub settling_map : PrimaryHistory → ℕ → Option (List ℕ)
 settling_map h block = overlay h.opening_map (map settling_layer h.writes) block
 
 -- one item more at the end of a stream
-pub latest-append : (block place : ℕ) (found : Option (ℕ × Item)) (items : List Item) (item : Item)
+pub latest-append : (block place : ℕ) (found : Option (ℕ × StreamItem)) (items : List StreamItem) (item : StreamItem)
     → latest_from block place found (items ++ item ∷ []) ≡ (if touches item block then Some (place + length items, item)
     else latest_from block place found items)
 latest-append block place found [] item = ap (λ (n : ℕ). if touches item block then Some (n, item) else found) (omega arith)

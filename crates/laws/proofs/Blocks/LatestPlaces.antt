@@ -3,30 +3,31 @@ use Rattle.std.proofs.Common.{ℕ, zero, suc, ◌≡◌, ◌+◌, ◌≤◌, ◌
 use Rattle.std.proofs.Common.{arith}
 use Rattle.std.specs.Prelude.{if◌then◌else◌}
 use Rattle.std.proofs.lemmas.Bool.{cases_Bool}
-use Rattle.model.specs.Stream.{Item}
-use Rattle.model.specs.Primary.{Outward}
+use Rattle.model.specs.Stream.{StreamItem}
+use Rattle.model.specs.Primary.{PrimaryConnection}
 use Rattle.laws.specs.Reflections.{touches}
 use Rattle.laws.proofs.Blocks.Latest.{Touch, latest_from, found_in, latest_of, latest}
 
 -- what is found among some items stands among them and touches the block, or was found before
-record Stands (block start : ℕ) (items : List Item) (entry : ℕ × Item) : Type 0 where
+record Stands (block start : ℕ) (items : List StreamItem) (entry : ℕ × StreamItem) : Type 0 where
   offset : ℕ
   is : entry.0 ≡ start + offset
   there : slice_get items offset ≡ Some entry.1
   touches : touches entry.1 block ≡ true
 
-from-at : (block start : ℕ) (found : Option (ℕ × Item)) (items : List Item) (entry : ℕ × Item) → latest_from block start found items ≡ Some entry
+from-at : (block start : ℕ) (found : Option (ℕ × StreamItem)) (items : List StreamItem) (entry : ℕ × StreamItem)
+    → latest_from block start found items ≡ Some entry
     → (found ≡ Some entry) ⊎ Stands block start items entry
 from-at block start found [] entry is = inl is
 from-at block start found (x ∷ items) entry is = elim (cases_Bool (touches x block)) [
   | inl touched ↦ elim (from-at block (suc start) (Some (start, x)) items entry
       (ap (λ b. latest_from block (suc start) (if b then Some (start, x) else found) items) (sym touched) ∙ is)) [
         | inl first ↦
-            let here : ℕ × Item = (start, x) in
+            let here : ℕ × StreamItem = (start, x) in
             let same : here ≡ entry = cc in
-            let is : start ≡ entry.0 = ap (λ (e : ℕ × Item). e.0) same in
-            let item : x ≡ entry.1 = ap (λ (e : ℕ × Item). e.1) same in
-            inr (record { offset = 0; is = omega arith; there = ap (λ (i : Item). Some i) item; touches = rw (← item) touched })
+            let is : start ≡ entry.0 = ap (λ (e : ℕ × StreamItem). e.0) same in
+            let item : x ≡ entry.1 = ap (λ (e : ℕ × StreamItem). e.1) same in
+            inr (record { offset = 0; is = omega arith; there = ap (λ (i : StreamItem). Some i) item; touches = rw (← item) touched })
         | inr later ↦ inr (record { offset = suc later.offset; is = omega (arith, later.is); there = later.there; touches = later.touches })
       ]
   | inr other ↦ elim (from-at block (suc start) found items entry
@@ -37,20 +38,20 @@ from-at block start found (x ∷ items) entry is = elim (cases_Bool (touches x b
 ]
 
 -- likewise among some connections
-record StandsIn (block k : ℕ) (connections : List Outward) (touch : Touch) : Type 0 where
+record StandsIn (block k : ℕ) (connections : List PrimaryConnection) (touch : Touch) : Type 0 where
   offset : ℕ
-  end : Outward
+  end : PrimaryConnection
   is : touch.connection ≡ k + offset
   end_there : slice_get connections offset ≡ Some end
   there : slice_get end.stream touch.place ≡ Some touch.item
   touches : touches touch.item block ≡ true
 
-of-at : (block k : ℕ) (found : Option Touch) (connections : List Outward) (touch : Touch) → latest_of block k found connections ≡ Some touch
+of-at : (block k : ℕ) (found : Option Touch) (connections : List PrimaryConnection) (touch : Touch) → latest_of block k found connections ≡ Some touch
     → (found ≡ Some touch) ⊎ StandsIn block k connections touch
 of-at block k found [] touch is = inl is
 of-at block k found (c ∷ connections) touch is = go (latest_from block 0 None c.stream) refl (λ before h. of-at block (suc k) before connections touch h) is
   where
-    go : (v : Option (ℕ × Item)) → latest_from block 0 None c.stream ≡ v
+    go : (v : Option (ℕ × StreamItem)) → latest_from block 0 None c.stream ≡ v
         → ((before : Option Touch) → latest_of block (suc k) before connections ≡ Some touch → (before ≡ Some touch) ⊎ StandsIn block (suc k) connections touch)
         → latest_of block (suc k) (found_in k v found) connections ≡ Some touch → (found ≡ Some touch) ⊎ StandsIn block k (c ∷ connections) touch
     go None none rest is = elim (rest found is) [
@@ -73,15 +74,15 @@ of-at block k found (c ∷ connections) touch is = go (latest_from block 0 None 
           let ii : entry.1 ≡ touch.item = ap (λ (t : Touch). t.item) same in
           elim (from-at block 0 None c.stream entry some) [
             | inl nothing ↦ absurd (cc)
-            | inr stands ↦
-                let place : stands.offset ≡ touch.place = omega (arith, stands.is) in
+            | inr is_established ↦
+                let place : is_established.offset ≡ touch.place = omega (arith, is_established.is) in
                 inr (record {
                   offset = 0;
                   end = c;
                   is = omega arith;
                   end_there = refl;
-                  there = rw (← place, ← ii) stands.there;
-                  touches = rw (← ii) stands.touches;
+                  there = rw (← place, ← ii) is_established.there;
+                  touches = rw (← ii) is_established.touches;
                 })
           ]
       | inr later ↦ inr (record {
@@ -95,8 +96,9 @@ of-at block k found (c ∷ connections) touch is = go (latest_from block 0 None 
     ]
 
 -- What is found last stands where it is said to, and touches the block.
-pub latest-at : (connections : List Outward) (block : ℕ) (touch : Touch) → latest connections block ≡ Some touch
-    → (c : Outward) × (slice_get connections touch.connection ≡ Some c) × (slice_get c.stream touch.place ≡ Some touch.item) × (touches touch.item block ≡ true)
+pub latest-at : (connections : List PrimaryConnection) (block : ℕ) (touch : Touch) → latest connections block ≡ Some touch
+    → (c : PrimaryConnection) × (slice_get connections touch.connection ≡ Some c) × (slice_get c.stream touch.place ≡ Some touch.item)
+    × (touches touch.item block ≡ true)
 latest-at connections block touch is = elim (of-at block 0 None connections touch is) [
   | inl nothing ↦ absurd (cc)
   | inr found ↦ let k : found.offset ≡ touch.connection = omega (arith, found.is) in (found.end, rw (← k) found.end_there, found.there, found.touches)
@@ -104,8 +106,8 @@ latest-at connections block touch is = elim (of-at block 0 None connections touc
 
 -- What was found stays, or a later item takes its place.
 
-from-keeps : (block start : ℕ) (entry : ℕ × Item) (items : List Item) → entry.0 ≤ start
-    → (last : ℕ × Item) × (latest_from block start (Some entry) items ≡ Some last) × (entry.0 ≤ last.0)
+from-keeps : (block start : ℕ) (entry : ℕ × StreamItem) (items : List StreamItem) → entry.0 ≤ start
+    → (last : ℕ × StreamItem) × (latest_from block start (Some entry) items ≡ Some last) × (entry.0 ≤ last.0)
 from-keeps block start entry [] before = (entry, refl, omega arith)
 from-keeps block start entry (x ∷ items) before = elim (cases_Bool (touches x block)) [
   | inl touched ↦
@@ -117,8 +119,9 @@ from-keeps block start entry (x ∷ items) before = elim (cases_Bool (touches x 
       (rest.0, ap (λ b. latest_from block (suc start) (if b then Some (start, x) else Some entry) items) other ∙ rest.1, rest.2)
 ]
 
-from-has : (block start : ℕ) (found : Option (ℕ × Item)) (items : List Item) (n : ℕ) (item : Item) → slice_get items n ≡ Some item → touches item block ≡ true
-    → (last : ℕ × Item) × (latest_from block start found items ≡ Some last) × (start + n ≤ last.0)
+from-has : (block start : ℕ) (found : Option (ℕ × StreamItem)) (items : List StreamItem) (n : ℕ) (item : StreamItem) → slice_get items n ≡ Some item
+    → touches item block ≡ true
+    → (last : ℕ × StreamItem) × (latest_from block start found items ≡ Some last) × (start + n ≤ last.0)
 from-has block start found [] n item at touched = absurd (cc)
 from-has block start found (x ∷ items) zero item at touched =
     let same : x ≡ item = cc in
@@ -131,12 +134,12 @@ from-has block start found (x ∷ items) (suc n) item at touched =
     let more = rest.2 in
     (rest.0, rest.1, omega arith)
 
-of-keeps : (block k : ℕ) (touch : Touch) (connections : List Outward) → touch.connection < k
+of-keeps : (block k : ℕ) (touch : Touch) (connections : List PrimaryConnection) → touch.connection < k
     → (last : Touch) × (latest_of block k (Some touch) connections ≡ Some last) × ((touch.connection < last.connection) ⊎ (last ≡ touch))
 of-keeps block k touch [] before = (touch, refl, inr refl)
 of-keeps block k touch (c ∷ connections) before = go (latest_from block 0 None c.stream) (λ found h. of-keeps block (suc k) found connections h)
   where
-    go : (v : Option (ℕ × Item)) → ((found : Touch) → found.connection < suc k
+    go : (v : Option (ℕ × StreamItem)) → ((found : Touch) → found.connection < suc k
         → (last : Touch) × (latest_of block (suc k) (Some found) connections ≡ Some last) × ((found.connection < last.connection) ⊎ (last ≡ found)))
         → (last : Touch) × (latest_of block (suc k) (found_in k v (Some touch)) connections ≡ Some last)
         × ((touch.connection < last.connection) ⊎ (last ≡ touch))
@@ -153,7 +156,8 @@ of-keeps block k touch (c ∷ connections) before = go (latest_from block 0 None
           ],
         )
 
-of-has : (block k : ℕ) (found : Option Touch) (connections : List Outward) (n place : ℕ) (c : Outward) (item : Item) → slice_get connections n ≡ Some c
+of-has : (block k : ℕ) (found : Option Touch) (connections : List PrimaryConnection) (n place : ℕ) (c : PrimaryConnection) (item : StreamItem)
+    → slice_get connections n ≡ Some c
     → slice_get c.stream place ≡ Some item → touches item block ≡ true
     → (last : Touch) × (latest_of block k found connections ≡ Some last) × ((k + n < last.connection) ⊎ ((k + n ≡ last.connection) × (place ≤ last.place)))
 of-has block k found [] n place c item at there touched = absurd (cc)
@@ -164,7 +168,7 @@ of-has block k found (d ∷ connections) zero place c item at there touched =
     let rest = of-keeps block (suc k) here connections (omega arith) in
     let behind = entry.2 in (
       rest.0,
-      ap (λ (v : Option (ℕ × Item)). latest_of block (suc k) (found_in k v found) connections) entry.1 ∙ rest.1,
+      ap (λ (v : Option (ℕ × StreamItem)). latest_of block (suc k) (found_in k v found) connections) entry.1 ∙ rest.1,
       elim rest.2 [
         | inl more ↦ inl (omega arith)
         | inr is ↦
@@ -178,7 +182,7 @@ of-has block k found (d ∷ connections) (suc n) place c item at there touched =
     (rest.0, rest.1, elim rest.2 [ inl more ↦ inl (omega arith) | inr same ↦ let is = same.0 in inr (omega arith, same.1) ])
 
 -- Where an item touches a block one is found, there or behind it.
-pub latest-some : (connections : List Outward) (block k place : ℕ) (c : Outward) (item : Item) → slice_get connections k ≡ Some c
+pub latest-some : (connections : List PrimaryConnection) (block k place : ℕ) (c : PrimaryConnection) (item : StreamItem) → slice_get connections k ≡ Some c
     → slice_get c.stream place ≡ Some item → touches item block ≡ true
     → (touch : Touch) × (latest connections block ≡ Some touch) × ((k < touch.connection) ⊎ ((k ≡ touch.connection) × (place ≤ touch.place)))
 latest-some connections block k place c item at there touched =
@@ -186,7 +190,8 @@ latest-some connections block k place c item at there touched =
     (found.0, found.1, elim found.2 [ inl more ↦ inl (omega arith) | inr here ↦ let is = here.0 in inr (omega arith, here.1) ])
 
 -- Where nothing is found no item touches the block.
-pub latest-none : (connections : List Outward) (block : ℕ) → latest connections block ≡ None → (k place : ℕ) (c : Outward) (item : Item)
+pub latest-none : (connections : List PrimaryConnection) (block : ℕ) → latest connections block ≡ None
+    → (k place : ℕ) (c : PrimaryConnection) (item : StreamItem)
     → slice_get connections k ≡ Some c
     → slice_get c.stream place ≡ Some item → touches item block ≡ false
 latest-none connections block none k place c item at there = elim (cases_Bool (touches item block)) [
@@ -195,7 +200,8 @@ latest-none connections block none k place c item at there = elim (cases_Bool (t
 ]
 
 -- No item that touches the block stands behind the one that is found.
-pub latest-last : (connections : List Outward) (block : ℕ) (touch : Touch) → latest connections block ≡ Some touch → (k place : ℕ) (c : Outward) (item : Item)
+pub latest-last : (connections : List PrimaryConnection) (block : ℕ) (touch : Touch) → latest connections block ≡ Some touch
+    → (k place : ℕ) (c : PrimaryConnection) (item : StreamItem)
     → slice_get connections k ≡ Some c
     → slice_get c.stream place ≡ Some item → touches item block ≡ true → (k < touch.connection) ⊎ ((k ≡ touch.connection) × (place ≤ touch.place))
 latest-last connections block touch is k place c item at there touched =

@@ -9,8 +9,8 @@ use Rattle.blocks.specs.declared.settings.Protocol.TheVariants as protocol
 use Rattle.model.specs.Contents.{Write}
 use Rattle.model.specs.Stream.{WriteItem, IsLawful, IsBeginning}
 use Rattle.model.specs.Frames.{Received, hello_of}
-use Rattle.model.specs.Primary.{Outward, frames_due, accepted_frames}
-use Rattle.model.specs.Secondary.{Inward, items_taken, received_item, answers_due}
+use Rattle.model.specs.Primary.{PrimaryConnection, frames_due, accepted_frames}
+use Rattle.model.specs.Secondary.{SecondaryConnection, items_taken, received_item, answers_due}
 use Rattle.model.specs.Acknowledgements.{same_protocol}
 use Rattle.laws.proofs.Rules.FramesDue.{due-items}
 use Rattle.laws.proofs.Rules.EpochEnds.{most_writes}
@@ -21,7 +21,7 @@ use Rattle.laws.proofs.Primary.Sendable.{IsFitEnd}
 use Rattle.laws.proofs.Secondary.Orderly.{IsOrderly, plain}
 
 -- The two ends of a link of a pair.
-pub record AreHonestEnds (settings : Settings) (c : Outward) (d : Inward) : Type 0 where
+pub record AreHonestEnds (settings : Settings) (c : PrimaryConnection) (d : SecondaryConnection) : Type 0 where
   pub lawful : IsLawful (most_writes settings) c.stream
   pub fit : IsFitEnd settings c
   pub orderly : IsOrderly settings.protocol d
@@ -37,7 +37,8 @@ protocol-self protocol.B = refl
 protocol-self protocol.C = refl
 
 -- behind the hello, the items that an open end has taken are as many of the stream as frames were taken behind it
-pub items-front : (settings : Settings) (c : Outward) (d : Inward) (m : ℕ) → AreHonestEnds settings c d → d.closed ≡ false → length d.taken ≡ suc (suc (suc m))
+pub items-front : (settings : Settings) (c : PrimaryConnection) (d : SecondaryConnection) (m : ℕ) → AreHonestEnds settings c d → d.closed ≡ false
+    → length d.taken ≡ suc (suc (suc m))
     → items_taken d ≡ take m c.stream
 items-front settings c d m e standing size =
     let accepted = plain d e.orderly.good standing in
@@ -48,7 +49,7 @@ items-front settings c d m e standing size =
     ∙ (due-items settings c (suc (suc (suc m))) ∙ ap (λ n. take n c.stream) (omega arith)))
 
 -- behind the hello, the frames that an open end has accepted are as many of those due
-pub accepted-front : (settings : Settings) (c : Outward) (d : Inward) (m : ℕ) → AreHonestEnds settings c d → c.closed ≡ false
+pub accepted-front : (settings : Settings) (c : PrimaryConnection) (d : SecondaryConnection) (m : ℕ) → AreHonestEnds settings c d → c.closed ≡ false
     → length c.taken ≡ suc (suc (suc m))
     → accepted_frames c ≡ map read (hello_of settings d.hello ++ take m d.due)
 accepted-front settings c d m e standing size =

@@ -12,8 +12,8 @@ use Rattle.blocks.specs.declared.outcome.Decision.TheVariants.{FullSync}
 use Rattle.model.specs.Contents.{BlockMap}
 use Rattle.model.specs.Frames.{UuidsFrame, SizesFrame}
 use Rattle.model.specs.Identifiers.{decision}
-use Rattle.model.specs.Primary.{Outward, PrimaryHistory}
-use Rattle.model.specs.Secondary.{Inward, SecondaryHistory, items_taken, answers_due}
+use Rattle.model.specs.Primary.{PrimaryConnection, PrimaryHistory}
+use Rattle.model.specs.Secondary.{SecondaryConnection, SecondaryHistory, items_taken, answers_due}
 use Rattle.model.specs.Pair.{same_block}
 use Rattle.model.specs.LocalRuns.{PrimaryEvent, primary_run, SecondaryEvent, secondary_run}
 use Rattle.model.specs.Headline.{IsJoined, IsGrounded, Cover, opening_marked, pushed_back_by}
@@ -33,12 +33,12 @@ use Rattle.laws.proofs.Secondary.TrueBarriers.{due_is_no_tuple}
 use Rattle.laws.proofs.Lists.Elements.{append-empty}
 use Rattle.laws.proofs.Joining.Ends.{AreEnds, joined-back, primary-end, secondary-end, item-taken}
 use Rattle.laws.proofs.Secondary.Numbers.{NumbersRise, numbers-rise}
-use Rattle.model.specs.Stream.{Item}
+use Rattle.model.specs.Stream.{StreamItem}
 use Rattle.laws.proofs.Primary.Met.{HasMet, primary-met}
 use Rattle.laws.proofs.Lists.Each.{each-get}
 
 -- a tuple among the frames that a secondary owes is that of its hello, if none was due
-pub named : (settings : Settings) (d : Inward) (n : ℕ) (t : Tuple) → slice_get (answers_due settings d) n ≡ Some (UuidsFrame t)
+pub named : (settings : Settings) (d : SecondaryConnection) (n : ℕ) (t : Tuple) → slice_get (answers_due settings d) n ≡ Some (UuidsFrame t)
     → ((m : ℕ) → slice_get d.due m ≡ Some (UuidsFrame t) → ⊥) → t ≡ d.hello
 named settings d zero t at none = absurd (cc)
 named settings d (suc zero) t at none = absurd (cc)
@@ -55,37 +55,40 @@ first-peer o here there decided joined first =
     let homes : HasHomes p = keeps-run HasHomes HasHomes homes-kept homes-released here (primary_at o) (homes-opening o.settings o.local o.own o.marks) in
     let rise = numbers-rise there (secondary_at o) refl in
     let end = secondary-end p s joined first.connection first.n first.end (Ok (UuidsFrame first.peer)) first.at first.taken in
-    let d : Inward = end.1 in
+    let d : SecondaryConnection = end.1 in
     let back = joined-back p s rise joined first.connection end.0 first.end d end.2 in
     let pushed = get-beginning first.end.taken (pushed_back_by s d) first.n (Ok (UuidsFrame first.peer)) back first.taken in
     let owed = get-beginning (take d.pushed (answers_due s.settings d)) (answers_due s.settings d) first.n (UuidsFrame first.peer)
     (begins-take d.pushed (answers_due s.settings d)) (read-back (take d.pushed (answers_due s.settings d)) first.n (UuidsFrame first.peer) pushed) in
     let hello : first.peer ≡ d.hello = named s.settings d first.n first.peer owed
-    (λ m at. due_is_no_tuple o.peer_settings o.peer o.peer_tuple there end.0 m d first.peer end.2.inward at) in
-    hello ∙ secondary_hello o.peer_settings o.peer o.peer_tuple there end.0 d end.2.inward
+    (λ m at. due_is_no_tuple o.peer_settings o.peer o.peer_tuple there end.0 m d first.peer end.2.secondary_connection at) in
+    hello ∙ secondary_hello o.peer_settings o.peer o.peer_tuple there end.0 d end.2.secondary_connection
     (λ j e less at. nothing-before p s rise joined first end.0 d end.2 homes j e less at (items_taken e) refl)
   where
     -- what the secondary took before the first stream began is nothing
     nothing-before : (p : PrimaryHistory) (s : SecondaryHistory) → NumbersRise s.connections → IsJoined p s → (first : FirstBegan p decided)
-        → (i : ℕ) (d : Inward) → AreEnds p s first.connection i first.end d → HasHomes p
-        → (j : ℕ) (e : Inward) → j < i → slice_get s.connections j ≡ Some e → (items : List Item) → items_taken e ≡ items → items_taken e ≡ []
+        → (i : ℕ) (d : SecondaryConnection) → AreEnds p s first.connection i first.end d → HasHomes p
+        → (j : ℕ) (e : SecondaryConnection) → j < i → slice_get s.connections j ≡ Some e → (items : List StreamItem) → items_taken e ≡ items
+        → items_taken e ≡ []
     nothing-before p s rise joined first i d ends homes j e less at [] is = is
     nothing-before p s rise joined first i d ends homes j e less at (item ∷ items) is = absurd (
-        let some : slice_get (items_taken e) 0 ≡ Some item = ap (λ (l : List Item). slice_get l 0) is in
+        let some : slice_get (items_taken e) 0 ≡ Some item = ap (λ (l : List StreamItem). slice_get l 0) is in
         let frame = item-taken e 0 item some in
         let other = primary-end p s rise joined j frame.0 e frame.1 at frame.2 in
-        let low = rise.rise j i e d less at ends.inward in
+        let low = rise.rise j i e d less at ends.secondary_connection in
         let one = other.2.number in
         let two = ends.number in
-        let none : other.1.stream ≡ [] = homes.empty other.0 other.1 other.2.outward (first.earlier other.0 other.1 (omega arith) other.2.outward) in
+        let none : other.1.stream ≡ [] = homes.empty other.0 other.1 other.2.primary_connection
+        (first.earlier other.0 other.1 (omega arith) other.2.primary_connection) in
         let begins = taken-begins p s rise joined other.0 j other.1 e other.2 in
         let empty = append-empty (items_taken e) begins.0 (begins.1 ∙ none) in
         cc (empty, is))
 
 -- where no connection has begun, none is found
-none-begun : (cs : List Outward) → ((k : ℕ) (c : Outward) → slice_get cs k ≡ Some c → c.begun ≡ false) → list_any (λ (c : Outward). c.begun) cs ≡ false
+none-begun : (cs : List PrimaryConnection) → ((k : ℕ) (c : PrimaryConnection) → slice_get cs k ≡ Some c → c.begun ≡ false)
+    → list_any (λ (c : PrimaryConnection). c.begun) cs ≡ false
 none-begun [] none = refl
-none-begun (c ∷ cs) none = or_from c.begun (list_any (λ (x : Outward). x.begun) cs) (none 0 c refl) (none-begun cs (λ k x at. none (suc k) x at))
+none-begun (c ∷ cs) none = or_from c.begun (list_any (λ (x : PrimaryConnection). x.begun) cs) (none 0 c refl) (none-begun cs (λ k x at. none (suc k) x at))
 
 -- a block that some marks cover, and that is not marked, is the same on both disks
 covered-same : (marks : ℕ → Bool) (local peer : BlockMap) (block : ℕ) → Cover marks local peer → marks block ≡ false → local block ≡ peer block
@@ -110,7 +113,7 @@ sizes-agree o here there decided joined first =
     let met = each-get (HasMet o.settings) p.connections first.connection first.end (primary-met o.settings o.local o.own o.marks here).ends first.at in
     let size = met.sized (inl first.begun) (met.late first.begun) in
     let end = secondary-end p s joined first.connection 1 first.end (Ok (SizesFrame o.settings.blocks)) first.at size in
-    let d : Inward = end.1 in
+    let d : SecondaryConnection = end.1 in
     let pushed = get-beginning first.end.taken (pushed_back_by s d) 1 (Ok (SizesFrame o.settings.blocks))
     (joined-back p s rise joined first.connection end.0 first.end d end.2) size in
     let owed : slice_get (answers_due s.settings d) 1 ≡ Some (SizesFrame o.settings.blocks) =
@@ -142,7 +145,7 @@ unmarked-agree o here there sound joined grounded block clean began =
             | inr cover ↦ ap (λ (m : BlockMap). m block) (sym mine.disk)
                 ∙ (covered-same (opening_marked p) p.opening_map s.opening_map block cover clean ∙ ap (λ (m : BlockMap). m block) theirs.disk)
             | inl begun ↦ elim began [
-              | inl none ↦ absurd (both_ways (list_any (λ (c : Outward). c.begun) p.connections) (none-begun p.connections none.none) begun)
+              | inl none ↦ absurd (both_ways (list_any (λ (c : PrimaryConnection). c.begun) p.connections) (none-begun p.connections none.none) begun)
               | inr first ↦
                   let size = sizes-agree o here there first.0 joined first.1 in
                   none-there (o.local block) (sound.local block ∙ out)
@@ -160,7 +163,7 @@ unmarked-agree o here there sound joined grounded block clean began =
             | inr cover ↦ ap (λ (m : BlockMap). m block) (sym mine.disk)
                 ∙ (covered-same (opening_marked p) p.opening_map s.opening_map block cover clean ∙ ap (λ (m : BlockMap). m block) theirs.disk)
             | inl begun ↦ elim began [
-              | inl none ↦ absurd (both_ways (list_any (λ (c : Outward). c.begun) p.connections) (none-begun p.connections none.none) begun)
+              | inl none ↦ absurd (both_ways (list_any (λ (c : PrimaryConnection). c.begun) p.connections) (none-begun p.connections none.none) begun)
               | inr first ↦
                   let peer : first.1.peer ≡ o.peer_tuple = first-peer o here there first.0 joined first.1 in
                   let decides : decision o.own o.peer_tuple ≡ Ok first.0 =

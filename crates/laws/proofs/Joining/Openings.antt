@@ -4,7 +4,7 @@ use Rattle.blocks.specs.declared.tuple.Tuple.{Tuple}
 use Rattle.blocks.specs.declared.outcome.Decision.{Decision}
 use Rattle.blocks.specs.declared.outcome.Decision.TheVariants.{NoSync, BitmapSync, FullSync}
 use Rattle.model.specs.Frames.{UuidsFrame}
-use Rattle.model.specs.Primary.{Accepted, PrimaryHistory, outward, with_outward, stands}
+use Rattle.model.specs.Primary.{Accepted, PrimaryHistory, primary_connection, with_primary_connection, is_established}
 use Rattle.model.specs.PrimarySteps.{submitted, faulted, accepted_at, submitted_with, faulted_by}
 use Rattle.model.specs.Acknowledgements.{begun_with}
 use Rattle.model.specs.Secondary.{SecondaryHistory}
@@ -26,7 +26,7 @@ kept : (o : Opening) (h later : PrimaryHistory) → later.settings ≡ h.setting
 kept o h later settings disk marks tuple a = record { settings = settings ∙ a.settings; disk = disk ∙ a.disk; marks = marks ∙ a.marks; tuple = tuple ∙ a.tuple }
 
 kept-submits : (o : Opening) (h : PrimaryHistory) (first : ℕ) (contents : List (List ℕ)) → HasOpening o h → HasOpening o (submitted h first contents)
-kept-submits o h first contents a = go (stands (outward h))
+kept-submits o h first contents a = go (is_established (primary_connection h))
   where
     go : (b : Bool) → HasOpening o (submitted_with b h first contents)
     go true = kept o h _ refl refl refl refl a
@@ -41,10 +41,10 @@ kept-faults o h number offsets a = go (accepted_at h number)
     go (Some accepted) = kept o h _ refl refl refl refl a
 
 kept-begins : (o : Opening) (h : PrimaryHistory) (peer : Tuple) (decided : Decision) → HasOpening o h
-    → HasOpening o (begun_with decided (record (with_outward (with_frame (Ok (UuidsFrame peer))) h) { peer = Some peer }))
+    → HasOpening o (begun_with decided (record (with_primary_connection (with_frame (Ok (UuidsFrame peer))) h) { peer = Some peer }))
 kept-begins o h peer decided a = go decided
   where
-    go : (v : Decision) → HasOpening o (begun_with v (record (with_outward (with_frame (Ok (UuidsFrame peer))) h) { peer = Some peer }))
+    go : (v : Decision) → HasOpening o (begun_with v (record (with_primary_connection (with_frame (Ok (UuidsFrame peer))) h) { peer = Some peer }))
     go NoSync = kept o h _ refl refl refl refl a
     go BitmapSync = kept o h _ refl refl refl refl a
     go FullSync = kept o h _ refl refl refl refl a

@@ -8,11 +8,12 @@ use Rattle.blocks.specs.declared.settings.Settings.{Settings}
 use Rattle.blocks.specs.declared.settings.Protocol.{Protocol}
 use Rattle.blocks.specs.declared.settings.Protocol.TheVariants as protocol
 use Rattle.model.specs.Contents.{Write}
-use Rattle.model.specs.Stream.{Item, WriteItem, IsBeginning, is_whole}
+use Rattle.model.specs.Stream.{StreamItem, WriteItem, IsBeginning, is_whole}
 use Rattle.model.specs.Frames.{Packet, DataFrame, RsDataReplyFrame, BarrierFrame, ProtocolFrame, UuidsFrame, SizesFrame, SyncUuidFrame, RecvAckFrame}
 use Rattle.model.specs.Frames.{WriteAckFrame, RsWriteAckFrame, BarrierAckFrame, Acknowledged, Received, naming}
-use Rattle.model.specs.Primary.{Outward, PrimaryHistory, items_sent, accepted_frames, same_naming, is_recv_ack, is_write_ack, is_answered_by, outward_at}
-use Rattle.model.specs.Secondary.{Inward, SecondaryHistory, items_taken, answers_due, inward_at}
+use Rattle.model.specs.Primary.{PrimaryConnection, PrimaryHistory, items_sent, accepted_frames, same_naming, is_recv_ack, is_write_ack, is_answered_by}
+use Rattle.model.specs.Primary.{primary_connection_at}
+use Rattle.model.specs.Secondary.{SecondaryConnection, SecondaryHistory, items_taken, answers_due, secondary_connection_at}
 use Rattle.model.specs.LocalRuns.{primary_run, secondary_run}
 use Rattle.model.specs.Headline.{Promise}
 use Rattle.model.specs.Theorems.{primary_at, secondary_at}
@@ -25,7 +26,7 @@ use Rattle.laws.proofs.Primary.HomesMoves.{homes-kept, homes-released, homes-ope
 use Rattle.laws.proofs.Lists.Picks.{pick-any}
 use Rattle.laws.proofs.Joining.Taking.{takes_a_beginning, read}
 use Rattle.laws.proofs.Lists.Each.{Each, each-get}
-use Rattle.laws.proofs.Joining.Ends.{outward-there, each-at}
+use Rattle.laws.proofs.Joining.Ends.{primary-connection-there, each-at}
 use Rattle.model.specs.Primary.{was_received, was_written}
 use Rattle.laws.proofs.Rules.Answered.{answered-has}
 
@@ -82,7 +83,7 @@ behind-hello a b c packet due (suc (suc zero)) ha hb hc other at = absurd (let e
 behind-hello a b c packet due (suc (suc (suc n))) ha hb hc other at = (n, at)
 
 -- An accepted acknowledgement was due at the secondary.
-pub was-due : (settings : Settings) (c : Outward) (d : Inward) (n : ℕ) (packet : Packet) → is_hello packet ≡ false
+pub was-due : (settings : Settings) (c : PrimaryConnection) (d : SecondaryConnection) (n : ℕ) (packet : Packet) → is_hello packet ≡ false
     → IsBeginning c.taken (map read (take d.pushed (answers_due settings d)))
     → slice_get (accepted_frames c) n ≡ Some (Ok packet)
     → (m : ℕ) × (slice_get d.due m ≡ Some packet)
@@ -96,7 +97,7 @@ was-due settings c d n packet other joined at =
     (read-back (take d.pushed (answers_due settings d)) n packet pushed) in
     behind-hello _ _ _ packet d.due n refl refl refl other there
 
-promise-of : (asked : Protocol) (settings : Settings) (c : Outward) (d : Inward) (write : Write) (place : ℕ) → IsTruthful d
+promise-of : (asked : Protocol) (settings : Settings) (c : PrimaryConnection) (d : SecondaryConnection) (write : Write) (place : ℕ) → IsTruthful d
     → IsBeginning c.taken (map read (take d.pushed (answers_due settings d)))
     → IsBeginning (items_taken d) (take (items_sent c) c.stream) → slice_get c.stream place ≡ Some (WriteItem write)
     → is_answered_by asked c place (WriteItem write) ≡ true → Promise asked c d write place
@@ -124,7 +125,7 @@ promise-of asked settings c d write place truthful joined items item answered =
         get-beginning (items_taken d) c.stream place names.item
         (begins-trans (items_taken d) (take (items_sent c) c.stream) c.stream items (begins-take (items_sent c) c.stream)) taken in
         let is : names.item ≡ WriteItem write = cc in
-        subst (λ (i : Item). is_whole d.applied place i ≡ true) is (subst (λ n. is_whole d.applied n names.item ≡ true) (sym same) names.whole)
+        subst (λ (i : StreamItem). is_whole d.applied place i ≡ true) is (subst (λ n. is_whole d.applied n names.item ≡ true) (sym same) names.whole)
 
 -- each write that completed over the link has what its protocol promises
 pub keeps_promises : JoinedRunsKeepPromises
@@ -142,14 +143,15 @@ keeps_promises o here there any joined =
           let same : one ≡ two = cc in
           let kk : l.connection ≡ k = ap (λ (x : StreamPosition). x.index) same in
           let pp : l.place ≡ place = ap (λ (x : StreamPosition). x.place) same in
-          let end : l.end ≡ outward_at p (suc k) = sym (outward-there p k l.end (subst (λ n. slice_get p.connections n ≡ Some l.end) kk l.there)) in
-          let item : slice_get (outward_at p (suc k)).stream place ≡ Some (WriteItem entry.write) =
-          subst (λ (x : Outward). slice_get x.stream place ≡ Some (WriteItem entry.write)) end
+          let end : l.end ≡ primary_connection_at p (suc k) =
+          sym (primary-connection-there p k l.end (subst (λ n. slice_get p.connections n ≡ Some l.end) kk l.there)) in
+          let item : slice_get (primary_connection_at p (suc k)).stream place ≡ Some (WriteItem entry.write) =
+          subst (λ (x : PrimaryConnection). slice_get x.stream place ≡ Some (WriteItem entry.write)) end
           (subst (λ n. slice_get l.end.stream n ≡ Some (WriteItem entry.write)) pp l.item) in
-          let answered : is_answered_by p.settings.protocol (outward_at p (suc k)) place (WriteItem entry.write) ≡ true =
-          subst (λ (x : Outward). is_answered_by p.settings.protocol x place (WriteItem entry.write) ≡ true) end
+          let answered : is_answered_by p.settings.protocol (primary_connection_at p (suc k)) place (WriteItem entry.write) ≡ true =
+          subst (λ (x : PrimaryConnection). is_answered_by p.settings.protocol x place (WriteItem entry.write) ≡ true) end
           (subst (λ n. is_answered_by p.settings.protocol l.end n (WriteItem entry.write) ≡ true) pp l.answered) in
-          promise-of p.settings.protocol s.settings (outward_at p (suc k)) (inward_at s (suc k)) entry.write place
+          promise-of p.settings.protocol s.settings (primary_connection_at p (suc k)) (secondary_connection_at s (suc k)) entry.write place
           (each-at IsTruthful s (λ j d at. each-get IsTruthful s.connections j d truthful at) (truthful-none s) (suc k))
           (joined.back (suc k)) (takes_a_beginning p s joined (suc k)) item answered;
       home = λ n entry at linked. let l : IsLinked p.settings.protocol p.connections entry = homes.journal n entry at linked in (

@@ -10,11 +10,11 @@ use Rattle.blocks.specs.declared.outcome.What.{What}
 use Rattle.blocks.specs.declared.settings.Settings.{Settings}
 use Rattle.blocks.specs.declared.tuple.Tuple.{Tuple}
 use Rattle.model.specs.Contents.{Write, is_range}
-use Rattle.model.specs.Stream.{Item, WriteItem, ResyncItem, BarrierItem, SyncUuidItem, UuidsItem, epoch_of, last_epoch}
+use Rattle.model.specs.Stream.{StreamItem, WriteItem, ResyncItem, BarrierItem, SyncUuidItem, UuidsItem, epoch_of, last_epoch}
 use Rattle.model.specs.Stream.{IsLawful, number_of}
 use Rattle.model.specs.Frames.{Packet, ProtocolFrame, SizesFrame, UuidsFrame, frame_of, hello_of}
-use Rattle.model.specs.Primary.{Outward, frames_due}
-use Rattle.model.specs.Secondary.{Inward, SecondaryHistory, items_taken}
+use Rattle.model.specs.Primary.{PrimaryConnection, frames_due}
+use Rattle.model.specs.Secondary.{SecondaryConnection, SecondaryHistory, items_taken}
 use Rattle.model.specs.SecondarySteps.{Checked, checking_hello, checking_item, checking}
 use Rattle.laws.proofs.Rules.FramesDue.{due-hello, due-item}
 use Rattle.laws.proofs.Rules.EpochEnds.{most_writes}
@@ -52,7 +52,7 @@ hello-fine settings tuple (suc (suc (suc n))) packet h same early at = absurd (o
 -- Items.
 
 -- an item of a lawful stream shares no block with those of its epoch before it
-apart-front : (most : ℕ) (stream : List Item) (m : ℕ) (item : Item) → IsLawful most stream → slice_get stream m ≡ Some item
+apart-front : (most : ℕ) (stream : List StreamItem) (m : ℕ) (item : StreamItem) → IsLawful most stream → slice_get stream m ≡ Some item
     → IsApartFrom item (take m stream)
 apart-front most stream m item lawful at place a epoch there =
     let within = slice_get_within stream m item at in
@@ -61,11 +61,12 @@ apart-front most stream m item lawful at place a epoch there =
     lawful.apart place m a item before.0 epochs before.1 at
 
 -- a write of a lawful stream has a number above those before it
-above-front : (most : ℕ) (stream : List Item) (m : ℕ) (write : Write) → IsLawful most stream → 0 < write.number → slice_get stream m ≡ Some (WriteItem write)
+above-front : (most : ℕ) (stream : List StreamItem) (m : ℕ) (write : Write) → IsLawful most stream → 0 < write.number
+    → slice_get stream m ≡ Some (WriteItem write)
     → IsAbove write.number (take m stream)
 above-front most stream m write lawful first at k x there = below k x (get-front m stream k x there)
   where
-    below : (k : ℕ) (x : Item) → (k < m) × (slice_get stream k ≡ Some x) → number_of x < write.number
+    below : (k : ℕ) (x : StreamItem) → (k < m) × (slice_get stream k ≡ Some x) → number_of x < write.number
     below k (WriteItem a) there = lawful.rising k m a write there.0 there.1 at
     below k (ResyncItem block contents) there = first
     below k (BarrierItem epoch) there = first
@@ -73,10 +74,12 @@ above-front most stream m write lawful first at k x there = below k x (get-front
     below k (UuidsItem tuple) there = first
 
 -- An item of the stream is accepted in its place.
-item-fine : (settings : Settings) (c : Outward) (d : Inward) (m : ℕ) (item : Item) (h : SecondaryHistory) → AreHonestEnds settings c d → h.settings ≡ settings
+item-fine : (settings : Settings) (c : PrimaryConnection) (d : SecondaryConnection) (m : ℕ) (item : StreamItem) (h : SecondaryHistory)
+    → AreHonestEnds settings c d → h.settings ≡ settings
     → items_taken d ≡ take m c.stream → slice_get c.stream m ≡ Some item
     → IsFine (checking_item (frame_of m item) (length (items_taken d)) d h)
-item-fine settings c d m item h e same items at = go item at (subst (λ (l : List Item). MayStand settings l item) (sym items) (e.fit.stream.stands m item at))
+item-fine settings c d m item h e same items at =
+    go item at (subst (λ (l : List StreamItem). MayStand settings l item) (sym items) (e.fit.stream.stands m item at))
   where
     within : m < length c.stream
     within = slice_get_within c.stream m item at
@@ -90,10 +93,11 @@ item-fine settings c d m item h e same items at = go item at (subst (λ (l : Lis
     here : (first count : ℕ) → is_range settings first count ≡ true → IsPlaced h.settings m (length (items_taken d)) first count
     here first count range = record { next = sym size; room = room; range = subst (λ (s : Settings). is_range s first count ≡ true) (sym same) range }
 
-    apart : (x : Item) → slice_get c.stream m ≡ Some x → IsApartFrom x (items_taken d)
+    apart : (x : StreamItem) → slice_get c.stream m ≡ Some x → IsApartFrom x (items_taken d)
     apart x there = subst (IsApartFrom x) (sym items) (apart-front (most_writes settings) c.stream m x e.lawful there)
 
-    go : (x : Item) → slice_get c.stream m ≡ Some x → MayStand settings (items_taken d) x → IsFine (checking_item (frame_of m x) (length (items_taken d)) d h)
+    go : (x : StreamItem) → slice_get c.stream m ≡ Some x → MayStand settings (items_taken d) x
+        → IsFine (checking_item (frame_of m x) (length (items_taken d)) d h)
     go (WriteItem write) there may = takes-write IsFine (length (items_taken d)) d h (λ done. tt) write m (record {
       here = here write.first (length write.contents) may;
       above = subst (IsAbove write.number) (sym items) (above-front (most_writes settings) c.stream m write e.lawful (e.numbered m write there) there);
@@ -107,7 +111,8 @@ item-fine settings c d m item h e same items at = go item at (subst (λ (l : Lis
     go (UuidsItem tuple) there may = takes-end IsFine (length (items_taken d)) d h (λ done. tt) tuple room may
 
 -- Each frame that the primary pushed is accepted when its turn comes.
-pub receiving-fine : (settings : Settings) (c : Outward) (d : Inward) (packet : Packet) (h : SecondaryHistory) → AreHonestEnds settings c d → d.closed ≡ false
+pub receiving-fine : (settings : Settings) (c : PrimaryConnection) (d : SecondaryConnection) (packet : Packet) (h : SecondaryHistory)
+    → AreHonestEnds settings c d → d.closed ≡ false
     → h.settings ≡ settings
     → slice_get (take c.pushed (frames_due settings c)) (length d.taken) ≡ Some packet → IsFine (checking (Ok packet) d h)
 receiving-fine settings c d packet h e standing same next = go (nat_lt (length d.taken) 3) refl

@@ -7,10 +7,11 @@ use Rattle.std.proofs.lemmas.Bool.{cases_Bool, both_ways, and_parts, or_parts, n
 use Rattle.blocks.specs.Positions.{StreamPosition}
 use Rattle.blocks.specs.declared.refusal.Refusal.{Refusal}
 use Rattle.blocks.specs.declared.refusal.Refusal.TheVariants.{ReadFault, StrangeReceipt, NotDrained}
-use Rattle.model.specs.Stream.{Item, below, IsBeginning}
+use Rattle.model.specs.Stream.{StreamItem, below, IsBeginning}
 use Rattle.model.specs.Refusals.{first_refusal}
-use Rattle.model.specs.Primary.{Kind, Linked, Alone, Completion, PrimaryHistory, no_outward, outward, outward_at, items_sent, local_map, next_local, Outward}
-use Rattle.model.specs.Secondary.{SecondaryHistory, inward, inward_at, items_taken, secondary_map, is_drained}
+use Rattle.model.specs.Primary.{CompletionKind, Linked, Alone, Completion, PrimaryHistory, no_primary_connection, primary_connection, primary_connection_at}
+use Rattle.model.specs.Primary.{items_sent, local_map, next_local, PrimaryConnection}
+use Rattle.model.specs.Secondary.{SecondaryHistory, secondary_connection, secondary_connection_at, items_taken, secondary_map, is_drained}
 use Rattle.model.specs.Pair.{same_block}
 use Rattle.model.specs.Headline.{IsJoined, TakesABeginning, HoldsEarlierEpochs, KeepsPromises, Headline, is_marked}
 use Rattle.model.specs.Settlement.{Receipt, receipt_of, same_kind, same_home, same_receipt, has_strange, is_at_rest, Settlement, settlement, settle_tests}
@@ -21,12 +22,12 @@ use Rattle.laws.proofs.Lists.Last.{last-at}
 use Rattle.laws.proofs.Lists.Once.{Once}
 use Rattle.laws.proofs.Lists.Picks.{pick-any, none-passes}
 use Rattle.laws.proofs.Lists.Tests.{test-passed}
-use Rattle.laws.proofs.Joining.Ends.{outward-there}
+use Rattle.laws.proofs.Joining.Ends.{primary-connection-there}
 use Rattle.laws.proofs.Joining.Taking.{takes_a_beginning}
 
 -- Receipts that are the same.
 
-kinds-same : (a b : Kind) → same_kind a b ≡ true → a ≡ b
+kinds-same : (a b : CompletionKind) → same_kind a b ≡ true → a ≡ b
 kinds-same Linked Linked same = refl
 kinds-same Alone Alone same = refl
 kinds-same Linked Alone same = absurd (cc)
@@ -54,7 +55,7 @@ receipts-same a b same =
     ∙ (ap (λ k. record a { number = b.number; first = b.first; count = b.count; kind = k }) (kinds-same a.kind b.kind last.0)
     ∙ ap (λ h. record b { home = h }) (homes-same a.home b.home last.1))))
 
-kind-itself : (a : Kind) → same_kind a a ≡ true
+kind-itself : (a : CompletionKind) → same_kind a a ≡ true
 kind-itself Linked = refl
 kind-itself Alone = refl
 
@@ -110,33 +111,37 @@ given-once journal earlier (first ∷ receipts) none (suc i) (suc j) receipt at 
 
 -- No more is taken than was sent.
 
-at-most : (n : ℕ) (xs : List Item) → length (take n xs) ≤ n
+at-most : (n : ℕ) (xs : List StreamItem) → length (take n xs) ≤ n
 at-most zero xs = omega arith
 at-most (suc n) [] = omega arith
 at-most (suc n) (x ∷ xs) = let rest = at-most n xs in omega arith
 
 -- the last connection by its number
-last-outward : (p : PrimaryHistory) → outward_at p (length p.connections) ≡ outward p
-last-outward p = elim (last-at (no_outward p.tuple) p.connections) [
+last-primary-connection : (p : PrimaryHistory) → primary_connection_at p (length p.connections) ≡ primary_connection p
+last-primary-connection p = elim (last-at (no_primary_connection p.tuple) p.connections) [
   | inl none ↦ go p.connections none
-  | inr last ↦ ap (outward_at p) (counted p.connections (length p.connections - 1) (outward p) last refl)
-      ∙ outward-there p (length p.connections - 1) (outward p) last
+  | inr last ↦ ap (primary_connection_at p) (counted p.connections (length p.connections - 1) (primary_connection p) last refl)
+      ∙ primary-connection-there p (length p.connections - 1) (primary_connection p) last
 ]
   where
-    go : (cs : List Outward) → cs ≡ [] → outward_at (record p { connections = cs }) (length cs) ≡ outward (record p { connections = cs })
+    go : (cs : List PrimaryConnection) → cs ≡ []
+        → primary_connection_at (record p { connections = cs }) (length cs) ≡ primary_connection (record p { connections = cs })
     go [] is = refl
     go (c ∷ cs) is = absurd (cc)
 
-    counted : (cs : List Outward) (k : ℕ) (c : Outward) → slice_get cs k ≡ Some c → k ≡ length cs - 1 → length cs ≡ suc k
+    counted : (cs : List PrimaryConnection) (k : ℕ) (c : PrimaryConnection) → slice_get cs k ≡ Some c → k ≡ length cs - 1 → length cs ≡ suc k
     counted [] k c at is = absurd (cc)
     counted (x ∷ cs) k c at is = omega arith
 
-no-more-taken : (p : PrimaryHistory) (s : SecondaryHistory) → IsJoined p s → length (items_taken (inward_at s (length p.connections))) ≤ items_sent (outward p)
+no-more-taken : (p : PrimaryHistory) (s : SecondaryHistory) → IsJoined p s
+    → length (items_taken (secondary_connection_at s (length p.connections))) ≤ items_sent (primary_connection p)
 no-more-taken p s joined =
-    let taken = subst (λ (c : Outward). IsBeginning (items_taken (inward_at s (length p.connections))) (take (items_sent c) c.stream)) (last-outward p)
+    let taken = subst (λ (c : PrimaryConnection). IsBeginning (items_taken (secondary_connection_at s (length p.connections))) (take (items_sent c) c.stream))
+    (last-primary-connection p)
     (takes_a_beginning p s joined (length p.connections)) in
-    let fewer = length-begins (items_taken (inward_at s (length p.connections))) (take (items_sent (outward p)) (outward p).stream) taken in
-    let most = at-most (items_sent (outward p)) (outward p).stream in
+    let fewer = length-begins (items_taken (secondary_connection_at s (length p.connections)))
+    (take (items_sent (primary_connection p)) (primary_connection p).stream) taken in
+    let most = at-most (items_sent (primary_connection p)) (primary_connection p).stream in
     omega arith
 
 -- the block differs and is marked
@@ -150,7 +155,7 @@ no-difference p s marks block = elim (cases_Bool (same_block (local_map p block)
 
 -- Where a settlement is not refused, its tests passed, and its numbers are those of both histories.
 record IsSettled (p : PrimaryHistory) (s : SecondaryHistory) (receipts : List Receipt) (numbers : Settlement) : Type 0 where
-  closed : (outward p).closed ≡ true
+  closed : (primary_connection p).closed ≡ true
   strange : has_strange p.journal [] receipts ≡ false
   exact : numbers ≡ settlement p s receipts
 
@@ -162,8 +167,9 @@ settled p s receipts faulty numbers is = go (first_refusal (settle_tests p s rec
     passed none exact =
         let rest = test-passed (not (is_at_rest p s)) NotDrained ((has_strange p.journal [] receipts, StrangeReceipt) ∷ (faulty, ReadFault) ∷ []) none in
         let strange = test-passed (has_strange p.journal [] receipts) StrangeReceipt ((faulty, ReadFault) ∷ []) rest.1 in
-        let at_rest = and_parts ((outward p).closed && (inward s).closed) (is_drained s && is_none (next_local p)) (not-false (is_at_rest p s) rest.0) in
-        record { closed = (and_parts (outward p).closed (inward s).closed at_rest.0).0; strange = strange.0; exact = exact }
+        let at_rest = and_parts ((primary_connection p).closed && (secondary_connection s).closed) (is_drained s && is_none (next_local p))
+        (not-false (is_at_rest p s) rest.0) in
+        record { closed = (and_parts (primary_connection p).closed (secondary_connection s).closed at_rest.0).0; strange = strange.0; exact = exact }
 
     go : (v : Option Refusal) → first_refusal (settle_tests p s receipts faulty) ≡ v
         → elim v as (λ _. Result Settlement Refusal) [ Some refusal ↦ Err refusal | None ↦ Ok (settlement p s receipts) ] ≡ Ok numbers
@@ -204,7 +210,7 @@ settles p s joined headline once receipts faulty numbers is =
       unmarked = λ grounded. ap (λ (n : Settlement). n.unmarked) done.exact
           ∙ none-passes (λ block. not (same_block (local_map p block) (secondary_map s block)) && not (is_marked p block))
           (below (max p.settings.blocks s.settings.blocks))
-          (no-difference p s (headline.marks grounded (ap (λ b. not b && (outward p).begun) done.closed)));
+          (no-difference p s (headline.marks grounded (ap (λ b. not b && (primary_connection p).begun) done.closed)));
       confirmed = anyhow.confirmed;
       once = anyhow.once;
       distinct = anyhow.distinct;

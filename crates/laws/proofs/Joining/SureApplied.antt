@@ -4,12 +4,12 @@ use Rattle.std.proofs.Common.{false, ◌-◌}
 use Rattle.std.proofs.lemmas.Bool.{cases_Bool, both_ways, eqb-true, lt-ltb, cases_lt}
 use Rattle.blocks.specs.declared.settings.Settings.{Settings}
 use Rattle.model.specs.Contents.{Write}
-use Rattle.model.specs.Stream.{Item, WriteItem, ResyncItem, BarrierItem, SyncUuidItem, UuidsItem, Part, IsBeginning, is_whole, has_blocks, contents_of}
+use Rattle.model.specs.Stream.{StreamItem, WriteItem, ResyncItem, BarrierItem, SyncUuidItem, UuidsItem, Part, IsBeginning, is_whole, has_blocks, contents_of}
 use Rattle.model.specs.Stream.{epoch_of}
 use Rattle.model.specs.Frames.{DataFrame, RsDataReplyFrame, BarrierFrame, ProtocolFrame, UuidsFrame, SizesFrame, SyncUuidFrame, RecvAckFrame, WriteAckFrame}
 use Rattle.model.specs.Frames.{RsWriteAckFrame, BarrierAckFrame, Acknowledged, Received, naming, counting}
-use Rattle.model.specs.Primary.{Outward, items_sent, accepted_frames, same_naming, is_rs_write_ack, is_barrier_ack, PrimaryHistory}
-use Rattle.model.specs.Secondary.{Inward, items_taken, answers_due, SecondaryHistory}
+use Rattle.model.specs.Primary.{PrimaryConnection, items_sent, accepted_frames, same_naming, is_rs_write_ack, is_barrier_ack, PrimaryHistory}
+use Rattle.model.specs.Secondary.{SecondaryConnection, items_taken, answers_due, SecondaryHistory}
 use Rattle.model.specs.LocalRuns.{PrimaryEvent, primary_run, SecondaryEvent, secondary_run}
 use Rattle.model.specs.Headline.{IsJoined}
 use Rattle.model.specs.Theorems.{Opening, primary_at, secondary_at}
@@ -60,63 +60,66 @@ resync-ack of (Ok (RsWriteAckFrame ack)) h = (ack, refl, h)
 resync-ack of (Ok (BarrierAckFrame number size)) h = absurd (cc)
 
 -- an item is whole if it is so where it has blocks
-whole-blocks : (part : Part) (place : ℕ) (item : Item) → (has_blocks item ≡ true → is_whole part place item ≡ true) → is_whole part place item ≡ true
+whole-blocks : (part : Part) (place : ℕ) (item : StreamItem) → (has_blocks item ≡ true → is_whole part place item ≡ true) → is_whole part place item ≡ true
 whole-blocks part place item whole = elim (cases_Bool (has_blocks item)) [
   | inl blocks ↦ whole blocks
   | inr none ↦ whole-from part place item (λ offset less. absurd (both_ways (has_blocks item) none (lt-ltb 0 (length (contents_of item)) (omega arith))))
 ]
 
 -- What the secondary took on a connection begins the primary's stream.
-pub taken-begins : (p : PrimaryHistory) (s : SecondaryHistory) → NumbersRise s.connections → IsJoined p s → (k j : ℕ) (c : Outward) (d : Inward)
+pub taken-begins : (p : PrimaryHistory) (s : SecondaryHistory) → NumbersRise s.connections → IsJoined p s
+    → (k j : ℕ) (c : PrimaryConnection) (d : SecondaryConnection)
     → AreEnds p s k j c d → IsBeginning (items_taken d) c.stream
 taken-begins p s rise joined k j c d ends =
     begins-trans (items_taken d) (take (items_sent c) c.stream) c.stream (items-begin p c d (joined-out p s rise joined k j c d ends))
     (begins-take (items_sent c) c.stream)
 
-sure-write : (o : Opening) (there : List SecondaryEvent) (settings : Settings) (k place : ℕ) (c : Outward) (d : Inward) (write : Write)
+sure-write : (o : Opening) (there : List SecondaryEvent) (settings : Settings) (k place : ℕ) (c : PrimaryConnection) (d : SecondaryConnection) (write : Write)
     → slice_get (secondary_run there (secondary_at o)).connections k ≡ Some d
     → IsBeginning c.taken (map read (take d.pushed (answers_due settings d))) → IsBeginning (items_taken d) c.stream
     → slice_get c.stream place ≡ Some (WriteItem write) → is_sure c place (WriteItem write) ≡ true
     → (slice_get (items_taken d) place ≡ Some (WriteItem write)) × (is_whole d.applied place (WriteItem write) ≡ true)
-sure-write o there settings k place c d write inward joined begins at sure =
+sure-write o there settings k place c d write secondary_connection joined begins at sure =
     let found = pick-any (is_barrier_ack (epoch_of c.stream place)) (accepted_frames c) sure in
     let ack = barrier-ack (epoch_of c.stream place) found.1 found.3 in
     let due = was-due settings c d found.0 (BarrierAckFrame ack.0 ack.1) refl joined (found.2 ∙ ap (λ (f : Received). Some f) ack.2) in
-    let applied = barrier_is_applied o.peer_settings o.peer o.peer_tuple there k due.0 d ack.0 ack.1 inward due.1 in
+    let applied = barrier_is_applied o.peer_settings o.peer o.peer_tuple there k due.0 d ack.0 ack.1 secondary_connection due.1 in
     let number : ack.0 ≡ epoch_of c.stream place = ack.3 in
     let stream : items_taken d ++ begins.0 ≡ c.stream = begins.1 in
-    let epochs : epoch_of (items_taken d ++ begins.0) place ≡ epoch_of c.stream place = ap (λ (l : List Item). epoch_of l place) stream in
+    let epochs : epoch_of (items_taken d ++ begins.0) place ≡ epoch_of c.stream place = ap (λ (l : List StreamItem). epoch_of l place) stream in
     elim (cases_lt place (length (items_taken d))) [
       | inl within ↦
           let taken : slice_get (items_taken d) place ≡ Some (WriteItem write) = sym (get-grows (items_taken d) begins.0 place within)
-          ∙ (ap (λ (l : List Item). slice_get l place) stream ∙ at) in
+          ∙ (ap (λ (l : List StreamItem). slice_get l place) stream ∙ at) in
           let early : epoch_of (items_taken d) place ≤ ack.0 = let same = epoch-grows (items_taken d) begins.0 place (omega arith) in omega arith in
           (taken, whole-blocks d.applied place (WriteItem write) (λ blocks. applied.1 place (WriteItem write) taken early blocks))
       | inr behind ↦ absurd (let late = epoch-behind (items_taken d) begins.0 place behind in let upto = applied.0 in omega arith)
     ]
 
-sure-resync : (o : Opening) (there : List SecondaryEvent) (settings : Settings) (k place : ℕ) (c : Outward) (d : Inward) (block : ℕ) (contents : List ℕ)
+sure-resync : (o : Opening) (there : List SecondaryEvent) (settings : Settings) (k place : ℕ) (c : PrimaryConnection) (d : SecondaryConnection) (block : ℕ)
+    (contents : List ℕ)
     → slice_get (secondary_run there (secondary_at o)).connections k ≡ Some d
     → IsBeginning c.taken (map read (take d.pushed (answers_due settings d))) → IsBeginning (items_taken d) c.stream
     → slice_get c.stream place ≡ Some (ResyncItem block contents) → is_sure c place (ResyncItem block contents) ≡ true
     → (slice_get (items_taken d) place ≡ Some (ResyncItem block contents)) × (is_whole d.applied place (ResyncItem block contents) ≡ true)
-sure-resync o there settings k place c d block contents inward joined begins at sure =
-    let item : Item = ResyncItem block contents in
+sure-resync o there settings k place c d block contents secondary_connection joined begins at sure =
+    let item : StreamItem = ResyncItem block contents in
     let found = pick-any (is_rs_write_ack (naming place item)) (accepted_frames c) sure in
     let ack = resync-ack (naming place item) found.1 found.3 in
     let due = was-due settings c d found.0 (RsWriteAckFrame ack.0) refl joined (found.2 ∙ ap (λ (f : Received). Some f) ack.1) in
-    let applied = resynced_is_applied o.peer_settings o.peer o.peer_tuple there k due.0 d ack.0 inward due.1 in
+    let applied = resynced_is_applied o.peer_settings o.peer o.peer_tuple there k due.0 d ack.0 secondary_connection due.1 in
     let same : place ≡ ack.0.place = same-place (naming place item) ack.0 ack.2 in
     let taken : slice_get (items_taken d) place ≡ Some applied.0 = subst (λ n. slice_get (items_taken d) n ≡ Some applied.0) (sym same) applied.1 in
     let is : applied.0 ≡ item = same-at c.stream place applied.0 item (get-beginning (items_taken d) c.stream place applied.0 begins taken) at in (
-      subst (λ (i : Item). slice_get (items_taken d) place ≡ Some i) is taken,
-      subst (λ (i : Item). is_whole d.applied place i ≡ true) is (subst (λ n. is_whole d.applied n applied.0 ≡ true) (sym same) applied.2),
+      subst (λ (i : StreamItem). slice_get (items_taken d) place ≡ Some i) is taken,
+      subst (λ (i : StreamItem). is_whole d.applied place i ≡ true) is (subst (λ n. is_whole d.applied n applied.0 ≡ true) (sym same) applied.2),
     )
 
 -- What is surely on the peer's disk, as the primary reads it, was taken at its place, and all of it is applied.
 pub sure-is-applied : (o : Opening) (here : List PrimaryEvent) (there : List SecondaryEvent)
     → IsJoined (primary_run here (primary_at o)) (secondary_run there (secondary_at o))
-    → (k j place : ℕ) (c : Outward) (d : Inward) (item : Item) → AreEnds (primary_run here (primary_at o)) (secondary_run there (secondary_at o)) k j c d
+    → (k j place : ℕ) (c : PrimaryConnection) (d : SecondaryConnection) (item : StreamItem)
+    → AreEnds (primary_run here (primary_at o)) (secondary_run there (secondary_at o)) k j c d
     → slice_get c.stream place ≡ Some item → is_sure c place item ≡ true
     → (slice_get (items_taken d) place ≡ Some item) × (is_whole d.applied place item ≡ true)
 sure-is-applied o here there joined k j place c d item ends at sure = go item at sure
@@ -130,18 +133,20 @@ sure-is-applied o here there joined k j place c d item ends at sure = go item at
     rise : NumbersRise s.connections
     rise = numbers-rise there (secondary_at o) refl
 
-    go : (item : Item) → slice_get c.stream place ≡ Some item → is_sure c place item ≡ true
+    go : (item : StreamItem) → slice_get c.stream place ≡ Some item → is_sure c place item ≡ true
         → (slice_get (items_taken d) place ≡ Some item) × (is_whole d.applied place item ≡ true)
-    go (WriteItem write) at sure = sure-write o there s.settings j place c d write ends.inward (joined-back p s rise joined k j c d ends)
+    go (WriteItem write) at sure = sure-write o there s.settings j place c d write ends.secondary_connection (joined-back p s rise joined k j c d ends)
         (taken-begins p s rise joined k j c d ends) at sure
-    go (ResyncItem block contents) at sure = sure-resync o there s.settings j place c d block contents ends.inward (joined-back p s rise joined k j c d ends)
+    go (ResyncItem block contents) at sure = sure-resync o there s.settings j place c d block contents ends.secondary_connection
+        (joined-back p s rise joined k j c d ends)
         (taken-begins p s rise joined k j c d ends) at sure
     go (BarrierItem epoch) at sure = absurd (cc)
     go (SyncUuidItem word) at sure = absurd (cc)
     go (UuidsItem tuple) at sure = absurd (cc)
 
 -- What is sure on a connection was taken there, so the secondary opened it.
-pub sure-taken : (c : Outward) (place : ℕ) (item : Item) → is_sure c place item ≡ true → (n : ℕ) × (frame : Received) × (slice_get c.taken n ≡ Some frame)
+pub sure-taken : (c : PrimaryConnection) (place : ℕ) (item : StreamItem) → is_sure c place item ≡ true
+    → (n : ℕ) × (frame : Received) × (slice_get c.taken n ≡ Some frame)
 sure-taken c place item sure = go item sure
   where
     front : IsBeginning (accepted_frames c) c.taken
@@ -154,7 +159,7 @@ sure-taken c place item sure = go item sure
       get-beginning (accepted_frames c) c.taken found.0 found.1 front found.2,
     )
 
-    go : (item : Item) → is_sure c place item ≡ true → (n : ℕ) × (frame : Received) × (slice_get c.taken n ≡ Some frame)
+    go : (item : StreamItem) → is_sure c place item ≡ true → (n : ℕ) × (frame : Received) × (slice_get c.taken n ≡ Some frame)
     go (WriteItem write) sure = one (is_barrier_ack (epoch_of c.stream place)) sure
     go (ResyncItem block contents) sure = one (is_rs_write_ack (naming place (ResyncItem block contents))) sure
     go (BarrierItem epoch) sure = absurd (cc)

@@ -14,13 +14,15 @@ use Rattle.blocks.specs.declared.settings.Settings.{Settings}
 use Rattle.model.specs.Stream.{ResyncItem, IsBeginning, below, contents_of}
 use Rattle.model.specs.Frames.{Packet, Received}
 use Rattle.model.specs.Refusals.{Test, first_refusal, done_with}
-use Rattle.model.specs.Primary.{PrimaryHistory, Outward, OnDisk, no_outward, last_of, outward, with_outward, items_sent, frames_due, local_map, free_block}
+use Rattle.model.specs.Primary.{PrimaryHistory, PrimaryConnection, OnDisk, no_primary_connection, last_of, primary_connection, with_primary_connection}
+use Rattle.model.specs.Primary.{items_sent, frames_due, local_map, free_block}
 use Rattle.model.specs.Marks.{releasing}
 use Rattle.model.specs.PrimarySteps.{follows, appending, succeeding, open_tests, open_primary, opened, submit_tests, submitted, submit, is_unfinished}
 use Rattle.model.specs.PrimarySteps.{with_outcome, local_done, accepted_at, faulted, local_fault, send_tests, sending, send, resync_tests, resync_next}
 use Rattle.model.specs.PrimarySteps.{resync_fault, closing, close_primary}
 use Rattle.model.specs.Acknowledgements.{take_frame, ack_in}
-use Rattle.model.specs.Secondary.{SecondaryHistory, Inward, no_inward, inward, with_inward, items_taken, answers_due}
+use Rattle.model.specs.Secondary.{SecondaryHistory, SecondaryConnection, no_secondary_connection, secondary_connection, with_secondary_connection, items_taken}
+use Rattle.model.specs.Secondary.{answers_due}
 use Rattle.model.specs.SecondarySteps.{succeeding_secondary, take_item, receive, peer_tests, peer, peer_fault, applying, failing}
 use Rattle.model.specs.SecondarySteps.{answering_with, ack_out_tests, ack_out, open_secondary, close_secondary}
 use Rattle.model.specs.LocalRuns.{PrimaryEvent, primary_run, SecondaryEvent, secondary_run}
@@ -58,8 +60,8 @@ record AreHonest (settings : Settings) (p : PrimaryHistory) (s : SecondaryHistor
   pub there : s.settings ≡ settings
   pub same : length p.connections ≡ length s.connections
   pub counted : AreCounted s.connections
-  pub ends : (k : ℕ) (c : Outward) (d : Inward) → AreEnds p s k k c d → AreHonestEnds settings c d
-  pub begins : (k : ℕ) (c : Outward) (d : Inward) → AreEnds p s k k c d → IsBeginning (items_taken d) (take (items_sent c) c.stream)
+  pub ends : (k : ℕ) (c : PrimaryConnection) (d : SecondaryConnection) → AreEnds p s k k c d → AreHonestEnds settings c d
+  pub begins : (k : ℕ) (c : PrimaryConnection) (d : SecondaryConnection) → AreEnds p s k k c d → IsBeginning (items_taken d) (take (items_sent c) c.stream)
 
 -- two nodes that ran by themselves and whose frames are joined are so
 honest-joined : (o : Opening) (events : List PrimaryEvent) (others : List SecondaryEvent) → SharesSettings o → HasRanges o
@@ -83,15 +85,15 @@ honest-joined o events others shares ranges joined same counted =
       counted = counted;
       begins = λ k c d ends. items-begin p c d (joined-out p s rise joined k k c d ends);
       ends = λ k c d ends. record {
-        lawful = primary_lawful o.settings o.local o.own o.marks events ranges.here k c ends.outward;
-        fit = each-get (IsFitEnd o.settings) p.connections k c fit.ends ends.outward;
-        orderly = each-get (IsOrderly o.settings.protocol) s.connections k d orderly.ends ends.inward;
+        lawful = primary_lawful o.settings o.local o.own o.marks events ranges.here k c ends.primary_connection;
+        fit = each-get (IsFitEnd o.settings) p.connections k c fit.ends ends.primary_connection;
+        orderly = each-get (IsOrderly o.settings.protocol) s.connections k d orderly.ends ends.secondary_connection;
         numbered = λ place write at.
-            let home = homes.homed k place c write ends.outward at in
+            let home = homes.homed k place c write ends.primary_connection at in
             let number = homes.numbered home.0 home.1 home.2 in
             let same : home.1.write.number ≡ write.number = ap (λ w. w.number) home.3 in
             omega arith;
-        refused = homes.refused k c ends.outward;
+        refused = homes.refused k c ends.primary_connection;
         out = subst (λ (x : Settings). IsBeginning d.taken (map read (take c.pushed (frames_due x c)))) here (joined-out p s rise joined k k c d ends);
         back = subst (λ (x : Settings). IsBeginning c.taken (map read (take d.pushed (answers_due x d)))) there (joined-back p s rise joined k k c d ends);
       };
@@ -114,14 +116,15 @@ honest-run o events shares ranges =
 
 -- the last ends, where one of them is open
 last-ends : (settings : Settings) (p : PrimaryHistory) (s : SecondaryHistory) → AreHonest settings p s
-    → ((outward p).closed ≡ false) ⊎ ((inward s).closed ≡ false) → AreEnds p s (length p.connections - 1) (length p.connections - 1) (outward p) (inward s)
-last-ends settings p s a standing = go (last-at (no_outward p.tuple) p.connections) (last-at (no_inward s) s.connections)
+    → ((primary_connection p).closed ≡ false) ⊎ ((secondary_connection s).closed ≡ false)
+    → AreEnds p s (length p.connections - 1) (length p.connections - 1) (primary_connection p) (secondary_connection s)
+last-ends settings p s a standing = go (last-at (no_primary_connection p.tuple) p.connections) (last-at (no_secondary_connection s) s.connections)
   where
-    none-here : p.connections ≡ [] → (outward p).closed ≡ true
-    none-here none = ap (λ (l : List Outward). (last_of (no_outward p.tuple) l).closed) none
+    none-here : p.connections ≡ [] → (primary_connection p).closed ≡ true
+    none-here none = ap (λ (l : List PrimaryConnection). (last_of (no_primary_connection p.tuple) l).closed) none
 
-    none-there : s.connections ≡ [] → (inward s).closed ≡ true
-    none-there none = ap (λ (l : List Inward). (last_of (no_inward s) l).closed) none
+    none-there : s.connections ≡ [] → (secondary_connection s).closed ≡ true
+    none-there none = ap (λ (l : List SecondaryConnection). (last_of (no_secondary_connection s) l).closed) none
 
     no-length : {X : Type 0} (xs : List X) → length xs ≡ 0 → xs ≡ []
     no-length [] size = refl
@@ -129,20 +132,21 @@ last-ends settings p s a standing = go (last-at (no_outward p.tuple) p.connectio
 
     neither : p.connections ≡ [] → s.connections ≡ [] → ⊥
     neither here there = elim standing [
-      | inl still ↦ both_ways (outward p).closed still (none-here here)
-      | inr still ↦ both_ways (inward s).closed still
+      | inl still ↦ both_ways (primary_connection p).closed still (none-here here)
+      | inr still ↦ both_ways (secondary_connection s).closed still
           (none-there there)
     ]
 
-    go : (p.connections ≡ []) ⊎ (slice_get p.connections (length p.connections - 1) ≡ Some (outward p))
-        → (s.connections ≡ []) ⊎ (slice_get s.connections (length s.connections - 1) ≡ Some (inward s))
-        → AreEnds p s (length p.connections - 1) (length p.connections - 1) (outward p) (inward s)
+    go : (p.connections ≡ []) ⊎ (slice_get p.connections (length p.connections - 1) ≡ Some (primary_connection p))
+        → (s.connections ≡ []) ⊎ (slice_get s.connections (length s.connections - 1) ≡ Some (secondary_connection s))
+        → AreEnds p s (length p.connections - 1) (length p.connections - 1) (primary_connection p) (secondary_connection s)
     go (inl none) other = absurd (neither none (no-length s.connections (sym a.same ∙ ap length none)))
     go (inr here) (inl none) = absurd (neither (no-length p.connections (a.same ∙ ap length none)) none)
     go (inr here) (inr there) =
-        let last : slice_get s.connections (length p.connections - 1) ≡ Some (inward s) = subst (λ n. slice_get s.connections (n - 1) ≡ Some (inward s))
+        let last : slice_get s.connections (length p.connections - 1) ≡ Some (secondary_connection s) =
+        subst (λ n. slice_get s.connections (n - 1) ≡ Some (secondary_connection s))
         (sym a.same) there in
-        record { outward = here; inward = last; number = a.counted (length p.connections - 1) (inward s) last }
+        record { primary_connection = here; secondary_connection = last; number = a.counted (length p.connections - 1) (secondary_connection s) last }
 
 -- Replies.
 
@@ -181,9 +185,10 @@ mild-other refusal other = other
 
 -- Steps of the primary.
 
-honest-submit : (first : ℕ) (contents : List (List ℕ)) (starved : Bool) (h : PrimaryHistory) → IsHonestReply (submit first contents starved h).0
-honest-submit first contents starved h =
-    by-tests (submit_tests h first contents starved) h (λ _. succeeding (what.Write (suc (length h.writes))) (submitted h first contents)) refl (λ none. tt)
+honest-submit : (first : ℕ) (contents : List (List ℕ)) (out_of_memory : Bool) (h : PrimaryHistory) → IsHonestReply (submit first contents out_of_memory h).0
+honest-submit first contents out_of_memory h =
+    by-tests (submit_tests h first contents out_of_memory) h (λ _. succeeding (what.Write (suc (length h.writes))) (submitted h first contents)) refl
+    (λ none. tt)
 
 honest-local : (number : ℕ) (h : PrimaryHistory) → IsHonestReply (local_done number h).0
 honest-local number h = by-tests ((not (is_unfinished h number), UnknownJob) ∷ []) h (λ _. succeeding what.Nothing (releasing h (with_outcome number OnDisk h)))
@@ -196,28 +201,30 @@ honest-fault number kept h =
     (λ _. local_fault number (below kept) h) refl (λ none.
     by-tests ((not (is_unfinished h number), UnknownJob) ∷ []) h (λ _. succeeding what.Nothing (faulted number (below kept) h)) refl (λ free. tt))
 
-honest-send : (room starved : Bool) (h : PrimaryHistory) → IsHonestReply (send room starved h).0
-honest-send room starved h = by-tests (send_tests h room starved) h (λ _. succeeding (sending h) (with_outward pushing h)) refl (λ none. tt)
+honest-send : (room out_of_memory : Bool) (h : PrimaryHistory) → IsHonestReply (send room out_of_memory h).0
+honest-send room out_of_memory h = by-tests (send_tests h room out_of_memory) h (λ _. succeeding (sending h) (with_primary_connection pushing h)) refl
+    (λ none. tt)
 
-honest-resync : (starved : Bool) (h : PrimaryHistory) → IsHonestReply (resync_next starved h).0
-honest-resync starved h = by-tests (resync_tests h starved) h (λ _. elim (free_block h) as (λ _. Reply × PrimaryHistory) [
+honest-resync : (out_of_memory : Bool) (h : PrimaryHistory) → IsHonestReply (resync_next out_of_memory h).0
+honest-resync out_of_memory h = by-tests (resync_tests h out_of_memory) h (λ _. elim (free_block h) as (λ _. Reply × PrimaryHistory) [
   | None ↦ (reply.Refused NothingToDo, h)
-  | Some block ↦ succeeding (what.Block (record { 0 = block }) (length (outward h).stream)) (appending (ResyncItem block (unwrap_or (local_map h block) [])) h)
+  | Some block ↦ succeeding (what.Block (record { 0 = block }) (length (primary_connection h).stream))
+      (appending (ResyncItem block (unwrap_or (local_map h block) [])) h)
 ]) refl (λ none. go (free_block h))
   where
     go : (v : Option ℕ) → IsHonestReply (elim v as (λ _. Reply × PrimaryHistory) [
       | None ↦ (reply.Refused NothingToDo, h)
-      | Some block ↦ succeeding (what.Block (record { 0 = block }) (length (outward h).stream))
+      | Some block ↦ succeeding (what.Block (record { 0 = block }) (length (primary_connection h).stream))
           (appending (ResyncItem block (unwrap_or (local_map h block) [])) h)
     ]).0
     go None = refl
     go (Some block) = tt
 
-honest-resync-fault : (starved : Bool) (h : PrimaryHistory) → IsHonestReply (resync_fault starved h).0
-honest-resync-fault starved h = by-tests (resync_tests h starved) h (λ _. (reply.Refused ReadFault, h)) refl (λ none. refl)
+honest-resync-fault : (out_of_memory : Bool) (h : PrimaryHistory) → IsHonestReply (resync_fault out_of_memory h).0
+honest-resync-fault out_of_memory h = by-tests (resync_tests h out_of_memory) h (λ _. (reply.Refused ReadFault, h)) refl (λ none. refl)
 
 honest-close : (h : PrimaryHistory) → IsHonestReply (close_primary h).0
-honest-close h = by-tests (((outward h).closed, NotConnected) ∷ []) h
+honest-close h = by-tests (((primary_connection h).closed, NotConnected) ∷ []) h
     (λ _. let after = follows (closing h) in (reply.Closed (length after.completed), after.history)) refl (λ none. tt)
 
 -- a frame that is read is a packet that was pushed
@@ -226,94 +233,107 @@ read-packet : (v : Option Packet) (frame : Received) → option_map (λ packet. 
 read-packet None frame is = absurd (cc)
 read-packet (Some packet) frame is = (packet, refl, let same : Ok packet ≡ frame = cc in sym same)
 
-honest-frame : (settings : Settings) (h : PairHistory) (packet : Packet) → AreHonest settings h.primary h.secondary → (outward h.primary).closed ≡ false
-    → slice_get (pushed_answers h) (length (outward h.primary).taken) ≡ Some packet
+honest-frame : (settings : Settings) (h : PairHistory) (packet : Packet) → AreHonest settings h.primary h.secondary
+    → (primary_connection h.primary).closed ≡ false
+    → slice_get (pushed_answers h) (length (primary_connection h.primary).taken) ≡ Some packet
     → IsHonestReply (take_frame (Ok packet) h.primary).0
 honest-frame settings h packet a standing next =
     let p : PrimaryHistory = h.primary in
     let s : SecondaryHistory = h.secondary in
     let ends = last-ends settings p s a (inl standing) in
-    let at : slice_get (take (inward s).pushed (answers_due settings (inward s))) (length (outward p).taken) ≡ Some packet
-    = subst (λ (x : Settings). slice_get (take (inward s).pushed (answers_due x (inward s))) (length (outward p).taken) ≡ Some packet) a.there next in
+    let at : slice_get (take (secondary_connection s).pushed (answers_due settings (secondary_connection s))) (length (primary_connection p).taken) ≡ Some
+    packet
+    = subst (λ (x : Settings). slice_get (take (secondary_connection s).pushed (answers_due x (secondary_connection s))) (length (primary_connection p).taken) ≡
+    Some packet) a.there next in
     frame-has (λ r. IsHonestReply r.0) IsFineToo (Ok packet) p
-    (acknowledging-fine settings p (with_outward (with_frame (Ok packet)) p) (inward s) packet a.here a.here (a.ends _ (outward p) (inward s) ends) standing
-    (a.begins _ (outward p) (inward s) ends) at) (λ done fine. tt) (λ error fine. fine)
+    (acknowledging-fine settings p (with_primary_connection (with_frame (Ok packet)) p) (secondary_connection s) packet a.here a.here
+    (a.ends _ (primary_connection p) (secondary_connection s) ends) standing
+    (a.begins _ (primary_connection p) (secondary_connection s) ends) at) (λ done fine. tt) (λ error fine. fine)
 
-honest-ack-in : (settings : Settings) (starved : Bool) (h : PairHistory) → AreHonest settings h.primary h.secondary
-    → IsHonestReply (ack_in (next_answer h) starved h.primary).0
-honest-ack-in settings starved h a = ack-in-has (λ r. IsHonestReply r.0) (next_answer h) starved h.primary (λ refusal other. mild-other refusal other)
+honest-ack-in : (settings : Settings) (out_of_memory : Bool) (h : PairHistory) → AreHonest settings h.primary h.secondary
+    → IsHonestReply (ack_in (next_answer h) out_of_memory h.primary).0
+honest-ack-in settings out_of_memory h a = ack-in-has (λ r. IsHonestReply r.0) (next_answer h) out_of_memory h.primary
+    (λ refusal other. mild-other refusal other)
     (λ taken is standing.
-    let found = read-packet (slice_get (pushed_answers h) (length (outward h.primary).taken)) taken is in
+    let found = read-packet (slice_get (pushed_answers h) (length (primary_connection h.primary).taken)) taken is in
     subst (λ (f : Received). IsHonestReply (take_frame f h.primary).0) (sym found.2) (honest-frame settings h found.0 a standing found.1))
 
 -- Steps of the secondary.
 
-honest-item : (settings : Settings) (h : PairHistory) (packet : Packet) → AreHonest settings h.primary h.secondary → (inward h.secondary).closed ≡ false
-    → slice_get (pushed_frames h) (length (inward h.secondary).taken) ≡ Some packet
+honest-item : (settings : Settings) (h : PairHistory) (packet : Packet) → AreHonest settings h.primary h.secondary
+    → (secondary_connection h.secondary).closed ≡ false
+    → slice_get (pushed_frames h) (length (secondary_connection h.secondary).taken) ≡ Some packet
     → IsHonestReply (take_item (Ok packet) h.secondary).0
 honest-item settings h packet a standing next =
     let p : PrimaryHistory = h.primary in
     let s : SecondaryHistory = h.secondary in
     let ends = last-ends settings p s a (inr standing) in
-    let at : slice_get (take (outward p).pushed (frames_due settings (outward p))) (length (inward s).taken) ≡ Some packet
-    = subst (λ (x : Settings). slice_get (take (outward p).pushed (frames_due x (outward p))) (length (inward s).taken) ≡ Some packet) a.here next in
+    let at : slice_get (take (primary_connection p).pushed (frames_due settings (primary_connection p))) (length (secondary_connection s).taken) ≡ Some packet
+    = subst (λ (x : Settings). slice_get (take (primary_connection p).pushed (frames_due x (primary_connection p))) (length (secondary_connection s).taken) ≡
+    Some packet) a.here next in
     item-has (λ r. IsHonestReply r.0) IsFine (Ok packet) s
-    (receiving-fine settings (outward p) (inward s) packet (with_inward (framed (Ok packet)) s) (a.ends _ (outward p) (inward s) ends) standing a.there at)
+    (receiving-fine settings (primary_connection p) (secondary_connection s) packet (with_secondary_connection (framed (Ok packet)) s)
+    (a.ends _ (primary_connection p) (secondary_connection s) ends) standing a.there at)
     (λ done fine. tt) (λ refusal fine. fine)
 
-honest-receive : (settings : Settings) (starved : Bool) (h : PairHistory) → AreHonest settings h.primary h.secondary
-    → IsHonestReply (receive (next_frame h) starved h.secondary).0
-honest-receive settings starved h a = receive-has (λ r. IsHonestReply r.0) (next_frame h) starved h.secondary (λ refusal other. mild-other refusal other)
+honest-receive : (settings : Settings) (out_of_memory : Bool) (h : PairHistory) → AreHonest settings h.primary h.secondary
+    → IsHonestReply (receive (next_frame h) out_of_memory h.secondary).0
+honest-receive settings out_of_memory h a = receive-has (λ r. IsHonestReply r.0) (next_frame h) out_of_memory h.secondary
+    (λ refusal other. mild-other refusal other)
     (λ taken is standing.
-    let found = read-packet (slice_get (pushed_frames h) (length (inward h.secondary).taken)) taken is in
+    let found = read-packet (slice_get (pushed_frames h) (length (secondary_connection h.secondary).taken)) taken is in
     subst (λ (f : Received). IsHonestReply (take_item f h.secondary).0) (sym found.2) (honest-item settings h found.0 a standing found.1))
 
 honest-peer : (place : ℕ) (h : SecondaryHistory) → IsHonestReply (peer place h).0
 honest-peer place h =
-    by-tests (peer_tests h place) h (λ _. succeeding_secondary what.Nothing (with_inward (applying h.settings.protocol place) h)) refl (λ none. tt)
+    by-tests (peer_tests h place) h (λ _. succeeding_secondary what.Nothing (with_secondary_connection (applying h.settings.protocol place) h)) refl
+    (λ none. tt)
 
 honest-peer-fault : (place kept : ℕ) (h : SecondaryHistory) → IsHonestReply (peer_fault_kept place kept h).0
 honest-peer-fault place kept h =
     by-tests (peer_tests h place ++ (
-      keeps_too_many kept (option_map (λ item. length (contents_of item)) (slice_get (items_taken (inward h)) place)),
+      keeps_too_many kept (option_map (λ item. length (contents_of item)) (slice_get (items_taken (secondary_connection h)) place)),
       BadRange,
     ) ∷ []) h (λ _. peer_fault place (below kept) h) refl (λ none.
-    by-tests (peer_tests h place) h (λ _. (reply.Ok (done_with what.Nothing), with_inward (failing place (below kept)) h)) refl (λ free. tt))
+    by-tests (peer_tests h place) h (λ _. (reply.Ok (done_with what.Nothing), with_secondary_connection (failing place (below kept)) h)) refl (λ free. tt))
 
-honest-push : (room starved : Bool) (h : SecondaryHistory) → IsHonestReply (ack_out room starved h).0
-honest-push room starved h = by-tests (ack_out_tests h room starved) h
-    (λ _. (reply.Ok (done_with (answering_with h)), with_inward (λ c. record c { pushed = suc c.pushed }) h)) refl (λ none. tt)
+honest-push : (room out_of_memory : Bool) (h : SecondaryHistory) → IsHonestReply (ack_out room out_of_memory h).0
+honest-push room out_of_memory h = by-tests (ack_out_tests h room out_of_memory) h
+    (λ _. (reply.Ok (done_with (answering_with h)), with_secondary_connection (λ c. record c { pushed = suc c.pushed }) h)) refl (λ none. tt)
 
 honest-close-too : (h : SecondaryHistory) → IsHonestReply (close_secondary h).0
-honest-close-too h = by-tests (((inward h).closed, NotConnected) ∷ []) h
-    (λ _. (reply.Ok (done_with what.Nothing), with_inward (λ c. record c { closed = true }) h)) refl (λ none. tt)
+honest-close-too h = by-tests (((secondary_connection h).closed, NotConnected) ∷ []) h
+    (λ _. (reply.Ok (done_with what.Nothing), with_secondary_connection (λ c. record c { closed = true }) h)) refl (λ none. tt)
 
 -- Steps of the pair.
 
-honest-open : (sync loss : ℕ) (starved : Bool) (h : PairHistory) → IsHonestReply (open_pair sync loss starved h).0
-honest-open sync loss starved h = by-tests (open_pair_tests h sync loss starved) h
-    (λ _. let primary = open_primary sync loss starved h.primary in (primary.0, record { primary = primary.1; secondary = (open_secondary 0 h.secondary).1 }))
+honest-open : (sync loss : ℕ) (out_of_memory : Bool) (h : PairHistory) → IsHonestReply (open_pair sync loss out_of_memory h).0
+honest-open sync loss out_of_memory h = by-tests (open_pair_tests h sync loss out_of_memory) h
+    (λ _. let primary = open_primary sync loss out_of_memory h.primary in (
+      primary.0,
+      record { primary = primary.1; secondary = (open_secondary 0 h.secondary).1 },
+    ))
     refl
-    (λ none. by-tests (open_tests h.primary sync loss starved) h.primary (λ _. succeeding what.Nothing (opened h.primary sync loss)) refl (λ free. tt))
+    (λ none. by-tests (open_tests h.primary sync loss out_of_memory) h.primary (λ _. succeeding what.Nothing (opened h.primary sync loss)) refl (λ free. tt))
 
-honest-step : (settings : Settings) (event : Event) (starved : Bool) (h : PairHistory) → AreHonest settings h.primary h.secondary
-    → IsHonestReply (step event starved h).0
-honest-step settings (OpenEvent sync loss) starved h a = honest-open sync loss starved h
-honest-step settings (SubmitEvent first contents) starved h a = honest-submit first contents starved h.primary
-honest-step settings (LocalEvent number) starved h a = honest-local number h.primary
-honest-step settings (LocalFaultEvent number kept) starved h a = honest-fault number kept h.primary
-honest-step settings SendEvent starved h a = honest-send (has_room h) starved h.primary
-honest-step settings ReceiveEvent starved h a = honest-receive settings starved h a
-honest-step settings (PeerEvent place) starved h a = honest-peer place h.secondary
-honest-step settings (PeerFaultEvent place kept) starved h a = honest-peer-fault place kept h.secondary
-honest-step settings AckOutEvent starved h a = honest-push (answers_have_room h) starved h.secondary
-honest-step settings AckInEvent starved h a = honest-ack-in settings starved h a
-honest-step settings ResyncEvent starved h a = honest-resync starved h.primary
-honest-step settings ResyncFaultEvent starved h a = honest-resync-fault starved h.primary
-honest-step settings ClosePrimaryEvent starved h a = honest-close h.primary
-honest-step settings CloseSecondaryEvent starved h a = honest-close-too h.secondary
+honest-step : (settings : Settings) (event : Event) (out_of_memory : Bool) (h : PairHistory) → AreHonest settings h.primary h.secondary
+    → IsHonestReply (step event out_of_memory h).0
+honest-step settings (OpenEvent sync loss) out_of_memory h a = honest-open sync loss out_of_memory h
+honest-step settings (SubmitEvent first contents) out_of_memory h a = honest-submit first contents out_of_memory h.primary
+honest-step settings (LocalEvent number) out_of_memory h a = honest-local number h.primary
+honest-step settings (LocalFaultEvent number kept) out_of_memory h a = honest-fault number kept h.primary
+honest-step settings SendEvent out_of_memory h a = honest-send (has_room h) out_of_memory h.primary
+honest-step settings ReceiveEvent out_of_memory h a = honest-receive settings out_of_memory h a
+honest-step settings (PeerEvent place) out_of_memory h a = honest-peer place h.secondary
+honest-step settings (PeerFaultEvent place kept) out_of_memory h a = honest-peer-fault place kept h.secondary
+honest-step settings AckOutEvent out_of_memory h a = honest-push (answers_have_room h) out_of_memory h.secondary
+honest-step settings AckInEvent out_of_memory h a = honest-ack-in settings out_of_memory h a
+honest-step settings ResyncEvent out_of_memory h a = honest-resync out_of_memory h.primary
+honest-step settings ResyncFaultEvent out_of_memory h a = honest-resync-fault out_of_memory h.primary
+honest-step settings ClosePrimaryEvent out_of_memory h a = honest-close h.primary
+honest-step settings CloseSecondaryEvent out_of_memory h a = honest-close-too h.secondary
 
 -- No step of the pair is refused as a protocol error.
 pub every_step_is_honest : EveryStepIsHonest
-every_step_is_honest o events event starved refusal shares ranges is =
-    subst IsHonestReply is (honest-step o.settings event starved (run events (pair_at o)).1 (honest-run o events shares ranges))
+every_step_is_honest o events event out_of_memory refusal shares ranges is =
+    subst IsHonestReply is (honest-step o.settings event out_of_memory (run events (pair_at o)).1 (honest-run o events shares ranges))

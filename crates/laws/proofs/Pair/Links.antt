@@ -4,14 +4,14 @@ use Rattle.blocks.specs.declared.settings.Settings.{Settings}
 use Rattle.blocks.specs.declared.tuple.Tuple.{Tuple}
 use Rattle.model.specs.Stream.{IsBeginning}
 use Rattle.model.specs.Frames.{Packet, Received, hello_of}
-use Rattle.model.specs.Primary.{Outward, frames_due}
-use Rattle.model.specs.Secondary.{Inward, answers_due}
+use Rattle.model.specs.Primary.{PrimaryConnection, frames_due}
+use Rattle.model.specs.Secondary.{SecondaryConnection, answers_due}
 use Rattle.laws.proofs.Rules.FramesDue.{due-begins}
 use Rattle.laws.proofs.Lists.Beginnings.{begins-trans, take-begins, length-begins, begins-further, begins-map, begins-next, begins-append}
 use Rattle.laws.proofs.Joining.Taking.{read}
 
 -- The ends of a connection: what each took begins what the other pushed, and no more is pushed than is due.
-pub record AreLinked (here there : Settings) (c : Outward) (d : Inward) : Type 0 where
+pub record AreLinked (here there : Settings) (c : PrimaryConnection) (d : SecondaryConnection) : Type 0 where
   pub out : IsBeginning d.taken (map read (take c.pushed (frames_due here c)))
   pub back : IsBeginning c.taken (map read (take d.pushed (answers_due there d)))
   pub sent : c.pushed ≤ length (frames_due here c)
@@ -20,28 +20,28 @@ pub record AreLinked (here there : Settings) (c : Outward) (d : Inward) : Type 0
 -- Frames due.
 
 -- what is due at the secondary only grows at its end
-answers-begin : (settings : Settings) (d e : Inward) → e.hello ≡ d.hello → IsBeginning d.due e.due
+answers-begin : (settings : Settings) (d e : SecondaryConnection) → e.hello ≡ d.hello → IsBeginning d.due e.due
     → IsBeginning (answers_due settings d) (answers_due settings e)
 answers-begin settings d e hello due =
     subst (λ (t : Tuple). IsBeginning (answers_due settings d) (hello_of settings t ++ e.due)) (sym hello)
     (begins-append (hello_of settings d.hello) d.due e.due due)
 
 -- A change of the primary's end that the other end does not see yet: more is due.
-pub record GoesOn (c e : Outward) : Type 0 where
+pub record GoesOn (c e : PrimaryConnection) : Type 0 where
   pub hello : e.hello ≡ c.hello
   pub stream : IsBeginning c.stream e.stream
   pub pushed : e.pushed ≡ c.pushed
   pub taken : e.taken ≡ c.taken
 
 -- the same of the secondary's end
-pub record GoesOnToo (d e : Inward) : Type 0 where
+pub record GoesOnToo (d e : SecondaryConnection) : Type 0 where
   pub hello : e.hello ≡ d.hello
   pub due : IsBeginning d.due e.due
   pub pushed : e.pushed ≡ d.pushed
   pub taken : e.taken ≡ d.taken
 
 -- the ends stay linked as more is due
-pub linked-on : (here there : Settings) (c e : Outward) (d : Inward) → GoesOn c e → AreLinked here there c d → AreLinked here there e d
+pub linked-on : (here there : Settings) (c e : PrimaryConnection) (d : SecondaryConnection) → GoesOn c e → AreLinked here there c d → AreLinked here there e d
 linked-on here there c e d on l =
     let due = due-begins here c e on.hello on.stream in
     let first : take c.pushed (frames_due here c) ≡ take e.pushed (frames_due here e) = take-begins c.pushed (frames_due here c) (frames_due here e) l.sent due
@@ -54,7 +54,8 @@ linked-on here there c e d on l =
     }
 
 -- the same where more is due at the other end
-pub linked-on-too : (here there : Settings) (c : Outward) (d e : Inward) → GoesOnToo d e → AreLinked here there c d → AreLinked here there c e
+pub linked-on-too : (here there : Settings) (c : PrimaryConnection) (d e : SecondaryConnection) → GoesOnToo d e → AreLinked here there c d
+    → AreLinked here there c e
 linked-on-too here there c d e on l =
     let due = answers-begin there d e on.hello on.due in
     let first : take d.pushed (answers_due there d) ≡ take e.pushed (answers_due there e) = take-begins d.pushed (answers_due there d)
@@ -67,7 +68,8 @@ linked-on-too here there c d e on l =
     }
 
 -- one more frame is pushed
-pub linked-pushing : (here there : Settings) (c : Outward) (d : Inward) → c.pushed < length (frames_due here c) → AreLinked here there c d
+pub linked-pushing : (here there : Settings) (c : PrimaryConnection) (d : SecondaryConnection) → c.pushed < length (frames_due here c)
+    → AreLinked here there c d
     → AreLinked here there (record c { pushed = suc c.pushed }) d
 linked-pushing here there c d less l =
     let more = begins-map read (take c.pushed (frames_due here c)) (take (suc c.pushed) (frames_due here c)) (begins-further c.pushed (frames_due here c)) in
@@ -79,7 +81,8 @@ linked-pushing here there c d less l =
     }
 
 -- one more answer is pushed
-pub linked-pushing-too : (here there : Settings) (c : Outward) (d : Inward) → d.pushed < length (answers_due there d) → AreLinked here there c d
+pub linked-pushing-too : (here there : Settings) (c : PrimaryConnection) (d : SecondaryConnection) → d.pushed < length (answers_due there d)
+    → AreLinked here there c d
     → AreLinked here there c (record d { pushed = suc d.pushed })
 linked-pushing-too here there c d less l =
     let more = begins-map read (take d.pushed (answers_due there d)) (take (suc d.pushed) (answers_due there d))
@@ -93,7 +96,7 @@ linked-pushing-too here there c d less l =
     }
 
 -- the primary takes the next answer
-pub linked-taking : (here there : Settings) (c : Outward) (d : Inward) (frame : Received)
+pub linked-taking : (here there : Settings) (c : PrimaryConnection) (d : SecondaryConnection) (frame : Received)
     → slice_get (map read (take d.pushed (answers_due there d))) (length c.taken) ≡ Some frame
     → AreLinked here there c d → AreLinked here there (record c { taken = c.taken ++ frame ∷ [] }) d
 linked-taking here there c d frame next l = record {
@@ -104,7 +107,7 @@ linked-taking here there c d frame next l = record {
 }
 
 -- the other end takes the next frame
-pub linked-taking-too : (here there : Settings) (c : Outward) (d : Inward) (frame : Received)
+pub linked-taking-too : (here there : Settings) (c : PrimaryConnection) (d : SecondaryConnection) (frame : Received)
     → slice_get (map read (take c.pushed (frames_due here c))) (length d.taken) ≡ Some frame
     → AreLinked here there c d → AreLinked here there c (record d { taken = d.taken ++ frame ∷ [] })
 linked-taking-too here there c d frame next l = record {

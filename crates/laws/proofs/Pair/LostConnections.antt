@@ -12,7 +12,8 @@ use Rattle.model.specs.Stream.{BarrierItem, epoch_of, last_epoch}
 use Rattle.model.specs.Frames.{Received, counting}
 use Rattle.model.specs.Identifiers.{lost}
 use Rattle.model.specs.Marks.{marking_unreleased}
-use Rattle.model.specs.Primary.{LocalOutcome, Waiting, OnDisk, Failed, Accepted, Completion, PrimaryHistory, Outward, no_outward, outward, last_of, last_index}
+use Rattle.model.specs.Primary.{LocalOutcome, Waiting, OnDisk, Failed, Accepted, Completion, PrimaryHistory, PrimaryConnection, no_primary_connection}
+use Rattle.model.specs.Primary.{primary_connection, last_of, last_index}
 use Rattle.model.specs.Primary.{change_last, is_alone, is_answered, is_barrier_ack, is_completed, is_confirmed, is_failed, is_on_disk}
 use Rattle.model.specs.Primary.{is_open, is_released, completes, unreleased, accepted_frames}
 use Rattle.model.specs.PrimarySteps.{follows, closing, newly_completed, completion_of, with_completions, appending, ending_resync, epoch_is_over}
@@ -25,8 +26,8 @@ use Rattle.laws.specs.Statements.{with_refused, RefusedFramesLoseTheConnection}
 use Rattle.laws.proofs.Lists.Last.{last-at, last-change, length-change}
 use Rattle.laws.proofs.Lists.Picks.{any-pick, filtered-pick}
 use Rattle.laws.proofs.Primary.Moves.{after_barrier, after_resync, follows-history, following-from}
-use Rattle.laws.proofs.Primary.StaysClosed.{open-stands}
-use Rattle.laws.proofs.Rules.ResyncEnds.{over-stands}
+use Rattle.laws.proofs.Primary.StaysClosed.{open-established}
+use Rattle.laws.proofs.Rules.ResyncEnds.{over-established}
 use Rattle.laws.proofs.Pair.RefusedFrames.{close-open, refused-open, others-count, had-open, refused_frames_close_the_primary}
 use Rattle.laws.proofs.Rules.RefusedFrames.{refusing_frame}
 use Rattle.laws.proofs.Rules.Releases.{released-same}
@@ -35,21 +36,22 @@ use Rattle.laws.proofs.Primary.Seen.{alone-seen, confirmed-seen}
 -- The frame itself releases nothing.
 
 -- the same frames count
-frames-same : (frame : Received) (c : Outward) → c.refused ≡ false → accepted_frames (refusing_frame frame c) ≡ accepted_frames c
+frames-same : (frame : Received) (c : PrimaryConnection) → c.refused ≡ false → accepted_frames (refusing_frame frame c) ≡ accepted_frames c
 frames-same frame c unrefused = others-count frame c.taken ∙ sym (ap (λ b. counting b c.taken) unrefused)
 
 -- the same epochs are acknowledged
-confirmed-same : (frame : Received) (p : PrimaryHistory) → (outward p).refused ≡ false → (a : Accepted)
+confirmed-same : (frame : Received) (p : PrimaryHistory) → (primary_connection p).refused ≡ false → (a : Accepted)
     → is_confirmed (with_refused frame p) a ≡ is_confirmed p a
 confirmed-same frame p unrefused = confirmed-seen p (with_refused frame p) (refusing_frame frame) refl
-    (λ place. ap (λ (frames : List Received). list_any (is_barrier_ack (epoch_of (outward p).stream place)) frames) (frames-same frame (outward p) unrefused))
+    (λ place. ap (λ (frames : List Received). list_any (is_barrier_ack (epoch_of (primary_connection p).stream place)) frames)
+    (frames-same frame (primary_connection p) unrefused))
 
 -- the same writes are without a connection
 alone-same : (frame : Received) (p : PrimaryHistory) (a : Accepted) → is_alone (with_refused frame p) a ≡ is_alone p a
 alone-same frame p = alone-seen p (with_refused frame p) (refusing_frame frame) refl refl
 
 -- the same writes are unreleased
-unreleased-same : (frame : Received) (p : PrimaryHistory) → (outward p).refused ≡ false → unreleased (with_refused frame p) ≡ unreleased p
+unreleased-same : (frame : Received) (p : PrimaryHistory) → (primary_connection p).refused ≡ false → unreleased (with_refused frame p) ≡ unreleased p
 unreleased-same frame p unrefused =
     filter_agree (λ a. not (is_released (with_refused frame p) a)) (λ a. not (is_released p a))
     (λ a. ap not (released-same p (with_refused frame p) a (confirmed-same frame p unrefused a) (alone-same frame p a))) p.writes
@@ -59,38 +61,45 @@ unreleased-same frame p unrefused =
 -- the marks and the tuple after it, on a closed end
 record IsLost (p g : PrimaryHistory) : Type 0 where
   marks : (block : ℕ) → g.marks block ≡ marking_unreleased p block
-  tuple : g.tuple ≡ (if (outward p).begun then lost (outward p).loss p.tuple else p.tuple)
-  closed : (outward g).closed ≡ true
+  tuple : g.tuple ≡ (if (primary_connection p).begun then lost (primary_connection p).loss p.tuple else p.tuple)
+  closed : (primary_connection g).closed ≡ true
 
 -- what follows leaves them: no stream stands
 lost-follows : (p h : PrimaryHistory) → IsLost p h → IsLost p (follows h).history
 lost-follows p = following-from (IsLost p) (IsLost p) (IsLost p) (λ h is. record { marks = is.marks; tuple = is.tuple; closed = is.closed })
-    (λ g over is. absurd (both_ways (outward g).closed (open-stands (outward g) (over-standing g over)) is.closed)) (λ g on is. is)
-    (λ g over is. absurd (both_ways (outward g).closed (open-stands (outward g) (over-stands g over)) is.closed)) (λ g is. is)
+    (λ g over is. absurd (both_ways (primary_connection g).closed (open-established (primary_connection g) (over-standing g over)) is.closed)) (λ g on is. is)
+    (λ g over is. absurd (both_ways (primary_connection g).closed (open-established (primary_connection g) (over-established g over)) is.closed)) (λ g is. is)
 
 -- the last end with the frame refused, where there is one
-refused-last : (frame : Received) (p : PrimaryHistory) → (outward p).closed ≡ false → outward (with_refused frame p) ≡ refusing_frame frame (outward p)
-refused-last frame p standing = go (last-change (refusing_frame frame) (no_outward p.tuple) (no_outward p.tuple) p.connections)
+refused-last : (frame : Received) (p : PrimaryHistory) → (primary_connection p).closed ≡ false
+    → primary_connection (with_refused frame p) ≡ refusing_frame frame (primary_connection p)
+refused-last frame p standing = go (last-change (refusing_frame frame) (no_primary_connection p.tuple) (no_primary_connection p.tuple) p.connections)
   where
-    go : (p.connections ≡ []) ⊎ (last_of (no_outward p.tuple) (change_last (refusing_frame frame) p.connections) ≡ refusing_frame frame (outward p))
-        → last_of (no_outward p.tuple) (change_last (refusing_frame frame) p.connections) ≡ refusing_frame frame (outward p)
-    go (inl empty) = absurd (both_ways (outward p).closed standing (ap (λ (cs : List Outward). (last_of (no_outward p.tuple) cs).closed) empty))
+    go : (p.connections ≡ []) ⊎ (last_of (no_primary_connection p.tuple) (change_last (refusing_frame frame) p.connections) ≡ refusing_frame frame
+        (primary_connection p))
+        → last_of (no_primary_connection p.tuple) (change_last (refusing_frame frame) p.connections) ≡ refusing_frame frame (primary_connection p)
+    go (inl empty) = absurd (both_ways (primary_connection p).closed standing
+        (ap (λ (cs : List PrimaryConnection). (last_of (no_primary_connection p.tuple) cs).closed) empty))
     go (inr is) = is
 
 -- the close of that end
-closing-lost : (frame : Received) (p : PrimaryHistory) → (outward p).closed ≡ false → (outward p).refused ≡ false → IsLost p (closing (with_refused frame p))
+closing-lost : (frame : Received) (p : PrimaryHistory) → (primary_connection p).closed ≡ false → (primary_connection p).refused ≡ false
+    → IsLost p (closing (with_refused frame p))
 closing-lost frame p standing unrefused = record {
   marks = λ block. close-same p (with_refused frame p) block refl (unreleased-same frame p unrefused);
-  tuple = ap (λ (c : Outward). if c.begun then lost c.loss p.tuple else p.tuple) (refused-last frame p standing);
-  closed = shut (last-change (λ (c : Outward). record c { closed = true }) (no_outward p.tuple) (no_outward (closing (with_refused frame p)).tuple)
+  tuple = ap (λ (c : PrimaryConnection). if c.begun then lost c.loss p.tuple else p.tuple) (refused-last frame p standing);
+  closed = shut (last-change (λ (c : PrimaryConnection). record c { closed = true }) (no_primary_connection p.tuple)
+      (no_primary_connection (closing (with_refused frame p)).tuple)
       (with_refused frame p).connections);
 }
   where
-    shut : ((with_refused frame p).connections ≡ []) ⊎ (outward (closing (with_refused frame p)) ≡ record (outward (with_refused frame p)) { closed = true })
-        → (outward (closing (with_refused frame p))).closed ≡ true
-    shut (inl empty) = ap (λ (cs : List Outward).
-        (last_of (no_outward (closing (with_refused frame p)).tuple) (change_last (λ (c : Outward). record c { closed = true }) cs)).closed) empty
-    shut (inr is) = ap (λ (c : Outward). c.closed) is
+    shut : ((with_refused frame p).connections ≡ [])
+        ⊎ (primary_connection (closing (with_refused frame p)) ≡ record (primary_connection (with_refused frame p)) { closed = true })
+        → (primary_connection (closing (with_refused frame p))).closed ≡ true
+    shut (inl empty) = ap (λ (cs : List PrimaryConnection).
+        (last_of (no_primary_connection (closing (with_refused frame p)).tuple)
+        (change_last (λ (c : PrimaryConnection). record c { closed = true }) cs)).closed) empty
+    shut (inr is) = ap (λ (c : PrimaryConnection). c.closed) is
 
 -- Completions.
 
@@ -100,7 +109,7 @@ follows-journal h = ap (λ (g : PrimaryHistory). g.journal) (follows-history h) 
   where
     parted : (g : PrimaryHistory) → (after_barrier g).journal ≡ g.journal
     parted g = elim (epoch_is_over g) as
-        (λ b. (elim b as (λ _. PrimaryHistory) [ true ↦ appending (BarrierItem (last_epoch (outward g).stream)) g | false ↦ g ]).journal ≡ g.journal)
+        (λ b. (elim b as (λ _. PrimaryHistory) [ true ↦ appending (BarrierItem (last_epoch (primary_connection g).stream)) g | false ↦ g ]).journal ≡ g.journal)
         [ true ↦ refl | false ↦ refl ]
 
     resynced : (g : PrimaryHistory) → (after_resync g).journal ≡ g.journal
@@ -144,10 +153,10 @@ closing-alone h a place home =
     (λ _. Bool) [ None ↦ true | Some at ↦ elim (slice_get (closing h).connections at.index) as (λ _. Bool) [ None ↦ true | Some c ↦ c.closed ] ]) home
     ∙ go h.connections
   where
-    shut : Outward → Outward
+    shut : PrimaryConnection → PrimaryConnection
     shut c = record c { closed = true }
 
-    go : (cs : List Outward) → elim (slice_get (change_last shut cs) (length cs - 1)) as (λ _. Bool) [ None ↦ true | Some c ↦ c.closed ] ≡ true
+    go : (cs : List PrimaryConnection) → elim (slice_get (change_last shut cs) (length cs - 1)) as (λ _. Bool) [ None ↦ true | Some c ↦ c.closed ] ≡ true
     go [] = refl
     go (c ∷ cs) =
         ap (λ n. elim (slice_get (change_last shut (c ∷ cs)) (n - 1)) as (λ _. Bool) [ None ↦ true | Some c ↦ c.closed ]) (sym (length-change shut (c ∷ cs)))
@@ -157,14 +166,14 @@ closing-alone h a place home =
             ⊎ (slice_get (change_last shut (c ∷ cs)) (length (change_last shut (c ∷ cs)) - 1) ≡ Some (last_of c (change_last shut (c ∷ cs))))
             → (c ∷ cs ≡ []) ⊎ (last_of c (change_last shut (c ∷ cs)) ≡ shut (last_of c (c ∷ cs)))
             → elim (slice_get (change_last shut (c ∷ cs)) (length (change_last shut (c ∷ cs)) - 1)) as (λ _. Bool) [ None ↦ true | Some c ↦ c.closed ] ≡ true
-        last (inl empty) is = ap (λ (l : List Outward). elim (slice_get l (length l - 1)) as (λ _. Bool) [ None ↦ true | Some c ↦ c.closed ]) empty
+        last (inl empty) is = ap (λ (l : List PrimaryConnection). elim (slice_get l (length l - 1)) as (λ _. Bool) [ None ↦ true | Some c ↦ c.closed ]) empty
         last (inr there) (inl none) = absurd (cc)
-        last (inr there) (inr is) = ap (λ (v : Option Outward). elim v as (λ _. Bool) [ None ↦ true | Some c ↦ c.closed ]) there
-            ∙ ap (λ (c : Outward). c.closed) is
+        last (inr there) (inr is) = ap (λ (v : Option PrimaryConnection). elim v as (λ _. Bool) [ None ↦ true | Some c ↦ c.closed ]) there
+            ∙ ap (λ (c : PrimaryConnection). c.closed) is
 
 -- A primary that refuses a frame loses its connection.
 pub refused_frames_lose_the_connection : RefusedFramesLoseTheConnection
-refused_frames_lose_the_connection frame starved p refusal unrefused is other = record {
+refused_frames_lose_the_connection frame out_of_memory p refusal unrefused is other = record {
   marks = λ block. ap (λ (h : PrimaryHistory). h.marks block) after ∙ after-close.marks block;
   tuple = ap (λ (h : PrimaryHistory). h.tuple) after ∙ after-close.tuple;
   completed = λ n place a at home on_disk.
@@ -174,11 +183,11 @@ refused_frames_lose_the_connection frame starved p refusal unrefused is other = 
       ∙ ap (λ k. let at : StreamPosition = record { index = k - 1; place = place } in Some at) (sym (length-change (refusing_frame frame) p.connections)))));
 }
   where
-    standing : (outward p).closed ≡ false
-    standing = had-open frame starved p refusal is other
+    standing : (primary_connection p).closed ≡ false
+    standing = had-open frame out_of_memory p refusal is other
 
-    after : (ack_in (Some frame) starved p).1 ≡ (follows (closing (with_refused frame p))).history
-    after = refused_frames_close_the_primary frame starved p refusal is other ∙ close-open (with_refused frame p) (refused-open frame p standing)
+    after : (ack_in (Some frame) out_of_memory p).1 ≡ (follows (closing (with_refused frame p))).history
+    after = refused_frames_close_the_primary frame out_of_memory p refusal is other ∙ close-open (with_refused frame p) (refused-open frame p standing)
 
     after-close : IsLost p (follows (closing (with_refused frame p))).history
     after-close = lost-follows p (closing (with_refused frame p)) (closing-lost frame p standing unrefused)

@@ -18,13 +18,15 @@ use Rattle.model.specs.Frames.{Packet, DataFrame, RsDataReplyFrame, BarrierFrame
 use Rattle.model.specs.Frames.{WriteAckFrame, RsWriteAckFrame, BarrierAckFrame, Received}
 use Rattle.model.specs.Refusals.{Test, first_refusal, done_with}
 use Rattle.model.specs.Identifiers.{stands_in, decision}
-use Rattle.model.specs.Primary.{PrimaryHistory, OnDisk, outward, with_outward, local_map, free_block, Outward, no_outward, last_of, change_last}
+use Rattle.model.specs.Primary.{PrimaryHistory, OnDisk, primary_connection, with_primary_connection, local_map, free_block, PrimaryConnection}
+use Rattle.model.specs.Primary.{no_primary_connection, last_of, change_last}
 use Rattle.model.specs.Marks.{releasing}
 use Rattle.model.specs.PrimarySteps.{follows, appending, succeeding, open_primary, submit_tests, submitted, submit, is_unfinished, with_outcome, local_done}
 use Rattle.model.specs.PrimarySteps.{accepted_at, faulted, local_fault, send_tests, sending, send, resync_tests, resync_next, resync_fault, closing}
 use Rattle.model.specs.PrimarySteps.{close_primary, open_tests, opened}
 use Rattle.model.specs.Acknowledgements.{Taken, begun_with, meeting, taking_hello, taking_ack, taking, take_frame, ack_in}
-use Rattle.model.specs.Secondary.{SecondaryHistory, Inward, inward, with_inward, items_taken, is_drained, no_inward}
+use Rattle.model.specs.Secondary.{SecondaryHistory, SecondaryConnection, secondary_connection, with_secondary_connection, items_taken, is_drained}
+use Rattle.model.specs.Secondary.{no_secondary_connection}
 use Rattle.model.specs.SecondarySteps.{succeeding_secondary, Checked, checking_hello, checking_item, checking, take_item, receive, peer_tests, peer, peer_fault}
 use Rattle.model.specs.SecondarySteps.{applying, failing, answering_with, ack_out_tests, ack_out, open_secondary, close_secondary}
 use Rattle.model.specs.Pair.{Event, OpenEvent, SubmitEvent, LocalEvent, LocalFaultEvent, SendEvent, ReceiveEvent, PeerEvent, PeerFaultEvent, AckOutEvent}
@@ -37,8 +39,8 @@ use Rattle.laws.specs.Statements.{is_refused_frame, is_refused_by, is_closed_by,
 use Rattle.laws.proofs.Lists.Tests.{test-passed}
 use Rattle.laws.proofs.Primary.Moves.{with_frame, pushing, following-from}
 use Rattle.laws.proofs.Secondary.Moves.{framed, pushed_one, closed_end}
-use Rattle.laws.proofs.Primary.StaysClosed.{open-stands}
-use Rattle.laws.proofs.Rules.ResyncEnds.{over-stands}
+use Rattle.laws.proofs.Primary.StaysClosed.{open-established}
+use Rattle.laws.proofs.Rules.ResyncEnds.{over-established}
 use Rattle.laws.proofs.Rules.Memory.{ack-in-has, receive-has}
 use Rattle.laws.proofs.Rules.RefusedFrames.{refusing, refused_end, frame-has, item-has}
 
@@ -95,19 +97,23 @@ last-closed closed f closes none nothing (x ∷ y ∷ xs) = later x y xs
     later before first (second ∷ rest) = later first second rest
 
 -- what follows a step leaves a closed end so
-follows-closed : (h : PrimaryHistory) → (outward h).closed ≡ true → (outward (follows h).history).closed ≡ true
-follows-closed = following-from (λ g. (outward g).closed ≡ true) (λ g. (outward g).closed ≡ true) (λ g. (outward g).closed ≡ true) (λ h closed. closed)
-    (λ g over closed. absurd (both_ways (outward g).closed (open-stands (outward g) (over-standing g over)) closed)) (λ g on closed. closed)
-    (λ g over closed. absurd (both_ways (outward g).closed (open-stands (outward g) (over-stands g over)) closed)) (λ g closed. closed)
+follows-closed : (h : PrimaryHistory) → (primary_connection h).closed ≡ true → (primary_connection (follows h).history).closed ≡ true
+follows-closed = following-from (λ g. (primary_connection g).closed ≡ true) (λ g. (primary_connection g).closed ≡ true)
+    (λ g. (primary_connection g).closed ≡ true) (λ h closed. closed)
+    (λ g over closed. absurd (both_ways (primary_connection g).closed (open-established (primary_connection g) (over-standing g over)) closed))
+    (λ g on closed. closed)
+    (λ g over closed. absurd (both_ways (primary_connection g).closed (open-established (primary_connection g) (over-established g over)) closed))
+    (λ g closed. closed)
 
 -- a primary that refused a frame has closed its end
-refused-closed : (h : PrimaryHistory) → (outward (follows (closing h)).history).closed ≡ true
+refused-closed : (h : PrimaryHistory) → (primary_connection (follows (closing h)).history).closed ≡ true
 refused-closed h = follows-closed (closing h)
-    (last-closed (λ (c : Outward). c.closed) (λ c. record c { closed = true }) (λ c. refl) (no_outward (closing h).tuple) refl h.connections)
+    (last-closed (λ (c : PrimaryConnection). c.closed) (λ c. record c { closed = true }) (λ c. refl) (no_primary_connection (closing h).tuple) refl
+    h.connections)
 
 -- a secondary that refused a frame has closed its end
-refused-closed-too : (h : SecondaryHistory) → (inward (with_inward refused_end h)).closed ≡ true
-refused-closed-too h = last-closed (λ (d : Inward). d.closed) refused_end (λ d. refl) (no_inward h) refl h.connections
+refused-closed-too : (h : SecondaryHistory) → (secondary_connection (with_secondary_connection refused_end h)).closed ≡ true
+refused-closed-too h = last-closed (λ (d : SecondaryConnection). d.closed) refused_end (λ d. refl) (no_secondary_connection h) refl h.connections
 
 -- Once the primary takes a frame, it refuses it as such.
 
@@ -144,7 +150,8 @@ decision-other = decision-has IsOtherChoice (λ decided. tt) refl refl refl
 
 -- the peer's tuple
 meeting-other : (peer : Tuple) (h : PrimaryHistory) → IsOtherTaken (meeting peer h)
-meeting-other peer h = go (stands_in (outward h).sync peer || stands_in (outward h).loss peer) (decision h.tuple peer) (decision-other h.tuple peer)
+meeting-other peer h = go (stands_in (primary_connection h).sync peer || stands_in (primary_connection h).loss peer) (decision h.tuple peer)
+    (decision-other h.tuple peer)
   where
     seen : PrimaryHistory
     seen = record h { peer = Some peer }
@@ -210,12 +217,12 @@ ack-other (BarrierAckFrame number size) before h = taken-if _ _ _ refl
 
 -- a packet of the secondary
 taking-other : (packet : Packet) (before h : PrimaryHistory) → IsOtherTaken (taking (Ok packet) before h)
-taking-other packet before h = go (outward before).begun
+taking-other packet before h = go (primary_connection before).begun
   where
     go : (begun : Bool) → IsOtherTaken
-        (elim begun as (λ _. Taken) [ true ↦ taking_ack packet before h | false ↦ taking_hello (length (outward before).taken) packet h ])
+        (elim begun as (λ _. Taken) [ true ↦ taking_ack packet before h | false ↦ taking_hello (length (primary_connection before).taken) packet h ])
     go true = ack-other packet before h
-    go false = greeting-other (length (outward before).taken) packet h
+    go false = greeting-other (length (primary_connection before).taken) packet h
 
 -- Nor does the secondary.
 
@@ -256,7 +263,7 @@ hello-other (suc (suc n)) (RsWriteAckFrame of) h = refl
 hello-other (suc (suc n)) (BarrierAckFrame number size) h = refl
 
 -- an item of the stream
-item-other : (packet : Packet) (place : ℕ) (c : Inward) (h : SecondaryHistory) → IsOtherChecked (checking_item packet place c h)
+item-other : (packet : Packet) (place : ℕ) (c : SecondaryConnection) (h : SecondaryHistory) → IsOtherChecked (checking_item packet place c h)
 item-other (DataFrame write at) place c h = checked-if _ _ _ refl
 item-other (RsDataReplyFrame block contents at) place c h = checked-if _ _ _ refl
 item-other (BarrierFrame number) place c h = checked-if _ _ _ refl
@@ -270,7 +277,7 @@ item-other (RsWriteAckFrame of) place c h = refl
 item-other (BarrierAckFrame number size) place c h = refl
 
 -- a packet of the primary
-checking-other : (packet : Packet) (c : Inward) (h : SecondaryHistory) → IsOtherChecked (checking (Ok packet) c h)
+checking-other : (packet : Packet) (c : SecondaryConnection) (h : SecondaryHistory) → IsOtherChecked (checking (Ok packet) c h)
 checking-other packet c h = go (nat_lt (length c.taken) 3)
   where
     go : (early : Bool) → IsOtherChecked
@@ -281,8 +288,8 @@ checking-other packet c h = go (nat_lt (length c.taken) 3)
 -- Steps of the primary.
 
 -- a write is submitted
-spared-submit : (first : ℕ) (contents : List (List ℕ)) (starved : Bool) (h : PrimaryHistory) → IsSpared h (submit first contents starved h)
-spared-submit first contents starved h = spared-tests (submit_tests h first contents starved) h
+spared-submit : (first : ℕ) (contents : List (List ℕ)) (out_of_memory : Bool) (h : PrimaryHistory) → IsSpared h (submit first contents out_of_memory h)
+spared-submit first contents out_of_memory h = spared-tests (submit_tests h first contents out_of_memory) h
     (λ _. succeeding (what.Write (suc (length h.writes))) (submitted h first contents)) (spared-ok h _ _)
 
 -- the local disk does a write
@@ -299,87 +306,97 @@ spared-fault number kept h =
     (spared-tests ((not (is_unfinished h number), UnknownJob) ∷ []) h (λ _. succeeding what.Nothing (faulted number (below kept) h)) (spared-ok h _ _))
 
 -- the primary pushes a frame
-spared-send : (room starved : Bool) (h : PrimaryHistory) → IsSpared h (send room starved h)
-spared-send room starved h = spared-tests (send_tests h room starved) h (λ _. succeeding (sending h) (with_outward pushing h)) (spared-ok h _ _)
+spared-send : (room out_of_memory : Bool) (h : PrimaryHistory) → IsSpared h (send room out_of_memory h)
+spared-send room out_of_memory h = spared-tests (send_tests h room out_of_memory) h (λ _. succeeding (sending h) (with_primary_connection pushing h))
+    (spared-ok h _ _)
 
 -- a block that is copied, if there is one
 spared-block : (h : PrimaryHistory) (v : Option ℕ) → IsSpared h (elim v as (λ _. Reply × PrimaryHistory) [
   | None ↦ (reply.Refused NothingToDo, h)
-  | Some block ↦ succeeding (what.Block (record { 0 = block }) (length (outward h).stream)) (appending (ResyncItem block (unwrap_or (local_map h block) [])) h)
+  | Some block ↦ succeeding (what.Block (record { 0 = block }) (length (primary_connection h).stream))
+      (appending (ResyncItem block (unwrap_or (local_map h block) [])) h)
 ])
 spared-block h None = spared-same h NothingToDo
 spared-block h (Some block) = spared-ok h _ _
 
 -- the primary copies the next block
-spared-resync : (starved : Bool) (h : PrimaryHistory) → IsSpared h (resync_next starved h)
-spared-resync starved h = spared-tests (resync_tests h starved) h (λ _. elim (free_block h) as (λ _. Reply × PrimaryHistory) [
+spared-resync : (out_of_memory : Bool) (h : PrimaryHistory) → IsSpared h (resync_next out_of_memory h)
+spared-resync out_of_memory h = spared-tests (resync_tests h out_of_memory) h (λ _. elim (free_block h) as (λ _. Reply × PrimaryHistory) [
   | None ↦ (reply.Refused NothingToDo, h)
-  | Some block ↦ succeeding (what.Block (record { 0 = block }) (length (outward h).stream)) (appending (ResyncItem block (unwrap_or (local_map h block) [])) h)
+  | Some block ↦ succeeding (what.Block (record { 0 = block }) (length (primary_connection h).stream))
+      (appending (ResyncItem block (unwrap_or (local_map h block) [])) h)
 ]) (spared-block h (free_block h))
 
 -- the local disk fails to read it
-spared-resync-fault : (starved : Bool) (h : PrimaryHistory) → IsSpared h (resync_fault starved h)
-spared-resync-fault starved h = spared-tests (resync_tests h starved) h (λ _. (reply.Refused ReadFault, h)) (spared-same h ReadFault)
+spared-resync-fault : (out_of_memory : Bool) (h : PrimaryHistory) → IsSpared h (resync_fault out_of_memory h)
+spared-resync-fault out_of_memory h = spared-tests (resync_tests h out_of_memory) h (λ _. (reply.Refused ReadFault, h)) (spared-same h ReadFault)
 
 -- the primary closes its end
 spared-close : (h : PrimaryHistory) → IsSpared h (close_primary h)
-spared-close h = spared-tests (((outward h).closed, NotConnected) ∷ []) h
+spared-close h = spared-tests (((primary_connection h).closed, NotConnected) ∷ []) h
     (λ _. let after = follows (closing h) in (reply.Closed (length after.completed), after.history)) (spared-closed h _ _)
 
 -- a frame that the primary takes
-closes-frame : (packet : Packet) (h : PrimaryHistory) → IsSparedOrCloses (λ (p : PrimaryHistory). (outward p).closed) h (take_frame (Ok packet) h)
-closes-frame packet h = frame-has (IsSparedOrCloses (λ (p : PrimaryHistory). (outward p).closed) h) IsOtherTaken (Ok packet) h
-    (taking-other packet h (with_outward (with_frame (Ok packet)) h)) (λ done other refusal refused. absurd (cc))
+closes-frame : (packet : Packet) (h : PrimaryHistory) → IsSparedOrCloses (λ (p : PrimaryHistory). (primary_connection p).closed) h (take_frame (Ok packet) h)
+closes-frame packet h = frame-has (IsSparedOrCloses (λ (p : PrimaryHistory). (primary_connection p).closed) h) IsOtherTaken (Ok packet) h
+    (taking-other packet h (with_primary_connection (with_frame (Ok packet)) h)) (λ done other refusal refused. absurd (cc))
     (λ error other refusal refused. let same : error.0 ≡ refusal = cc in
-    inr (ap is_refused_frame (sym same) ∙ other, refused-closed (with_outward refusing error.1)))
+    inr (ap is_refused_frame (sym same) ∙ other, refused-closed (with_primary_connection refusing error.1)))
 
 -- the primary takes what the link has for it
-closes-ack-in : (starved : Bool) (h : PairHistory)
-    → IsSparedOrCloses (λ (p : PrimaryHistory). (outward p).closed) h.primary (ack_in (next_answer h) starved h.primary)
-closes-ack-in starved h = ack-in-has (IsSparedOrCloses (λ (p : PrimaryHistory). (outward p).closed) h.primary) (next_answer h) starved h.primary
-    (spared-mild (λ (p : PrimaryHistory). (outward p).closed) h.primary)
-    (λ taken is standing. of-packet (λ frame. IsSparedOrCloses (λ (p : PrimaryHistory). (outward p).closed) h.primary (take_frame frame h.primary))
-    (slice_get (pushed_answers h) (length (outward h.primary).taken)) (λ packet. closes-frame packet h.primary) taken is)
+closes-ack-in : (out_of_memory : Bool) (h : PairHistory)
+    → IsSparedOrCloses (λ (p : PrimaryHistory). (primary_connection p).closed) h.primary (ack_in (next_answer h) out_of_memory h.primary)
+closes-ack-in out_of_memory h = ack-in-has (IsSparedOrCloses (λ (p : PrimaryHistory). (primary_connection p).closed) h.primary)
+    (next_answer h) out_of_memory h.primary
+    (spared-mild (λ (p : PrimaryHistory). (primary_connection p).closed) h.primary)
+    (λ taken is standing. of-packet (λ frame. IsSparedOrCloses (λ (p : PrimaryHistory). (primary_connection p).closed) h.primary (take_frame frame h.primary))
+    (slice_get (pushed_answers h) (length (primary_connection h.primary).taken)) (λ packet. closes-frame packet h.primary) taken is)
 
 -- Steps of the secondary.
 
 -- a frame that the secondary takes
-closes-item : (packet : Packet) (h : SecondaryHistory) → IsSparedOrCloses (λ (s : SecondaryHistory). (inward s).closed) h (take_item (Ok packet) h)
-closes-item packet h = item-has (IsSparedOrCloses (λ (s : SecondaryHistory). (inward s).closed) h) IsOtherChecked (Ok packet) h
-    (checking-other packet (inward h) (with_inward (framed (Ok packet)) h)) (λ done other refusal refused. absurd (cc))
+closes-item : (packet : Packet) (h : SecondaryHistory)
+    → IsSparedOrCloses (λ (s : SecondaryHistory). (secondary_connection s).closed) h (take_item (Ok packet) h)
+closes-item packet h = item-has (IsSparedOrCloses (λ (s : SecondaryHistory). (secondary_connection s).closed) h) IsOtherChecked (Ok packet) h
+    (checking-other packet (secondary_connection h) (with_secondary_connection (framed (Ok packet)) h)) (λ done other refusal refused. absurd (cc))
     (λ error other refusal refused. let same : error ≡ refusal = cc in
-    inr (ap is_refused_frame (sym same) ∙ other, refused-closed-too (with_inward (framed (Ok packet)) h)))
+    inr (ap is_refused_frame (sym same) ∙ other, refused-closed-too (with_secondary_connection (framed (Ok packet)) h)))
 
 -- the secondary takes what the link has for it
-closes-receive : (starved : Bool) (h : PairHistory)
-    → IsSparedOrCloses (λ (s : SecondaryHistory). (inward s).closed) h.secondary (receive (next_frame h) starved h.secondary)
-closes-receive starved h = receive-has (IsSparedOrCloses (λ (s : SecondaryHistory). (inward s).closed) h.secondary) (next_frame h) starved h.secondary
-    (spared-mild (λ (s : SecondaryHistory). (inward s).closed) h.secondary)
-    (λ taken is standing. of-packet (λ frame. IsSparedOrCloses (λ (s : SecondaryHistory). (inward s).closed) h.secondary (take_item frame h.secondary))
-    (slice_get (pushed_frames h) (length (inward h.secondary).taken)) (λ packet. closes-item packet h.secondary) taken is)
+closes-receive : (out_of_memory : Bool) (h : PairHistory)
+    → IsSparedOrCloses (λ (s : SecondaryHistory). (secondary_connection s).closed) h.secondary (receive (next_frame h) out_of_memory h.secondary)
+closes-receive out_of_memory h = receive-has (IsSparedOrCloses (λ (s : SecondaryHistory). (secondary_connection s).closed) h.secondary)
+    (next_frame h) out_of_memory h.secondary
+    (spared-mild (λ (s : SecondaryHistory). (secondary_connection s).closed) h.secondary)
+    (λ taken is standing. of-packet
+    (λ frame. IsSparedOrCloses (λ (s : SecondaryHistory). (secondary_connection s).closed) h.secondary (take_item frame h.secondary))
+    (slice_get (pushed_frames h) (length (secondary_connection h.secondary).taken)) (λ packet. closes-item packet h.secondary) taken is)
 
 -- the secondary's disk does an item
 spared-peer : (place : ℕ) (h : SecondaryHistory) → IsSpared h (peer place h)
-spared-peer place h = spared-tests (peer_tests h place) h (λ _. succeeding_secondary what.Nothing (with_inward (applying h.settings.protocol place) h))
+spared-peer place h = spared-tests (peer_tests h place) h
+    (λ _. succeeding_secondary what.Nothing (with_secondary_connection (applying h.settings.protocol place) h))
     (spared-ok h _ _)
 
 -- the secondary's disk fails an item
 spared-peer-fault : (place kept : ℕ) (h : SecondaryHistory) → IsSpared h (peer_fault_kept place kept h)
 spared-peer-fault place kept h =
     spared-tests (peer_tests h place ++ (
-      keeps_too_many kept (option_map (λ item. length (contents_of item)) (slice_get (items_taken (inward h)) place)),
+      keeps_too_many kept (option_map (λ item. length (contents_of item)) (slice_get (items_taken (secondary_connection h)) place)),
       BadRange,
     ) ∷ []) h (λ _. peer_fault place (below kept) h)
-    (spared-tests (peer_tests h place) h (λ _. (reply.Ok (done_with what.Nothing), with_inward (failing place (below kept)) h)) (spared-ok h _ _))
+    (spared-tests (peer_tests h place) h (λ _. (reply.Ok (done_with what.Nothing), with_secondary_connection (failing place (below kept)) h)) (spared-ok h _ _))
 
 -- the secondary pushes an answer
-spared-push : (room starved : Bool) (h : SecondaryHistory) → IsSpared h (ack_out room starved h)
-spared-push room starved h = spared-tests (ack_out_tests h room starved) h (λ _. (reply.Ok (done_with (answering_with h)), with_inward pushed_one h))
+spared-push : (room out_of_memory : Bool) (h : SecondaryHistory) → IsSpared h (ack_out room out_of_memory h)
+spared-push room out_of_memory h = spared-tests (ack_out_tests h room out_of_memory) h
+    (λ _. (reply.Ok (done_with (answering_with h)), with_secondary_connection pushed_one h))
     (spared-ok h _ _)
 
 -- the secondary closes its end
 spared-close-too : (h : SecondaryHistory) → IsSpared h (close_secondary h)
-spared-close-too h = spared-tests (((inward h).closed, NotConnected) ∷ []) h (λ _. (reply.Ok (done_with what.Nothing), with_inward closed_end h))
+spared-close-too h = spared-tests (((secondary_connection h).closed, NotConnected) ∷ []) h
+    (λ _. (reply.Ok (done_with what.Nothing), with_secondary_connection closed_end h))
     (spared-ok h _ _)
 
 -- Steps of the pair.
@@ -393,9 +410,9 @@ with-secondary : (h : PairHistory) (done : Reply × SecondaryHistory) → IsSpar
 with-secondary h done spared refusal refused = ap (λ (s : SecondaryHistory). record h { secondary = s }) (spared refusal refused)
 
 -- where its tests pass, the primary's opening is not refused
-opening-done : (sync loss : ℕ) (starved : Bool) (p : PrimaryHistory) (refusal : Refusal) → first_refusal (open_tests p sync loss starved) ≡ None
-    → (open_primary sync loss starved p).0 ≡ reply.Refused refusal → ⊥
-opening-done sync loss starved p refusal = go (first_refusal (open_tests p sync loss starved))
+opening-done : (sync loss : ℕ) (out_of_memory : Bool) (p : PrimaryHistory) (refusal : Refusal) → first_refusal (open_tests p sync loss out_of_memory) ≡ None
+    → (open_primary sync loss out_of_memory p).0 ≡ reply.Refused refusal → ⊥
+opening-done sync loss out_of_memory p refusal = go (first_refusal (open_tests p sync loss out_of_memory))
   where
     go : (v : Option Refusal) → v ≡ None
         → (elim v as (λ _. Reply × PrimaryHistory) [ Some refusal ↦ (reply.Refused refusal, p) | None ↦ succeeding what.Nothing (opened p sync loss) ]).0 ≡
@@ -404,59 +421,61 @@ opening-done sync loss starved p refusal = go (first_refusal (open_tests p sync 
     go None none refused = cc
 
 -- both ends open, or none
-spared-open : (sync loss : ℕ) (starved : Bool) (h : PairHistory) → IsSpared h (open_pair sync loss starved h)
-spared-open sync loss starved h = go (first_refusal (open_pair_tests h sync loss starved)) refl
+spared-open : (sync loss : ℕ) (out_of_memory : Bool) (h : PairHistory) → IsSpared h (open_pair sync loss out_of_memory h)
+spared-open sync loss out_of_memory h = go (first_refusal (open_pair_tests h sync loss out_of_memory)) refl
   where
-    go : (v : Option Refusal) → first_refusal (open_pair_tests h sync loss starved) ≡ v → IsSpared h (elim v as (λ _. Reply × PairHistory) [
+    go : (v : Option Refusal) → first_refusal (open_pair_tests h sync loss out_of_memory) ≡ v → IsSpared h (elim v as (λ _. Reply × PairHistory) [
       | Some refusal ↦ (reply.Refused refusal, h)
-      | None ↦ let primary = open_primary sync loss starved h.primary in (
+      | None ↦ let primary = open_primary sync loss out_of_memory h.primary in (
         primary.0,
         record { primary = primary.1; secondary = (open_secondary 0 h.secondary).1 },
       )
     ])
     go (Some first) is refusal refused = refl
     go None is refusal refused =
-        let passed = test-passed (not ((inward h.secondary).closed && is_drained h.secondary)) NotDrained (open_tests h.primary sync loss starved) is in
-        absurd (opening-done sync loss starved h.primary refusal passed.1 refused)
+        let passed = test-passed (not ((secondary_connection h.secondary).closed && is_drained h.secondary)) NotDrained
+        (open_tests h.primary sync loss out_of_memory) is in
+        absurd (opening-done sync loss out_of_memory h.primary refusal passed.1 refused)
 
 -- The two statements, event by event.
-refused-step : (event : Event) (starved : Bool) (h : PairHistory) (refusal : Refusal) → (step event starved h).0 ≡ reply.Refused refusal
-    → ((is_refused_by event refusal ≡ false) × ((step event starved h).1 ≡ h))
-    ⊎ ((is_refused_by event refusal ≡ true) × (is_closed_by event (step event starved h).1 ≡ true))
-refused-step (OpenEvent sync loss) starved h refusal is = inl (refl, spared-open sync loss starved h refusal is)
-refused-step (SubmitEvent first contents) starved h refusal is = inl (refl, with-primary h _ (spared-submit first contents starved h.primary) refusal is)
-refused-step (LocalEvent number) starved h refusal is = inl (refl, with-primary h _ (spared-local number h.primary) refusal is)
-refused-step (LocalFaultEvent number kept) starved h refusal is = inl (refl, with-primary h _ (spared-fault number kept h.primary) refusal is)
-refused-step SendEvent starved h refusal is = inl (refl, with-primary h _ (spared-send (has_room h) starved h.primary) refusal is)
-refused-step ReceiveEvent starved h refusal is =
-    elim (closes-receive starved h refusal is) [
+refused-step : (event : Event) (out_of_memory : Bool) (h : PairHistory) (refusal : Refusal) → (step event out_of_memory h).0 ≡ reply.Refused refusal
+    → ((is_refused_by event refusal ≡ false) × ((step event out_of_memory h).1 ≡ h))
+    ⊎ ((is_refused_by event refusal ≡ true) × (is_closed_by event (step event out_of_memory h).1 ≡ true))
+refused-step (OpenEvent sync loss) out_of_memory h refusal is = inl (refl, spared-open sync loss out_of_memory h refusal is)
+refused-step (SubmitEvent first contents) out_of_memory h refusal is =
+    inl (refl, with-primary h _ (spared-submit first contents out_of_memory h.primary) refusal is)
+refused-step (LocalEvent number) out_of_memory h refusal is = inl (refl, with-primary h _ (spared-local number h.primary) refusal is)
+refused-step (LocalFaultEvent number kept) out_of_memory h refusal is = inl (refl, with-primary h _ (spared-fault number kept h.primary) refusal is)
+refused-step SendEvent out_of_memory h refusal is = inl (refl, with-primary h _ (spared-send (has_room h) out_of_memory h.primary) refusal is)
+refused-step ReceiveEvent out_of_memory h refusal is =
+    elim (closes-receive out_of_memory h refusal is) [
       | inl same ↦ inl (same.0, ap (λ (s : SecondaryHistory). record h { secondary = s }) same.1)
       | inr closed ↦ inr
           closed
     ]
-refused-step (PeerEvent place) starved h refusal is = inl (refl, with-secondary h _ (spared-peer place h.secondary) refusal is)
-refused-step (PeerFaultEvent place kept) starved h refusal is = inl (refl, with-secondary h _ (spared-peer-fault place kept h.secondary) refusal is)
-refused-step AckOutEvent starved h refusal is = inl (refl, with-secondary h _ (spared-push (answers_have_room h) starved h.secondary) refusal is)
-refused-step AckInEvent starved h refusal is =
-    elim (closes-ack-in starved h refusal is) [
+refused-step (PeerEvent place) out_of_memory h refusal is = inl (refl, with-secondary h _ (spared-peer place h.secondary) refusal is)
+refused-step (PeerFaultEvent place kept) out_of_memory h refusal is = inl (refl, with-secondary h _ (spared-peer-fault place kept h.secondary) refusal is)
+refused-step AckOutEvent out_of_memory h refusal is = inl (refl, with-secondary h _ (spared-push (answers_have_room h) out_of_memory h.secondary) refusal is)
+refused-step AckInEvent out_of_memory h refusal is =
+    elim (closes-ack-in out_of_memory h refusal is) [
       | inl same ↦ inl (same.0, ap (λ (p : PrimaryHistory). record h { primary = p }) same.1)
       | inr closed ↦ inr closed
     ]
-refused-step ResyncEvent starved h refusal is = inl (refl, with-primary h _ (spared-resync starved h.primary) refusal is)
-refused-step ResyncFaultEvent starved h refusal is = inl (refl, with-primary h _ (spared-resync-fault starved h.primary) refusal is)
-refused-step ClosePrimaryEvent starved h refusal is = inl (refl, with-primary h _ (spared-close h.primary) refusal is)
-refused-step CloseSecondaryEvent starved h refusal is = inl (refl, with-secondary h _ (spared-close-too h.secondary) refusal is)
+refused-step ResyncEvent out_of_memory h refusal is = inl (refl, with-primary h _ (spared-resync out_of_memory h.primary) refusal is)
+refused-step ResyncFaultEvent out_of_memory h refusal is = inl (refl, with-primary h _ (spared-resync-fault out_of_memory h.primary) refusal is)
+refused-step ClosePrimaryEvent out_of_memory h refusal is = inl (refl, with-primary h _ (spared-close h.primary) refusal is)
+refused-step CloseSecondaryEvent out_of_memory h refusal is = inl (refl, with-secondary h _ (spared-close-too h.secondary) refusal is)
 
 -- A refused step leaves the pair's history as it was, but where it refuses a frame.
 pub refused_steps_change_nothing : RefusedStepsChangeNothing
-refused_steps_change_nothing event starved h refusal is other = elim (refused-step event starved h refusal is) [
+refused_steps_change_nothing event out_of_memory h refusal is other = elim (refused-step event out_of_memory h refusal is) [
   | inl same ↦ same.1
   | inr closed ↦ absurd (both_ways (is_refused_by event refusal) other closed.0)
 ]
 
 -- Where it refuses a frame, its end is closed then.
 pub refused_frames_close : RefusedFramesClose
-refused_frames_close event starved h refusal is frame = elim (refused-step event starved h refusal is) [
+refused_frames_close event out_of_memory h refusal is frame = elim (refused-step event out_of_memory h refusal is) [
   | inl same ↦ absurd (both_ways (is_refused_by event refusal) same.0 frame)
   | inr closed ↦ closed.1
 ]

@@ -5,7 +5,7 @@ use Rattle.std.specs.Prelude.{filter_map}
 use Rattle.std.proofs.Math.Seq.{take-append_seam}
 use Rattle.std.proofs.lemmas.List.{length-append}
 use Rattle.model.specs.Contents.{overlay}
-use Rattle.model.specs.Stream.{Item, placed, layers_of}
+use Rattle.model.specs.Stream.{StreamItem, placed, layers_of}
 use Rattle.model.specs.Frames.{counting}
 use Rattle.model.specs.Secondary.{received_item, items_taken, is_pending, map_of}
 use Rattle.std.specs.Prelude.{if◌then◌else◌}
@@ -22,10 +22,10 @@ use Rattle.model.specs.Frames.{Packet, DataFrame, RsDataReplyFrame, BarrierFrame
 use Rattle.model.specs.Frames.{WriteAckFrame, RsWriteAckFrame, BarrierAckFrame, Received}
 use Rattle.model.specs.Refusals.{first_refusal, done_with}
 use Rattle.model.specs.Identifiers.{stands_in, decision}
-use Rattle.model.specs.Primary.{PrimaryHistory, Outward, outward, with_outward, no_outward, last_of, change_last}
+use Rattle.model.specs.Primary.{PrimaryHistory, PrimaryConnection, primary_connection, with_primary_connection, no_primary_connection, last_of, change_last}
 use Rattle.model.specs.PrimarySteps.{follows, closing, close_primary}
 use Rattle.model.specs.Acknowledgements.{Taken, begun_with, meeting, taking_hello, taking_ack, taking, take_frame, ack_in}
-use Rattle.model.specs.Secondary.{SecondaryHistory, Inward, inward, with_inward, pending, no_inward}
+use Rattle.model.specs.Secondary.{SecondaryHistory, SecondaryConnection, secondary_connection, with_secondary_connection, pending, no_secondary_connection}
 use Rattle.model.specs.SecondarySteps.{take_item, receive, close_secondary}
 use Rattle.laws.specs.Statements.{is_refused_frame, seen_after, with_refused, with_refused_too, RefusedFramesCloseThePrimary, RefusedFramesCloseTheSecondary}
 use Rattle.laws.specs.Statements.{RefusedFramesLeaveTheItems}
@@ -51,7 +51,7 @@ left-if h peer false done error left = left
 
 -- the peer's tuple
 meeting-left : (peer : Tuple) (h : PrimaryHistory) → IsLeft h (Some peer) (meeting peer h)
-meeting-left peer h = go (stands_in (outward h).sync peer || stands_in (outward h).loss peer) (decision h.tuple peer)
+meeting-left peer h = go (stands_in (primary_connection h).sync peer || stands_in (primary_connection h).loss peer) (decision h.tuple peer)
   where
     seen : PrimaryHistory
     seen = record h { peer = Some peer }
@@ -117,7 +117,7 @@ ack-left (BarrierAckFrame number size) before h = left-if h _ _ _ _ refl
 
 -- the peer's tuple last seen, once a frame was taken
 abbrev seen_by : Received → PrimaryHistory → PrimaryHistory → Option Tuple
-seen_by frame before h = elim (outward before).begun [ true ↦ h.peer | false ↦ seen_after (length (outward before).taken) frame h.peer ]
+seen_by frame before h = elim (primary_connection before).begun [ true ↦ h.peer | false ↦ seen_after (length (primary_connection before).taken) frame h.peer ]
 
 -- a fault of the bytes shows no tuple
 fault-unseen : (n : ℕ) (fault : Refusal) (peer : Option Tuple) → seen_after n (Err fault) peer ≡ peer
@@ -127,24 +127,28 @@ fault-unseen (suc (suc n)) fault peer = refl
 
 -- any frame
 taking-left : (frame : Received) (before h : PrimaryHistory) → IsLeft h (seen_by frame before h) (taking frame before h)
-taking-left (Err fault) before h = go (outward before).begun
+taking-left (Err fault) before h = go (primary_connection before).begun
   where
     go : (begun : Bool) → h ≡ record h
-        { peer = elim begun as (λ _. Option Tuple) [ true ↦ h.peer | false ↦ seen_after (length (outward before).taken) (Err fault) h.peer ] }
+        { peer = elim begun as (λ _. Option Tuple) [ true ↦ h.peer | false ↦ seen_after (length (primary_connection before).taken) (Err fault) h.peer ] }
     go true = refl
-    go false = ap (λ (peer : Option Tuple). record h { peer = peer }) (sym (fault-unseen (length (outward before).taken) fault h.peer))
-taking-left (Ok packet) before h = go (outward before).begun
+    go false = ap (λ (peer : Option Tuple). record h { peer = peer }) (sym (fault-unseen (length (primary_connection before).taken) fault h.peer))
+taking-left (Ok packet) before h = go (primary_connection before).begun
   where
-    go : (begun : Bool) → IsLeft h (elim begun as (λ _. Option Tuple) [ true ↦ h.peer | false ↦ seen_after (length (outward before).taken) (Ok packet) h.peer ])
-        (elim begun as (λ _. Taken) [ true ↦ taking_ack packet before h | false ↦ taking_hello (length (outward before).taken) packet h ])
+    go : (begun : Bool) → IsLeft h (elim begun as (λ _. Option Tuple) [
+      | true ↦ h.peer
+      | false ↦ seen_after (length (primary_connection before).taken)
+          (Ok packet) h.peer
+    ])
+        (elim begun as (λ _. Taken) [ true ↦ taking_ack packet before h | false ↦ taking_hello (length (primary_connection before).taken) packet h ])
     go true = ack-left packet before h
-    go false = hello-left (length (outward before).taken) packet h
+    go false = hello-left (length (primary_connection before).taken) packet h
 
 -- Closes of an open end.
 
 -- a primary's, past its test
-pub close-open : (h : PrimaryHistory) → (outward h).closed ≡ false → (close_primary h).1 ≡ (follows (closing h)).history
-close-open h standing = go (outward h).closed standing
+pub close-open : (h : PrimaryHistory) → (primary_connection h).closed ≡ false → (close_primary h).1 ≡ (follows (closing h)).history
+close-open h standing = go (primary_connection h).closed standing
   where
     go : (closed : Bool) → closed ≡ false
         → (elim (first_refusal ((closed, NotConnected) ∷ [])) as (λ _. Reply × PrimaryHistory) [
@@ -156,8 +160,8 @@ close-open h standing = go (outward h).closed standing
     go false standing = refl
 
 -- a secondary's
-close-open-too : (h : SecondaryHistory) → (inward h).closed ≡ false → (close_secondary h).1 ≡ with_inward closed_end h
-close-open-too h standing = go (inward h).closed standing
+close-open-too : (h : SecondaryHistory) → (secondary_connection h).closed ≡ false → (close_secondary h).1 ≡ with_secondary_connection closed_end h
+close-open-too h standing = go (secondary_connection h).closed standing
   where
     go : (closed : Bool) → closed ≡ false
         → (elim (first_refusal ((closed, NotConnected) ∷ [])) as
@@ -165,49 +169,57 @@ close-open-too h standing = go (inward h).closed standing
           | Some refusal ↦ (reply.Refused refusal, h)
           | None ↦ (
             reply.Ok (done_with what.Nothing),
-            with_inward closed_end h,
+            with_secondary_connection closed_end h,
           )
-        ]).1 ≡ with_inward closed_end h
+        ]).1 ≡ with_secondary_connection closed_end h
     go true standing = absurd (cc)
     go false standing = refl
 
 -- a refused frame leaves the primary's end open until the close
-pub refused-open : (frame : Received) (p : PrimaryHistory) → (outward p).closed ≡ false → (outward (with_refused frame p)).closed ≡ false
-refused-open frame p standing = elim (last-change (λ (c : Outward). refusing_frame frame c) (no_outward p.tuple) (no_outward p.tuple) p.connections) [
-  | inl empty ↦ absurd (both_ways (outward p).closed standing (ap (λ (cs : List Outward). (last_of (no_outward p.tuple) cs).closed) empty))
-  | inr last ↦ ap (λ (c : Outward). c.closed) last ∙ standing
-]
+pub refused-open : (frame : Received) (p : PrimaryHistory) → (primary_connection p).closed ≡ false → (primary_connection (with_refused frame p)).closed ≡ false
+refused-open frame p standing =
+    elim (last-change (λ (c : PrimaryConnection). refusing_frame frame c) (no_primary_connection p.tuple) (no_primary_connection p.tuple) p.connections) [
+      | inl empty ↦ absurd (both_ways (primary_connection p).closed standing
+          (ap (λ (cs : List PrimaryConnection). (last_of (no_primary_connection p.tuple) cs).closed) empty))
+      | inr last ↦ ap (λ (c : PrimaryConnection). c.closed) last ∙ standing
+    ]
 
 -- and the secondary's
-refused-open-too : (frame : Received) (s : SecondaryHistory) → (inward s).closed ≡ false → (inward (with_refused_too frame s)).closed ≡ false
-refused-open-too frame s standing = elim (last-change (refusing_too frame) (no_inward s) (no_inward (with_refused_too frame s)) s.connections) [
-  | inl empty ↦ absurd (both_ways (inward s).closed standing (ap (λ (cs : List Inward). (last_of (no_inward s) cs).closed) empty))
-  | inr last ↦ ap (λ (c : Inward). c.closed) last ∙ standing
-]
+refused-open-too : (frame : Received) (s : SecondaryHistory) → (secondary_connection s).closed ≡ false
+    → (secondary_connection (with_refused_too frame s)).closed ≡ false
+refused-open-too frame s standing =
+    elim (last-change (refusing_too frame) (no_secondary_connection s) (no_secondary_connection (with_refused_too frame s)) s.connections) [
+      | inl empty ↦ absurd (both_ways (secondary_connection s).closed standing
+          (ap (λ (cs : List SecondaryConnection). (last_of (no_secondary_connection s) cs).closed) empty))
+      | inr last ↦ ap (λ (c : SecondaryConnection). c.closed) last ∙ standing
+    ]
 
 -- The two statements.
 
 -- a frame that an open primary takes, and refuses
-frame-closes : (frame : Received) (p : PrimaryHistory) (refusal : Refusal) → (outward p).closed ≡ false → (take_frame frame p).0 ≡ reply.Refused refusal
+frame-closes : (frame : Received) (p : PrimaryHistory) (refusal : Refusal) → (primary_connection p).closed ≡ false
+    → (take_frame frame p).0 ≡ reply.Refused refusal
     → (take_frame frame p).1 ≡ (close_primary (with_refused frame p)).1
 frame-closes frame p refusal standing =
     frame-has (λ r. r.0 ≡ reply.Refused refusal → r.1 ≡ (close_primary (with_refused frame p)).1)
-    (IsLeft (with_outward (with_frame frame) p) (seen_by frame p p)) frame p (taking-left frame p (with_outward (with_frame frame) p))
+    (IsLeft (with_primary_connection (with_frame frame) p) (seen_by frame p p)) frame p (taking-left frame p (with_primary_connection (with_frame frame) p))
     (λ done left refused. absurd (cc)) (λ error left refused.
     ap (λ (h : PrimaryHistory). (follows (closing h)).history) (same error.1 left) ∙ sym (close-open (with_refused frame p) (refused-open frame p standing)))
   where
     -- what the step closes is the history with the frame taken and refused
-    same : (h : PrimaryHistory) → h ≡ record (with_outward (with_frame frame) p) { peer = seen_by frame p p } → with_outward refusing h ≡ with_refused frame p
+    same : (h : PrimaryHistory) → h ≡ record (with_primary_connection (with_frame frame) p) { peer = seen_by frame p p }
+        → with_primary_connection refusing h ≡ with_refused frame p
     same h is =
-        ap (λ (g : PrimaryHistory). with_outward refusing g) is
-        ∙ ap (λ (cs : List Outward). record p { peer = seen_by frame p p; connections = cs }) (refusing-last frame p.connections)
+        ap (λ (g : PrimaryHistory). with_primary_connection refusing g) is
+        ∙ ap (λ (cs : List PrimaryConnection). record p { peer = seen_by frame p p; connections = cs }) (refusing-last frame p.connections)
 
 -- one that an open secondary takes, and refuses
-frame-closes-too : (frame : Received) (s : SecondaryHistory) (refusal : Refusal) → (inward s).closed ≡ false → (take_item frame s).0 ≡ reply.Refused refusal
+frame-closes-too : (frame : Received) (s : SecondaryHistory) (refusal : Refusal) → (secondary_connection s).closed ≡ false
+    → (take_item frame s).0 ≡ reply.Refused refusal
     → (take_item frame s).1 ≡ (close_secondary (with_refused_too frame s)).1
 frame-closes-too frame s refusal standing =
     item-has (λ r. r.0 ≡ reply.Refused refusal → r.1 ≡ (close_secondary (with_refused_too frame s)).1) (λ v. Unit {0}) frame s tt
-    (λ done any refused. absurd (cc)) (λ error any refused. ap (λ (cs : List Inward). record s { connections = cs }) same
+    (λ done any refused. absurd (cc)) (λ error any refused. ap (λ (cs : List SecondaryConnection). record s { connections = cs }) same
     ∙ sym (close-open-too (with_refused_too frame s) (refused-open-too frame s standing)))
   where
     -- both closes change the last end alike
@@ -225,16 +237,16 @@ not-first first refusal mild other is =
 
 -- A primary that refuses a frame has all effects of a close.
 pub refused_frames_close_the_primary : RefusedFramesCloseThePrimary
-refused_frames_close_the_primary frame starved p refusal is other =
-    ack-in-has (λ r. r.0 ≡ reply.Refused refusal → r.1 ≡ (close_primary (with_refused frame p)).1) (Some frame) starved p
+refused_frames_close_the_primary frame out_of_memory p refusal is other =
+    ack-in-has (λ r. r.0 ≡ reply.Refused refusal → r.1 ≡ (close_primary (with_refused frame p)).1) (Some frame) out_of_memory p
     (λ first mild refused. absurd (not-first first refusal mild other refused))
     (λ taken same standing. subst (λ (f : Received). (take_frame f p).0 ≡ reply.Refused refusal → (take_frame f p).1 ≡ (close_primary (with_refused frame p)).1)
     (only frame taken same) (frame-closes frame p refusal standing)) is
 
 -- A secondary that refuses a frame has all effects of a close.
 pub refused_frames_close_the_secondary : RefusedFramesCloseTheSecondary
-refused_frames_close_the_secondary frame starved s refusal is other =
-    receive-has (λ r. r.0 ≡ reply.Refused refusal → r.1 ≡ (close_secondary (with_refused_too frame s)).1) (Some frame) starved s
+refused_frames_close_the_secondary frame out_of_memory s refusal is other =
+    receive-has (λ r. r.0 ≡ reply.Refused refusal → r.1 ≡ (close_secondary (with_refused_too frame s)).1) (Some frame) out_of_memory s
     (λ first mild refused. absurd (not-first first refusal mild other refused))
     (λ taken same standing. subst (λ (f : Received). (take_item f s).0 ≡ reply.Refused refusal → (take_item f s).1 ≡ (close_secondary
     (with_refused_too frame s)).1) (only frame taken same) (frame-closes-too frame s refusal standing)) is
@@ -249,45 +261,54 @@ others-count frame taken =
     ap (λ n. take n (taken ++ frame ∷ [])) count ∙ take-append_seam taken (frame ∷ [])
 
 -- a frame that is refused brings none
-items-stay : (frame : Received) (c : Inward) → c.refused ≡ false → items_taken (closed_end (refusing_too frame c)) ≡ items_taken c
+items-stay : (frame : Received) (c : SecondaryConnection) → c.refused ≡ false → items_taken (closed_end (refusing_too frame c)) ≡ items_taken c
 items-stay frame c unrefused = ap (λ (taken : List Received). filter_map received_item (drop 3 taken)) (others-count frame c.taken
     ∙ sym (ap (λ b. counting b c.taken) unrefused))
 
 -- a secondary that refuses a frame was open
-was-open : (frame : Received) (starved : Bool) (s : SecondaryHistory) (refusal : Refusal) → (receive (Some frame) starved s).0 ≡ reply.Refused refusal
-    → is_refused_frame refusal ≡ true → (inward s).closed ≡ false
-was-open frame starved s refusal is other = receive-has (λ r. r.0 ≡ reply.Refused refusal → (inward s).closed ≡ false) (Some frame) starved s
+was-open : (frame : Received) (out_of_memory : Bool) (s : SecondaryHistory) (refusal : Refusal)
+    → (receive (Some frame) out_of_memory s).0 ≡ reply.Refused refusal
+    → is_refused_frame refusal ≡ true → (secondary_connection s).closed ≡ false
+was-open frame out_of_memory s refusal is other = receive-has (λ r. r.0 ≡ reply.Refused refusal
+    → (secondary_connection s).closed ≡ false) (Some frame) out_of_memory s
     (λ first mild refused. absurd (not-first first refusal mild other refused))
     (λ taken same standing refused. standing) is
 
 -- nor was a primary closed that refuses one
-pub had-open : (frame : Received) (starved : Bool) (p : PrimaryHistory) (refusal : Refusal) → (ack_in (Some frame) starved p).0 ≡ reply.Refused refusal
-    → is_refused_frame refusal ≡ true → (outward p).closed ≡ false
-had-open frame starved p refusal is other = ack-in-has (λ r. r.0 ≡ reply.Refused refusal → (outward p).closed ≡ false) (Some frame) starved p
+pub had-open : (frame : Received) (out_of_memory : Bool) (p : PrimaryHistory) (refusal : Refusal)
+    → (ack_in (Some frame) out_of_memory p).0 ≡ reply.Refused refusal
+    → is_refused_frame refusal ≡ true → (primary_connection p).closed ≡ false
+had-open frame out_of_memory p refusal is other = ack-in-has (λ r. r.0 ≡ reply.Refused refusal
+    → (primary_connection p).closed ≡ false) (Some frame) out_of_memory p
     (λ first mild refused. absurd (not-first first refusal mild other refused))
     (λ taken same standing refused. standing) is
 
 -- its end after the step
-refused-end : (frame : Received) (s : SecondaryHistory) → (inward s).closed ≡ false
-    → inward (close_secondary (with_refused_too frame s)).1 ≡ closed_end (refusing_too frame (inward s))
+refused-end : (frame : Received) (s : SecondaryHistory) → (secondary_connection s).closed ≡ false
+    → secondary_connection (close_secondary (with_refused_too frame s)).1 ≡ closed_end (refusing_too frame (secondary_connection s))
 refused-end frame s standing =
-    ap inward (close-open-too (with_refused_too frame s) (refused-open-too frame s standing))
-    ∙ (ap (λ (cs : List Inward). last_of (no_inward s) cs) (change-twice (refusing_too frame) closed_end s.connections)
-    ∙ last (last-change (λ (c : Inward). closed_end (refusing_too frame c)) (no_inward s) (no_inward s) s.connections))
+    ap secondary_connection (close-open-too (with_refused_too frame s) (refused-open-too frame s standing))
+    ∙ (ap (λ (cs : List SecondaryConnection). last_of (no_secondary_connection s) cs) (change-twice (refusing_too frame) closed_end s.connections)
+    ∙ last (last-change (λ (c : SecondaryConnection). closed_end (refusing_too frame c)) (no_secondary_connection s) (no_secondary_connection s) s.connections))
   where
-    last : (s.connections ≡ []) ⊎ (last_of (no_inward s) (change_last (λ (c : Inward). closed_end (refusing_too frame c)) s.connections) ≡ closed_end
-        (refusing_too frame (inward s)))
-        → last_of (no_inward s) (change_last (λ (c : Inward). closed_end (refusing_too frame c)) s.connections) ≡ closed_end (refusing_too frame (inward s))
-    last (inl empty) = absurd (both_ways (inward s).closed standing (ap (λ (cs : List Inward). (last_of (no_inward s) cs).closed) empty))
+    last : (s.connections ≡ []) ⊎ (last_of (no_secondary_connection s)
+        (change_last (λ (c : SecondaryConnection). closed_end (refusing_too frame c)) s.connections) ≡ closed_end
+        (refusing_too frame (secondary_connection s)))
+        → last_of (no_secondary_connection s) (change_last (λ (c : SecondaryConnection). closed_end (refusing_too frame c)) s.connections) ≡ closed_end
+        (refusing_too frame (secondary_connection s))
+    last (inl empty) = absurd (both_ways (secondary_connection s).closed standing
+        (ap (λ (cs : List SecondaryConnection). (last_of (no_secondary_connection s) cs).closed) empty))
     last (inr is) = is
 
 -- What was pending stays so, and the disk holds what it held.
 pub refused_frames_leave_the_items : RefusedFramesLeaveTheItems
-refused_frames_leave_the_items frame starved s refusal unrefused is other =
-    let end : inward (receive (Some frame) starved s).1 ≡ closed_end (refusing_too frame (inward s)) =
-    ap inward (refused_frames_close_the_secondary frame starved s refusal is other) ∙ refused-end frame s (was-open frame starved s refusal is other) in
-    let items : items_taken (closed_end (refusing_too frame (inward s))) ≡ items_taken (inward s) = items-stay frame (inward s) unrefused in (
-      ap pending end ∙ ap (λ (l : List Item). filter (is_pending (inward s)) (placed l)) items,
+refused_frames_leave_the_items frame out_of_memory s refusal unrefused is other =
+    let end : secondary_connection (receive (Some frame) out_of_memory s).1 ≡ closed_end (refusing_too frame (secondary_connection s)) =
+    ap secondary_connection (refused_frames_close_the_secondary frame out_of_memory s refusal is other)
+    ∙ refused-end frame s (was-open frame out_of_memory s refusal is other) in
+    let items : items_taken (closed_end (refusing_too frame (secondary_connection s))) ≡ items_taken (secondary_connection s) =
+    items-stay frame (secondary_connection s) unrefused in (
+      ap pending end ∙ ap (λ (l : List StreamItem). filter (is_pending (secondary_connection s)) (placed l)) items,
       ap map_of end
-          ∙ ap (λ (l : List Item). overlay (inward s).base (layers_of l (inward s).applied)) items,
+          ∙ ap (λ (l : List StreamItem). overlay (secondary_connection s).base (layers_of l (secondary_connection s).applied)) items,
     )

@@ -10,9 +10,10 @@ use Rattle.blocks.specs.declared.outcome.Reply.TheVariants as reply
 use Rattle.blocks.specs.declared.outcome.What.TheVariants as what
 use Rattle.model.specs.Stream.{below, contents_of, IsBeginning}
 use Rattle.model.specs.Refusals.{Test, first_refusal}
-use Rattle.model.specs.Primary.{PrimaryHistory, Outward, no_outward, outward_at}
+use Rattle.model.specs.Primary.{PrimaryHistory, PrimaryConnection, no_primary_connection, primary_connection_at}
 use Rattle.model.specs.PrimarySteps.{open_tests, opened, open_primary, succeeding, tested, follows, is_unfinished, accepted_at, local_fault}
-use Rattle.model.specs.Secondary.{SecondaryHistory, Inward, no_inward, inward, with_inward, is_drained, items_taken, inward_at}
+use Rattle.model.specs.Secondary.{SecondaryHistory, SecondaryConnection, no_secondary_connection, secondary_connection, with_secondary_connection, is_drained}
+use Rattle.model.specs.Secondary.{items_taken, secondary_connection_at}
 use Rattle.model.specs.SecondarySteps.{answering, open_secondary_tests, opened_secondary, open_secondary, succeeding_secondary, tested_secondary, peer_tests}
 use Rattle.model.specs.SecondarySteps.{peer_fault}
 use Rattle.model.specs.LocalRuns.{PrimaryEvent, Opens, Submits, WritesLocally, FailsLocally, Sends, Takes, Resyncs, FailsResync, Closes, primary_after}
@@ -31,8 +32,8 @@ use Rattle.laws.proofs.Pair.Primary.{ends-ack-in}
 use Rattle.laws.proofs.Pair.Secondary.{HasEndsToo, ends-answering, ends-receive, ends-peer, ends-fault-too, ends-push, ends-close-too}
 use Rattle.laws.proofs.Lists.Pairs.{Pairs, pairs-length, pairs-get, pairs-append}
 use Rattle.laws.proofs.Lists.Tests.{test-passed}
-use Rattle.laws.proofs.Secondary.Numbers.{NumbersRise, AreCounted, IsSeen, counted-after, numbers-rise, inward-there, inward-cases}
-use Rattle.laws.proofs.Joining.Ends.{outward-there, outward-cases}
+use Rattle.laws.proofs.Secondary.Numbers.{NumbersRise, AreCounted, IsSeen, counted-after, numbers-rise, secondary-connection-there, secondary-connection-cases}
+use Rattle.laws.proofs.Joining.Ends.{primary-connection-there, primary-connection-cases}
 use Rattle.laws.proofs.Lists.Elements.{get-there}
 use Rattle.model.specs.Theorems.{Opening, primary_at, secondary_at, pair_at}
 use Rattle.std.proofs.lemmas.Option.{slice_get_within}
@@ -98,7 +99,8 @@ secondary-passed h tests done none =
     ap (λ (v : Option Refusal). elim v as (λ _. Reply × SecondaryHistory) [ Some refusal ↦ (reply.Refused refusal, h) | None ↦ done tt ]) none
 
 -- two new ends are linked
-linked-new : (here there : Settings) (c : Outward) (d : Inward) → c.pushed ≡ 0 → c.taken ≡ [] → d.pushed ≡ 0 → d.taken ≡ [] → AreLinked here there c d
+linked-new : (here there : Settings) (c : PrimaryConnection) (d : SecondaryConnection) → c.pushed ≡ 0 → c.taken ≡ [] → d.pushed ≡ 0 → d.taken ≡ []
+    → AreLinked here there c d
 linked-new here there c d sent taken answered taken_too = record {
   out = rw taken_too (_, refl);
   back = rw taken (_, refl);
@@ -108,7 +110,7 @@ linked-new here there c d sent taken answered taken_too = record {
 
 opens-linked : (sync loss : ℕ) (h : PairHistory) → IsLinkedPair h
     → Pairs (AreLinked h.primary.settings h.secondary.settings) (follows (opened h.primary sync loss)).history.connections
-    (with_inward answering (opened_secondary 0 h.secondary)).connections
+    (with_secondary_connection answering (opened_secondary 0 h.secondary)).connections
     × ((follows (opened h.primary sync loss)).history.settings ≡ h.primary.settings)
 opens-linked sync loss h linked =
     let p : PrimaryHistory = h.primary in
@@ -118,39 +120,41 @@ opens-linked sync loss h linked =
       pairs = pairs-append (AreLinked p.settings s.settings) p.connections s.connections _ _ linked.pairs
           (linked-new p.settings s.settings _ _ refl refl refl refl);
     } in
-    let followed = ends-following p.settings s.settings (opened_secondary 0 s).connections (no_inward s) (opened p sync loss) both in
-    let answered = ends-answering p.settings s.settings (follows (opened p sync loss)).history.connections (no_outward p.tuple) (opened_secondary 0 s)
+    let followed = ends-following p.settings s.settings (opened_secondary 0 s).connections (no_secondary_connection s) (opened p sync loss) both in
+    let answered = ends-answering p.settings s.settings (follows (opened p sync loss)).history.connections (no_primary_connection p.tuple)
+    (opened_secondary 0 s)
     (record { settings = refl; pairs = followed.pairs }) in
     (answered.pairs, followed.settings)
 
-leads-open : (sync loss : ℕ) (starved : Bool) (h : PairHistory) → IsLinkedPair h → LeadsTo h (open_pair sync loss starved h).1
-leads-open sync loss starved h linked = go (first_refusal (open_pair_tests h sync loss starved)) refl
+leads-open : (sync loss : ℕ) (out_of_memory : Bool) (h : PairHistory) → IsLinkedPair h → LeadsTo h (open_pair sync loss out_of_memory h).1
+leads-open sync loss out_of_memory h linked = go (first_refusal (open_pair_tests h sync loss out_of_memory)) refl
   where
-    both : first_refusal (open_pair_tests h sync loss starved) ≡ None
-        → LeadsTo h (record { primary = (open_primary sync loss starved h.primary).1; secondary = (open_secondary 0 h.secondary).1 })
+    both : first_refusal (open_pair_tests h sync loss out_of_memory) ≡ None
+        → LeadsTo h (record { primary = (open_primary sync loss out_of_memory h.primary).1; secondary = (open_secondary 0 h.secondary).1 })
     both none =
-        let tests = test-passed (not ((inward h.secondary).closed && is_drained h.secondary)) NotDrained (open_tests h.primary sync loss starved) none in
-        let here : (open_primary sync loss starved h.primary).1 ≡ (follows (opened h.primary sync loss)).history =
+        let tests = test-passed (not ((secondary_connection h.secondary).closed && is_drained h.secondary)) NotDrained
+        (open_tests h.primary sync loss out_of_memory) none in
+        let here : (open_primary sync loss out_of_memory h.primary).1 ≡ (follows (opened h.primary sync loss)).history =
         ap (λ (r : Reply × PrimaryHistory). r.1)
-        (primary-passed h.primary (open_tests h.primary sync loss starved) (λ _. succeeding what.Nothing (opened h.primary sync loss)) tests.1) in
+        (primary-passed h.primary (open_tests h.primary sync loss out_of_memory) (λ _. succeeding what.Nothing (opened h.primary sync loss)) tests.1) in
         let free : first_refusal (open_secondary_tests h.secondary) ≡ None = ap (λ b. if b then Some NotDrained else None) tests.0 in
-        let there : (open_secondary 0 h.secondary).1 ≡ with_inward answering (opened_secondary 0 h.secondary) =
+        let there : (open_secondary 0 h.secondary).1 ≡ with_secondary_connection answering (opened_secondary 0 h.secondary) =
         ap (λ (r : Reply × SecondaryHistory). r.1)
         (secondary-passed h.secondary (open_secondary_tests h.secondary) (λ _. succeeding_secondary what.Nothing (opened_secondary 0 h.secondary)) free) in
         let linked_too = opens-linked sync loss h linked in (
-          record { here = Opens sync loss starved ∷ []; there = OpensToo 0 ∷ []; primary = refl; secondary = refl },
+          record { here = Opens sync loss out_of_memory ∷ []; there = OpensToo 0 ∷ []; primary = refl; secondary = refl },
           record {
-            homes = keeps-after HasHomes HasHomes homes-kept homes-released (Opens sync loss starved) h.primary linked.homes;
+            homes = keeps-after HasHomes HasHomes homes-kept homes-released (Opens sync loss out_of_memory) h.primary linked.homes;
             pairs =
                 rw (here, there) (subst (λ (s : Settings). Pairs (AreLinked s h.secondary.settings) (follows (opened h.primary sync loss)).history.connections
-                (with_inward answering (opened_secondary 0 h.secondary)).connections) (sym linked_too.1) linked_too.0);
+                (with_secondary_connection answering (opened_secondary 0 h.secondary)).connections) (sym linked_too.1) linked_too.0);
             counted = counted-after (OpensToo 0) refl h.secondary linked.counted;
           },
         )
 
-    go : (v : Option Refusal) → first_refusal (open_pair_tests h sync loss starved) ≡ v → LeadsTo h (elim v as (λ _. Reply × PairHistory) [
+    go : (v : Option Refusal) → first_refusal (open_pair_tests h sync loss out_of_memory) ≡ v → LeadsTo h (elim v as (λ _. Reply × PairHistory) [
       | Some refusal ↦ (reply.Refused refusal, h)
-      | None ↦ let primary = open_primary sync loss starved h.primary in (
+      | None ↦ let primary = open_primary sync loss out_of_memory h.primary in (
         primary.0,
         record { primary = primary.1; secondary = (open_secondary 0 h.secondary).1 },
       )
@@ -176,13 +180,16 @@ leads-local-fault number kept h linked =
     go (Some refusal) = leads-self h linked
     go None =
         leads-primary h (FailsLocally number (below kept)) linked
-        (ends-fault h.primary.settings h.secondary.settings h.secondary.connections (no_inward h.secondary) number (below kept) h.primary
+        (ends-fault h.primary.settings h.secondary.settings h.secondary.connections (no_secondary_connection h.secondary) number (below kept) h.primary
         (record { settings = refl; pairs = linked.pairs }))
 
 leads-peer-fault : (place kept : ℕ) (h : PairHistory) → IsLinkedPair h → LeadsTo h (record h { secondary = (peer_fault_kept place kept h.secondary).1 })
 leads-peer-fault place kept h linked =
     go (first_refusal (peer_tests h.secondary place
-    ++ (keeps_too_many kept (option_map (λ item. length (contents_of item)) (slice_get (items_taken (inward h.secondary)) place)), BadRange) ∷ []))
+    ++ (
+      keeps_too_many kept (option_map (λ item. length (contents_of item)) (slice_get (items_taken (secondary_connection h.secondary)) place)),
+      BadRange,
+    ) ∷ []))
   where
     go : (v : Option Refusal)
         → LeadsTo h (record h {
@@ -196,12 +203,12 @@ leads-peer-fault place kept h linked =
     go (Some refusal) = leads-self h linked
     go None =
         leads-secondary h (FailsToApply place (below kept)) tt linked
-        (ends-fault-too h.primary.settings h.secondary.settings h.primary.connections (no_outward h.primary.tuple) place (below kept) h.secondary
+        (ends-fault-too h.primary.settings h.secondary.settings h.primary.connections (no_primary_connection h.primary.tuple) place (below kept) h.secondary
         (record { settings = refl; pairs = linked.pairs }))
 
 -- One event of the pair is at most one of each node.
-leads-step : (event : Event) (starved : Bool) (h : PairHistory) → IsLinkedPair h → LeadsTo h (step event starved h).1
-leads-step event starved h linked = go event
+leads-step : (event : Event) (out_of_memory : Bool) (h : PairHistory) → IsLinkedPair h → LeadsTo h (step event out_of_memory h).1
+leads-step event out_of_memory h linked = go event
   where
     here : HasEnds h.primary.settings h.secondary.settings h.secondary.connections h.primary
     here = record { settings = refl; pairs = linked.pairs }
@@ -209,39 +216,44 @@ leads-step event starved h linked = go event
     there : HasEndsToo h.primary.settings h.secondary.settings h.primary.connections h.secondary
     there = record { settings = refl; pairs = linked.pairs }
 
-    go : (event : Event) → LeadsTo h (step event starved h).1
-    go (OpenEvent sync loss) = leads-open sync loss starved h linked
+    go : (event : Event) → LeadsTo h (step event out_of_memory h).1
+    go (OpenEvent sync loss) = leads-open sync loss out_of_memory h linked
     go (SubmitEvent first contents) =
-        leads-primary h (Submits first contents starved) linked
-        (ends-submit h.primary.settings h.secondary.settings h.secondary.connections (no_inward h.secondary) first contents starved h.primary here)
+        leads-primary h (Submits first contents out_of_memory) linked
+        (ends-submit h.primary.settings h.secondary.settings h.secondary.connections (no_secondary_connection h.secondary) first contents out_of_memory
+        h.primary here)
     go (LocalEvent number) = leads-primary h (WritesLocally number) linked
-        (ends-local h.primary.settings h.secondary.settings h.secondary.connections (no_inward h.secondary) number h.primary here)
+        (ends-local h.primary.settings h.secondary.settings h.secondary.connections (no_secondary_connection h.secondary) number h.primary here)
     go (LocalFaultEvent number kept) = leads-local-fault number kept h linked
-    go SendEvent = leads-primary h (Sends (has_room h) starved) linked
-        (ends-send h.primary.settings h.secondary.settings h.secondary.connections (no_inward h.secondary) (has_room h) starved h.primary here)
+    go SendEvent = leads-primary h (Sends (has_room h) out_of_memory) linked
+        (ends-send h.primary.settings h.secondary.settings h.secondary.connections (no_secondary_connection h.secondary)
+        (has_room h) out_of_memory h.primary here)
     go ReceiveEvent =
-        leads-secondary h (Receives (next_frame h) starved) tt linked
-        (ends-receive h.primary.settings h.secondary.settings h.primary.connections (no_outward h.primary.tuple) (next_frame h) starved h.secondary there
+        leads-secondary h (Receives (next_frame h) out_of_memory) tt linked
+        (ends-receive h.primary.settings h.secondary.settings h.primary.connections (no_primary_connection h.primary.tuple)
+        (next_frame h) out_of_memory h.secondary there
         refl)
     go (PeerEvent place) = leads-secondary h (Applies place) tt linked
-        (ends-peer h.primary.settings h.secondary.settings h.primary.connections (no_outward h.primary.tuple) place h.secondary there)
+        (ends-peer h.primary.settings h.secondary.settings h.primary.connections (no_primary_connection h.primary.tuple) place h.secondary there)
     go (PeerFaultEvent place kept) = leads-peer-fault place kept h linked
     go AckOutEvent =
-        leads-secondary h (Acknowledges (answers_have_room h) starved) tt linked
-        (ends-push h.primary.settings h.secondary.settings h.primary.connections (no_outward h.primary.tuple) (answers_have_room h) starved h.secondary
+        leads-secondary h (Acknowledges (answers_have_room h) out_of_memory) tt linked
+        (ends-push h.primary.settings h.secondary.settings h.primary.connections (no_primary_connection h.primary.tuple)
+        (answers_have_room h) out_of_memory h.secondary
         there)
     go AckInEvent =
-        leads-primary h (Takes (next_answer h) starved) linked
-        (ends-ack-in h.primary.settings h.secondary.settings h.secondary.connections (no_inward h.secondary) (next_answer h) starved h.primary linked.homes
+        leads-primary h (Takes (next_answer h) out_of_memory) linked
+        (ends-ack-in h.primary.settings h.secondary.settings h.secondary.connections (no_secondary_connection h.secondary)
+        (next_answer h) out_of_memory h.primary linked.homes
         here refl)
-    go ResyncEvent = leads-primary h (Resyncs starved) linked
-        (ends-resync h.primary.settings h.secondary.settings h.secondary.connections (no_inward h.secondary) starved h.primary here)
-    go ResyncFaultEvent = leads-primary h (FailsResync starved) linked
-        (ends-resync-fault h.primary.settings h.secondary.settings h.secondary.connections (no_inward h.secondary) starved h.primary here)
+    go ResyncEvent = leads-primary h (Resyncs out_of_memory) linked
+        (ends-resync h.primary.settings h.secondary.settings h.secondary.connections (no_secondary_connection h.secondary) out_of_memory h.primary here)
+    go ResyncFaultEvent = leads-primary h (FailsResync out_of_memory) linked
+        (ends-resync-fault h.primary.settings h.secondary.settings h.secondary.connections (no_secondary_connection h.secondary) out_of_memory h.primary here)
     go ClosePrimaryEvent = leads-primary h Closes linked
-        (ends-close h.primary.settings h.secondary.settings h.secondary.connections (no_inward h.secondary) h.primary here)
+        (ends-close h.primary.settings h.secondary.settings h.secondary.connections (no_secondary_connection h.secondary) h.primary here)
     go CloseSecondaryEvent = leads-secondary h ClosesToo tt linked
-        (ends-close-too h.primary.settings h.secondary.settings h.primary.connections (no_outward h.primary.tuple) h.secondary there)
+        (ends-close-too h.primary.settings h.secondary.settings h.primary.connections (no_primary_connection h.primary.tuple) h.secondary there)
 
 -- Runs.
 
@@ -283,38 +295,38 @@ joined-pair h linked rise = record { out = out; back = back }
     same = pairs-length (AreLinked h.primary.settings h.secondary.settings) h.primary.connections h.secondary.connections linked.pairs
 
     -- the two ends of a number that was opened
-    together : (k : ℕ) (c : Outward) → slice_get h.primary.connections k ≡ Some c
-        → (d : Inward) × (inward_at h.secondary (suc k) ≡ d) × AreLinked h.primary.settings h.secondary.settings c d
+    together : (k : ℕ) (c : PrimaryConnection) → slice_get h.primary.connections k ≡ Some c
+        → (d : SecondaryConnection) × (secondary_connection_at h.secondary (suc k) ≡ d) × AreLinked h.primary.settings h.secondary.settings c d
     together k c at =
         let within = slice_get_within p.connections k c at in
         let size = same in let found = get-there s.connections k (omega arith) in (
           found.0,
-          subst (λ n. inward_at s n ≡ found.0) (linked.counted k found.0 found.1) (inward-there s rise k found.0 found.1),
+          subst (λ n. secondary_connection_at s n ≡ found.0) (linked.counted k found.0 found.1) (secondary-connection-there s rise k found.0 found.1),
           pairs-get (AreLinked p.settings s.settings) p.connections s.connections k c found.0 linked.pairs at found.1,
         )
 
-    out : (number : ℕ) → IsBeginning (inward_at h.secondary number).taken (pushed_by h.primary (outward_at h.primary number))
-    out number = elim (inward-cases s number) [
-      | inr none ↦ subst (λ (d : Inward). IsBeginning d.taken (pushed_by p (outward_at p number))) (sym none) (_, refl)
+    out : (number : ℕ) → IsBeginning (secondary_connection_at h.secondary number).taken (pushed_by h.primary (primary_connection_at h.primary number))
+    out number = elim (secondary-connection-cases s number) [
+      | inr none ↦ subst (λ (d : SecondaryConnection). IsBeginning d.taken (pushed_by p (primary_connection_at p number))) (sym none) (_, refl)
       | inl found ↦
           let index : number ≡ suc found.0 = sym found.3 ∙ linked.counted found.0 found.1 found.2 in
           let within = slice_get_within s.connections found.0 found.1 found.2 in
           let size = same in
           let other = get-there p.connections found.0 (omega arith) in
           let both = together found.0 other.0 other.1 in
-          subst (λ n. IsBeginning (inward_at s n).taken (pushed_by p (outward_at p n))) (sym index)
-          (subst (λ (d : Inward). IsBeginning d.taken (pushed_by p (outward_at p (suc found.0)))) (sym both.1)
-          (subst (λ (c : Outward). IsBeginning both.0.taken (pushed_by p c)) (sym (outward-there p found.0 other.0 other.1)) both.2.out))
+          subst (λ n. IsBeginning (secondary_connection_at s n).taken (pushed_by p (primary_connection_at p n))) (sym index)
+          (subst (λ (d : SecondaryConnection). IsBeginning d.taken (pushed_by p (primary_connection_at p (suc found.0)))) (sym both.1)
+          (subst (λ (c : PrimaryConnection). IsBeginning both.0.taken (pushed_by p c)) (sym (primary-connection-there p found.0 other.0 other.1)) both.2.out))
     ]
 
-    back : (number : ℕ) → IsBeginning (outward_at h.primary number).taken (pushed_back_by h.secondary (inward_at h.secondary number))
+    back : (number : ℕ) → IsBeginning (primary_connection_at h.primary number).taken (pushed_back_by h.secondary (secondary_connection_at h.secondary number))
     back zero = (_, refl)
-    back (suc k) = elim (outward-cases p k) [
-      | inr none ↦ subst (λ (c : Outward). IsBeginning c.taken (pushed_back_by s (inward_at s (suc k)))) (sym none) (_, refl)
+    back (suc k) = elim (primary-connection-cases p k) [
+      | inr none ↦ subst (λ (c : PrimaryConnection). IsBeginning c.taken (pushed_back_by s (secondary_connection_at s (suc k)))) (sym none) (_, refl)
       | inl found ↦
           let both = together k found.0 found.1 in
-          subst (λ (c : Outward). IsBeginning c.taken (pushed_back_by s (inward_at s (suc k)))) (sym found.2)
-          (subst (λ (d : Inward). IsBeginning found.0.taken (pushed_back_by s d)) (sym both.1) both.2.back)
+          subst (λ (c : PrimaryConnection). IsBeginning c.taken (pushed_back_by s (secondary_connection_at s (suc k)))) (sym found.2)
+          (subst (λ (d : SecondaryConnection). IsBeginning found.0.taken (pushed_back_by s d)) (sym both.1) both.2.back)
     ]
 
 -- Each node's part of a run of the pair is a run of that node by itself, and the frames of the two are joined: on each

@@ -10,11 +10,13 @@ use Rattle.blocks.specs.declared.tuple.Tuple.{Tuple}
 use Rattle.blocks.specs.declared.outcome.Decision.{Decision}
 use Rattle.blocks.specs.declared.outcome.Decision.TheVariants.{NoSync, BitmapSync, FullSync}
 use Rattle.model.specs.Contents.{BlockMap, Write, extent_of}
-use Rattle.model.specs.Stream.{Item, WriteItem, ResyncItem, BarrierItem, SyncUuidItem, UuidsItem, IsBeginning, epoch_of, last_epoch, within}
+use Rattle.model.specs.Stream.{StreamItem, WriteItem, ResyncItem, BarrierItem, SyncUuidItem, UuidsItem, IsBeginning, epoch_of, last_epoch, within}
 use Rattle.model.specs.Frames.{UuidsFrame, Received}
 use Rattle.model.specs.Identifiers.{sync_end}
-use Rattle.model.specs.Primary.{LocalOutcome, Waiting, OnDisk, Failed, Accepted, Outward, PrimaryHistory, primary_opening, no_outward, outward, last_index}
-use Rattle.model.specs.Primary.{change_last, with_outward, stands, local_map, accepted_frames, is_barrier_ack, barrier_acknowledged, is_waiting, is_confirmed}
+use Rattle.model.specs.Primary.{LocalOutcome, Waiting, OnDisk, Failed, Accepted, PrimaryConnection, PrimaryHistory, primary_opening, no_primary_connection}
+use Rattle.model.specs.Primary.{primary_connection, last_index}
+use Rattle.model.specs.Primary.{change_last, with_primary_connection, is_established, local_map, accepted_frames, is_barrier_ack, barrier_acknowledged}
+use Rattle.model.specs.Primary.{is_waiting, is_confirmed}
 use Rattle.model.specs.Primary.{is_alone, is_released, unreleased, active_extents}
 use Rattle.model.specs.PrimarySteps.{follows, activity_is_full, submission, submitted, set_outcome, faulted, accepted_at, opened}
 use Rattle.model.specs.PrimarySteps.{submitted_with, faulted_by}
@@ -36,31 +38,32 @@ use Rattle.laws.proofs.Rules.Releases.{is_freed, freed-cases, freed-confirmed, f
 
 -- A later state of a connection, at which what was released stays so: a closed end stays closed, and what is confirmed
 -- stays confirmed, or the end is closed.
-pub record KeepsRelease (c d : Outward) : Type 0 where
+pub record KeepsRelease (c d : PrimaryConnection) : Type 0 where
   pub closed : c.closed ≡ true → d.closed ≡ true
   pub confirmed : (place : ℕ) → place < length c.stream → barrier_acknowledged c (epoch_of c.stream place) ≡ true
       → (barrier_acknowledged d (epoch_of d.stream place) ≡ true) ⊎ (d.closed ≡ true)
 
-keeps-self : (c : Outward) → KeepsRelease c c
+keeps-self : (c : PrimaryConnection) → KeepsRelease c c
 keeps-self c = record { closed = λ was. was; confirmed = λ place within was. inl was }
 
 -- a stream and accepted frames that have only grown
-keeps-growing : (c d : Outward) → d.closed ≡ c.closed → IsBeginning c.stream d.stream → IsBeginning (accepted_frames c) (accepted_frames d) → KeepsRelease c d
+keeps-growing : (c d : PrimaryConnection) → d.closed ≡ c.closed → IsBeginning c.stream d.stream → IsBeginning (accepted_frames c) (accepted_frames d)
+    → KeepsRelease c d
 keeps-growing c d same stream frames = record {
   closed = λ was. same ∙ was;
   confirmed = λ place within was.
-      let epoch : epoch_of d.stream place ≡ epoch_of c.stream place = ap (λ (l : List Item). epoch_of l place) (sym stream.1)
+      let epoch : epoch_of d.stream place ≡ epoch_of c.stream place = ap (λ (l : List StreamItem). epoch_of l place) (sym stream.1)
       ∙ epoch-grows c.stream stream.0 place (omega arith) in
       inl (ap (barrier_acknowledged d) epoch ∙ any-grows (is_barrier_ack (epoch_of c.stream place)) (accepted_frames c) (accepted_frames d) frames was);
 }
 
 -- an end that is closed now
-keeps-closed : (c d : Outward) → d.closed ≡ true → KeepsRelease c d
+keeps-closed : (c d : PrimaryConnection) → d.closed ≡ true → KeepsRelease c d
 keeps-closed c d closed = record { closed = λ was. closed; confirmed = λ place within was. inr closed }
 
 -- each connection keeps what was released
-abbrev AllKeep : List Outward → List Outward → Type 0
-AllKeep cs ds = (k : ℕ) (c : Outward) → slice_get cs k ≡ Some c → (d : Outward) × (slice_get ds k ≡ Some d) × KeepsRelease c d
+abbrev AllKeep : List PrimaryConnection → List PrimaryConnection → Type 0
+AllKeep cs ds = (k : ℕ) (c : PrimaryConnection) → slice_get cs k ≡ Some c → (d : PrimaryConnection) × (slice_get ds k ≡ Some d) × KeepsRelease c d
 
 -- accepted writes that are the same, but that the local disk may have finished
 abbrev LaterWrites : List Accepted → List Accepted → Type 0
@@ -82,9 +85,9 @@ released-later h later i a b homes keep at same done released =
     go None is was = freed-alone later b (alone-homeless later b (same ∙ is))
     go (Some home) is was =
         let housed = homes.housed i home.index home.place a at is in
-        let c : Outward = housed.0 in
+        let c : PrimaryConnection = housed.0 in
         let now = keep home.index c housed.1 in
-        let d : Outward = now.0 in
+        let d : PrimaryConnection = now.0 in
         let confirmed : is_confirmed later b ≡ barrier_acknowledged d (epoch_of d.stream home.place) = confirmed-at later b home d (same ∙ is) now.1 in
         let alone : is_alone later b ≡ d.closed = alone-at later b home d (same ∙ is) now.1 in
         elim (freed-cases h a was) [
@@ -141,49 +144,54 @@ few-added settings h later added same keep writes room homes few =
     record { setting = same ∙ few.setting; few = omega arith }
 
 -- no connection changes
-keep-same : (cs ds : List Outward) → ds ≡ cs → AllKeep cs ds
-keep-same cs ds same k c at = (c, subst (λ (l : List Outward). slice_get l k ≡ Some c) (sym same) at, keeps-self c)
+keep-same : (cs ds : List PrimaryConnection) → ds ≡ cs → AllKeep cs ds
+keep-same cs ds same k c at = (c, subst (λ (l : List PrimaryConnection). slice_get l k ≡ Some c) (sym same) at, keeps-self c)
 
 -- the last connection changes
-keep-change : (h : PrimaryHistory) (ds : List Outward) (f : Outward → Outward) → ds ≡ change_last f h.connections
-    → ((k : ℕ) → slice_get h.connections k ≡ Some (outward h) → KeepsRelease (outward h) (f (outward h))) → AllKeep h.connections ds
+keep-change : (h : PrimaryHistory) (ds : List PrimaryConnection) (f : PrimaryConnection → PrimaryConnection) → ds ≡ change_last f h.connections
+    → ((k : ℕ) → slice_get h.connections k ≡ Some (primary_connection h) → KeepsRelease (primary_connection h) (f (primary_connection h)))
+    → AllKeep h.connections ds
 keep-change h ds f connections keeps k c at =
-    let old : (x : Outward) → slice_get (change_last f h.connections) k ≡ Some x
-    → slice_get ds k ≡ Some x = λ x there. subst (λ (l : List Outward). slice_get l k ≡ Some x) (sym connections) there in
-    elim (get-change f (no_outward h.tuple) h.connections k c at) [
+    let old : (x : PrimaryConnection) → slice_get (change_last f h.connections) k ≡ Some x
+    → slice_get ds k ≡ Some x = λ x there. subst (λ (l : List PrimaryConnection). slice_get l k ≡ Some x) (sym connections) there in
+    elim (get-change f (no_primary_connection h.tuple) h.connections k c at) [
       | inl same ↦ (c, old c same, keeps-self c)
       | inr changed ↦ (
         f c,
         old (f c) changed.0,
-        subst (λ (x : Outward). KeepsRelease x (f x)) (sym changed.1) (keeps k (at ∙ ap (λ (x : Outward). Some x) changed.1)),
+        subst (λ (x : PrimaryConnection). KeepsRelease x (f x)) (sym changed.1) (keeps k (at ∙ ap (λ (x : PrimaryConnection). Some x) changed.1)),
       )
     ]
 
 -- the last connection changes, and no write
-few-change : (settings : Settings) (h later : PrimaryHistory) (f : Outward → Outward) → later.settings ≡ h.settings
+few-change : (settings : Settings) (h later : PrimaryHistory) (f : PrimaryConnection → PrimaryConnection) → later.settings ≡ h.settings
     → later.connections ≡ change_last f h.connections → later.writes ≡ h.writes
-    → ((k : ℕ) → slice_get h.connections k ≡ Some (outward h) → KeepsRelease (outward h) (f (outward h))) → HasHomes h → HasFewExtents settings h
+    → ((k : ℕ) → slice_get h.connections k ≡ Some (primary_connection h) → KeepsRelease (primary_connection h) (f (primary_connection h))) → HasHomes h
+    → HasFewExtents settings h
     → HasFewExtents settings later
 few-change settings h later f same connections writes keeps homes few =
     few-later settings h later same (keep-change h later.connections f connections keeps) (subst (LaterWrites h.writes) (sym writes) (later-self h.writes))
     homes few
 
 -- an item goes to the end of a stream
-keeps-appending : (c : Outward) (item : Item) → KeepsRelease c (record c { stream = c.stream ++ item ∷ [] })
+keeps-appending : (c : PrimaryConnection) (item : StreamItem) → KeepsRelease c (record c { stream = c.stream ++ item ∷ [] })
 keeps-appending c item = keeps-growing c (record c { stream = c.stream ++ item ∷ [] }) refl (item ∷ [], refl) (begins-self (accepted_frames c))
 
-few-appending : (settings : Settings) (h later : PrimaryHistory) (item : Item) → later.settings ≡ h.settings
+few-appending : (settings : Settings) (h later : PrimaryHistory) (item : StreamItem) → later.settings ≡ h.settings
     → later.connections ≡ change_last (λ c. record c { stream = c.stream ++ item ∷ [] }) h.connections → later.writes ≡ h.writes → HasHomes h
     → HasFewExtents settings h
     → HasFewExtents settings later
 few-appending settings h later item same connections writes homes few =
-    few-change settings h later (λ c. record c { stream = c.stream ++ item ∷ [] }) same connections writes (λ k at. keeps-appending (outward h) item) homes few
+    few-change settings h later (λ c. record c { stream = c.stream ++ item ∷ [] }) same connections writes (λ k at. keeps-appending (primary_connection h) item)
+    homes few
 
 -- a frame is taken
-keeps-taking : (h : PrimaryHistory) (frame : Received) → HasHomes h → (outward h).closed ≡ false → (k : ℕ) → slice_get h.connections k ≡ Some (outward h)
-    → KeepsRelease (outward h) (with_frame frame (outward h))
-keeps-taking h frame homes standing k at = keeps-growing (outward h) (with_frame frame (outward h)) refl (begins-self (outward h).stream)
-    (frames-taking (outward h) frame (not-refused h homes standing k at))
+keeps-taking : (h : PrimaryHistory) (frame : Received) → HasHomes h → (primary_connection h).closed ≡ false → (k : ℕ)
+    → slice_get h.connections k ≡ Some (primary_connection h)
+    → KeepsRelease (primary_connection h) (with_frame frame (primary_connection h))
+keeps-taking h frame homes standing k at = keeps-growing (primary_connection h) (with_frame frame (primary_connection h)) refl
+    (begins-self (primary_connection h).stream)
+    (frames-taking (primary_connection h) frame (not-refused h homes standing k at))
 
 -- what holds between steps, and after a step's effect
 abbrev Both : Settings → PrimaryHistory → Type 0
@@ -192,24 +200,25 @@ Both settings h = HasHomes h × HasFewExtents settings h
 few-following : (settings : Settings) (h : PrimaryHistory) → Both settings h → Both settings (follows h).history
 few-following settings = following-from (Both settings) (Both settings) (Both settings)
     (λ h p. (homes-completions h p.0, few-later settings h _ refl (keep-same h.connections h.connections refl) (later-self h.writes) p.0 p.1))
-    (λ g over p. (homes-parting g over p.0, few-appending settings g _ (BarrierItem (last_epoch (outward g).stream)) refl refl refl p.0 p.1)) (λ g on p. p)
+    (λ g over p. (homes-parting g over p.0, few-appending settings g _ (BarrierItem (last_epoch (primary_connection g).stream)) refl refl refl p.0 p.1))
+    (λ g on p. p)
     (λ g over p. (homes-ending g over p.0, few-appending settings g _ (UuidsItem (sync_end g.tuple)) refl refl refl p.0 p.1)) (λ g p. p)
 
 -- an accepted write has an active extent, or finds a slot
 few-submits : (settings : Settings) (h : PrimaryHistory) (first : ℕ) (contents : List (List ℕ)) → MaySubmit h first contents → HasHomes h
     → HasFewExtents settings h → HasFewExtents settings (submitted h first contents)
-few-submits settings h first contents may homes few = go (stands (outward h))
+few-submits settings h first contents may homes few = go (is_established (primary_connection h))
   where
     go : (b : Bool) → HasFewExtents settings (submitted_with b h first contents)
     go true = few-added settings h _
         (record {
           write = submission h first contents;
           journal_length = length h.journal;
-          home = Some (record { index = last_index h.connections; place = length (outward h).stream });
+          home = Some (record { index = last_index h.connections; place = length (primary_connection h).stream });
           outcome = Waiting;
         }) refl
         (keep-change h _ (λ c. record c { stream = c.stream ++ WriteItem (submission h first contents) ∷ [] }) refl
-        (λ k at. keeps-appending (outward h) (WriteItem (submission h first contents)))) refl may.active homes few
+        (λ k at. keeps-appending (primary_connection h) (WriteItem (submission h first contents)))) refl may.active homes few
     go false =
         few-added settings h _ (record { write = submission h first contents; journal_length = length h.journal; home = None; outcome = Waiting }) refl
         (keep-same h.connections h.connections refl) refl may.active homes few
@@ -255,34 +264,38 @@ few-faults settings h number offsets homes few = go (accepted_at h number)
     go (Some accepted) = few-outcome settings h _ number (Failed (within (length accepted.write.contents) offsets)) refl refl refl refl homes few
 
 -- a stream that begins was empty
-few-begins : (settings : Settings) (h : PrimaryHistory) (peer : Tuple) (decided : Decision) → (outward h).closed ≡ false → (outward h).begun ≡ false
+few-begins : (settings : Settings) (h : PrimaryHistory) (peer : Tuple) (decided : Decision) → (primary_connection h).closed ≡ false
+    → (primary_connection h).begun ≡ false
     → HasHomes h → HasFewExtents settings h
-    → HasFewExtents settings (begun_with decided (record (with_outward (with_frame (Ok (UuidsFrame peer))) h) { peer = Some peer }))
+    → HasFewExtents settings (begun_with decided (record (with_primary_connection (with_frame (Ok (UuidsFrame peer))) h) { peer = Some peer }))
 few-begins settings h peer decided standing new homes few = go decided
   where
     taken : PrimaryHistory
-    taken = record (with_outward (with_frame (Ok (UuidsFrame peer))) h) { peer = Some peer }
+    taken = record (with_primary_connection (with_frame (Ok (UuidsFrame peer))) h) { peer = Some peer }
 
-    twice : (later : PrimaryHistory) (g : Outward → Outward) → later.settings ≡ h.settings
+    twice : (later : PrimaryHistory) (g : PrimaryConnection → PrimaryConnection) → later.settings ≡ h.settings
         → later.connections ≡ change_last g (change_last (with_frame (Ok (UuidsFrame peer))) h.connections) → later.writes ≡ h.writes
-        → (g (with_frame (Ok (UuidsFrame peer)) (outward h))).closed ≡ (outward h).closed
-        → accepted_frames (g (with_frame (Ok (UuidsFrame peer)) (outward h))) ≡ accepted_frames (with_frame (Ok (UuidsFrame peer)) (outward h))
+        → (g (with_frame (Ok (UuidsFrame peer)) (primary_connection h))).closed ≡ (primary_connection h).closed
+        → accepted_frames (g (with_frame (Ok (UuidsFrame peer)) (primary_connection h))) ≡ accepted_frames
+        (with_frame (Ok (UuidsFrame peer)) (primary_connection h))
         → HasFewExtents settings later
     twice later g same connections writes closed frames = few-change settings h later (λ c. g (with_frame (Ok (UuidsFrame peer)) c)) same (connections
         ∙ change-twice (with_frame (Ok (UuidsFrame peer))) g h.connections) writes
-        (λ k at. keeps-growing (outward h) (g (with_frame (Ok (UuidsFrame peer)) (outward h))) closed (
-          (g (with_frame (Ok (UuidsFrame peer)) (outward h))).stream,
-          ap (λ (l : List Item). l ++ (g (with_frame (Ok (UuidsFrame peer)) (outward h))).stream) (homes.empty k (outward h) at new),
+        (λ k at. keeps-growing (primary_connection h) (g (with_frame (Ok (UuidsFrame peer)) (primary_connection h))) closed (
+          (g (with_frame (Ok (UuidsFrame peer)) (primary_connection h))).stream,
+          ap (λ (l : List StreamItem). l ++ (g (with_frame (Ok (UuidsFrame peer)) (primary_connection h))).stream)
+              (homes.empty k (primary_connection h) at new),
         )
-        (subst (IsBeginning (accepted_frames (outward h))) (sym frames) (frames-taking (outward h) (Ok (UuidsFrame peer)) (not-refused h homes standing k at))))
+        (subst (IsBeginning (accepted_frames (primary_connection h))) (sym frames)
+        (frames-taking (primary_connection h) (Ok (UuidsFrame peer)) (not-refused h homes standing k at))))
         homes few
 
-    go : (v : Decision) → HasFewExtents settings (begun_with v (record (with_outward (with_frame (Ok (UuidsFrame peer))) h) { peer = Some peer }))
+    go : (v : Decision) → HasFewExtents settings (begun_with v (record (with_primary_connection (with_frame (Ok (UuidsFrame peer))) h) { peer = Some peer }))
     go NoSync = twice _ (λ c. record c { begun = true }) refl refl refl refl refl
-    go BitmapSync = twice _ (λ c. record c { begun = true; stream = SyncUuidItem (outward taken).sync ∷ [] }) refl refl refl refl refl
-    go FullSync = twice _ (λ c. record c { begun = true; stream = SyncUuidItem (outward taken).sync ∷ [] }) refl refl refl refl refl
+    go BitmapSync = twice _ (λ c. record c { begun = true; stream = SyncUuidItem (primary_connection taken).sync ∷ [] }) refl refl refl refl refl
+    go FullSync = twice _ (λ c. record c { begun = true; stream = SyncUuidItem (primary_connection taken).sync ∷ [] }) refl refl refl refl refl
 
-few-taking : (settings : Settings) (h later : PrimaryHistory) (frame : Received) → (outward h).closed ≡ false → later.settings ≡ h.settings
+few-taking : (settings : Settings) (h later : PrimaryHistory) (frame : Received) → (primary_connection h).closed ≡ false → later.settings ≡ h.settings
     → later.connections ≡ change_last (with_frame frame) h.connections → later.writes ≡ h.writes → HasHomes h → HasFewExtents settings h
     → HasFewExtents settings later
 few-taking settings h later frame standing same connections writes homes few = few-change settings h later (with_frame frame) same connections writes
@@ -302,7 +315,8 @@ few-kept settings = record {
       λ h standing due p. (
         homes-kept.sends h standing due p.0,
         few-change settings h _ pushing refl refl refl
-            (λ k at. keeps-growing (outward h) (pushing (outward h)) refl (begins-self (outward h).stream) (begins-self (accepted_frames (outward h)))) p.0 p.1,
+            (λ k at. keeps-growing (primary_connection h) (pushing (primary_connection h)) refl (begins-self (primary_connection h).stream)
+            (begins-self (accepted_frames (primary_connection h)))) p.0 p.1,
       );
   greets = λ h frame standing new met p. (homes-kept.greets h frame standing new met p.0, few-taking settings h _ frame standing refl refl refl p.0 p.1);
   begins = λ h peer decided standing new late is fresh p. (
@@ -320,7 +334,7 @@ few-kept settings = record {
     homes-kept.refuses h frame peer standing p.0,
     few-change settings h _ (refused_out frame) refl
         (refused-last frame peer h) refl
-        (λ k at. keeps-closed (outward h) _ refl) p.0 p.1,
+        (λ k at. keeps-closed (primary_connection h) _ refl) p.0 p.1,
   );
   resyncs = λ h block runs alone is p. (
     homes-kept.resyncs h block runs alone is p.0,
@@ -328,7 +342,7 @@ few-kept settings = record {
   );
   closes = λ h standing p. (
     homes-kept.closes h standing p.0,
-    few-change settings h _ (λ c. record c { closed = true }) refl refl refl (λ k at. keeps-closed (outward h) _ refl) p.0 p.1,
+    few-change settings h _ (λ c. record c { closed = true }) refl refl refl (λ k at. keeps-closed (primary_connection h) _ refl) p.0 p.1,
   );
   receipts = λ h number p. (
     homes-kept.receipts h number p.0,

@@ -4,8 +4,9 @@ use Rattle.std.proofs.Common.{arith, Option, None, ◌==◌}
 use Rattle.std.proofs.lemmas.Bool.{both_ways}
 use Rattle.blocks.specs.declared.settings.Protocol.{Protocol}
 use Rattle.model.specs.Contents.{Write}
-use Rattle.model.specs.Stream.{Item, WriteItem, IsBeginning, epoch_of}
-use Rattle.model.specs.Primary.{Accepted, Linked, Completion, Outward, PrimaryHistory, no_outward, last_of, outward, change_last, accepted_frames}
+use Rattle.model.specs.Stream.{StreamItem, WriteItem, IsBeginning, epoch_of}
+use Rattle.model.specs.Primary.{Accepted, Linked, Completion, PrimaryConnection, PrimaryHistory, no_primary_connection, last_of, primary_connection}
+use Rattle.model.specs.Primary.{change_last, accepted_frames}
 use Rattle.model.specs.Primary.{is_answered_by, is_alone, is_confirmed, barrier_acknowledged, LocalOutcome}
 use Rattle.laws.proofs.Lists.Beginnings.{begins-self}
 use Rattle.laws.proofs.Lists.Last.{get-change, get-change-back, last-at}
@@ -16,36 +17,36 @@ use Rattle.model.specs.PrimarySteps.{set_outcome}
 use Rattle.laws.proofs.Rules.Answered.{answered-more}
 
 -- A later state of a connection: its stream, what was pushed and what was accepted have only grown.
-pub record Grows (c d : Outward) : Type 0 where
+pub record Grows (c d : PrimaryConnection) : Type 0 where
   pub stream : IsBeginning c.stream d.stream
   pub pushed : c.pushed ≤ d.pushed
   pub frames : IsBeginning (accepted_frames c) (accepted_frames d)
 
 -- a connection that stays as it is has grown
-pub grows-self : (c : Outward) → Grows c c
+pub grows-self : (c : PrimaryConnection) → Grows c c
 grows-self c = record { stream = begins-self c.stream; pushed = omega arith; frames = begins-self (accepted_frames c) }
 
 -- each connection has only grown
-abbrev pub AllGrow : List Outward → List Outward → Type 0
-AllGrow cs ds = (k : ℕ) (c : Outward) → slice_get cs k ≡ Some c → (d : Outward) × (slice_get ds k ≡ Some d) × Grows c d
+abbrev pub AllGrow : List PrimaryConnection → List PrimaryConnection → Type 0
+AllGrow cs ds = (k : ℕ) (c : PrimaryConnection) → slice_get cs k ≡ Some c → (d : PrimaryConnection) × (slice_get ds k ≡ Some d) × Grows c d
 
 -- what was answered stays so
-pub answered-grows : (asked : Protocol) (c d : Outward) (place : ℕ) (item : Item) → Grows c d → is_answered_by asked c place item ≡ true
+pub answered-grows : (asked : Protocol) (c d : PrimaryConnection) (place : ℕ) (item : StreamItem) → Grows c d → is_answered_by asked c place item ≡ true
     → is_answered_by asked d place item ≡ true
 answered-grows asked c d place item g h = answered-more asked c d place item g.pushed g.frames h
 
 -- an entry that was completed over the link: its write stands at its home, and is answered there
-pub record IsLinked (asked : Protocol) (connections : List Outward) (entry : Completion) : Type 0 where
+pub record IsLinked (asked : Protocol) (connections : List PrimaryConnection) (entry : Completion) : Type 0 where
   pub connection : ℕ
   pub place : ℕ
-  pub end : Outward
+  pub end : PrimaryConnection
   pub home : entry.home ≡ Some (record { index = connection; place = place })
   pub there : slice_get connections connection ≡ Some end
   pub item : slice_get end.stream place ≡ Some (WriteItem entry.write)
   pub answered : is_answered_by asked end place (WriteItem entry.write) ≡ true
 
 -- a linked entry stays linked where connections grow
-pub linked-grows : (asked : Protocol) (cs ds : List Outward) (entry : Completion) → AllGrow cs ds → IsLinked asked cs entry → IsLinked asked ds entry
+pub linked-grows : (asked : Protocol) (cs ds : List PrimaryConnection) (entry : Completion) → AllGrow cs ds → IsLinked asked cs entry → IsLinked asked ds entry
 linked-grows asked cs ds entry grow l =
     let more = grow l.connection l.end l.there in
     record {
@@ -54,7 +55,7 @@ linked-grows asked cs ds entry grow l =
       end = more.0;
       home = l.home;
       there = more.1;
-      item = subst (λ (s : List Item). slice_get s l.place ≡ Some (WriteItem entry.write)) more.2.stream.1
+      item = subst (λ (s : List StreamItem). slice_get s l.place ≡ Some (WriteItem entry.write)) more.2.stream.1
           (get-left l.end.stream more.2.stream.0 l.place (WriteItem entry.write) l.item);
       answered = answered-grows asked l.end more.0 l.place (WriteItem entry.write) more.2 l.answered;
     }
@@ -64,18 +65,19 @@ linked-grows asked cs ds entry grow l =
 pub record HasHomes (h : PrimaryHistory) : Type 0 where
   pub numbered : (i : ℕ) (accepted : Accepted) → slice_get h.writes i ≡ Some accepted → accepted.write.number ≡ suc i
   pub housed : (i k place : ℕ) (accepted : Accepted) → slice_get h.writes i ≡ Some accepted → accepted.home ≡ Some (record { index = k; place = place })
-      → (c : Outward) × (slice_get h.connections k ≡ Some c) × (slice_get c.stream place ≡ Some (WriteItem accepted.write))
-  pub homed : (k place : ℕ) (c : Outward) (write : Write) → slice_get h.connections k ≡ Some c → slice_get c.stream place ≡ Some (WriteItem write)
+      → (c : PrimaryConnection) × (slice_get h.connections k ≡ Some c) × (slice_get c.stream place ≡ Some (WriteItem accepted.write))
+  pub homed : (k place : ℕ) (c : PrimaryConnection) (write : Write) → slice_get h.connections k ≡ Some c → slice_get c.stream place ≡ Some (WriteItem write)
       → (i : ℕ) × (accepted : Accepted) × (slice_get h.writes i ≡ Some accepted) × (accepted.write ≡ write)
       × (accepted.home ≡ Some (record { index = k; place = place }))
-  pub empty : (k : ℕ) (c : Outward) → slice_get h.connections k ≡ Some c → c.begun ≡ false → c.stream ≡ []
-  pub refused : (k : ℕ) (c : Outward) → slice_get h.connections k ≡ Some c → c.refused ≡ true → c.closed ≡ true
+  pub empty : (k : ℕ) (c : PrimaryConnection) → slice_get h.connections k ≡ Some c → c.begun ≡ false → c.stream ≡ []
+  pub refused : (k : ℕ) (c : PrimaryConnection) → slice_get h.connections k ≡ Some c → c.refused ≡ true → c.closed ≡ true
   pub journal : (n : ℕ) (entry : Completion) → slice_get h.journal n ≡ Some entry → entry.kind ≡ Linked → IsLinked h.settings.protocol h.connections entry
 
 -- the last connection of an open end is there
-pub open-at : (h : PrimaryHistory) → (outward h).closed ≡ false → slice_get h.connections (length h.connections - 1) ≡ Some (outward h)
-open-at h standing = elim (last-at (no_outward h.tuple) h.connections) [
-  | inl none ↦ absurd (both_ways (outward h).closed standing (ap (λ (l : List Outward). (last_of (no_outward h.tuple) l).closed) none))
+pub open-at : (h : PrimaryHistory) → (primary_connection h).closed ≡ false → slice_get h.connections (length h.connections - 1) ≡ Some (primary_connection h)
+open-at h standing = elim (last-at (no_primary_connection h.tuple) h.connections) [
+  | inl none ↦ absurd (both_ways (primary_connection h).closed standing
+      (ap (λ (l : List PrimaryConnection). (last_of (no_primary_connection h.tuple) l).closed) none))
   | inr at ↦ at
 ]
 
@@ -91,8 +93,8 @@ same-writes ws = (λ i a at. (a, at, refl, refl), λ i a at. (a, at, refl, refl)
 
 -- What a change of a connection has to keep: it grows, no write is added to its stream, an empty stream stays so until it
 -- begins, and it is closed once it refused a frame.
-pub record KeepsConnection (c d : Outward) : Type 0 where
-  pub more : List Item
+pub record KeepsConnection (c d : PrimaryConnection) : Type 0 where
+  pub more : List StreamItem
   pub stream : d.stream ≡ c.stream ++ more
   pub no_write : (n : ℕ) (write : Write) → slice_get more n ≡ Some (WriteItem write) → ⊥
   pub pushed : c.pushed ≤ d.pushed
@@ -100,27 +102,28 @@ pub record KeepsConnection (c d : Outward) : Type 0 where
   pub empty : d.begun ≡ false → d.stream ≡ []
   pub refused : d.refused ≡ true → d.closed ≡ true
 
-keeps-grows : (c d : Outward) → KeepsConnection c d → Grows c d
+keeps-grows : (c d : PrimaryConnection) → KeepsConnection c d → Grows c d
 keeps-grows c d k = record { stream = (k.more, sym k.stream); pushed = k.pushed; frames = k.frames }
 
 -- A move that changes the last connection so, and no write but for its outcome.
-pub homes-change : (h later : PrimaryHistory) (f : Outward → Outward) → HasHomes h → later.settings ≡ h.settings
+pub homes-change : (h later : PrimaryHistory) (f : PrimaryConnection → PrimaryConnection) → HasHomes h → later.settings ≡ h.settings
     → later.connections ≡ change_last f h.connections → SameWrites h.writes later.writes
-    → later.journal ≡ h.journal → ((k : ℕ) → slice_get h.connections k ≡ Some (outward h) → KeepsConnection (outward h) (f (outward h))) → HasHomes later
+    → later.journal ≡ h.journal → ((k : ℕ) → slice_get h.connections k ≡ Some (primary_connection h)
+    → KeepsConnection (primary_connection h) (f (primary_connection h))) → HasHomes later
 homes-change h later f homes settings connections writes journal keeps =
-    let none : Outward = no_outward h.tuple in
+    let none : PrimaryConnection = no_primary_connection h.tuple in
     let grow : AllGrow h.connections later.connections = subst (AllGrow h.connections) (sym connections)
     (λ k c at. elim (get-change f none h.connections k c at) [
       | inl same ↦ (c, same, grows-self c)
       | inr changed ↦ (
         f c,
         changed.0,
-        subst (λ (x : Outward). Grows x (f x)) (sym changed.1)
-            (keeps-grows (outward h) (f (outward h)) (keeps k (at ∙ ap (λ (x : Outward). Some x) changed.1))),
+        subst (λ (x : PrimaryConnection). Grows x (f x)) (sym changed.1)
+            (keeps-grows (primary_connection h) (f (primary_connection h)) (keeps k (at ∙ ap (λ (x : PrimaryConnection). Some x) changed.1))),
       )
     ]) in
-    let back : (k : ℕ) (d : Outward) → slice_get later.connections k ≡ Some d
-    → (slice_get h.connections k ≡ Some d) ⊎ ((d ≡ f (outward h)) × (slice_get h.connections k ≡ Some (outward h)))
+    let back : (k : ℕ) (d : PrimaryConnection) → slice_get later.connections k ≡ Some d
+    → (slice_get h.connections k ≡ Some d) ⊎ ((d ≡ f (primary_connection h)) × (slice_get h.connections k ≡ Some (primary_connection h)))
     = λ k d at. elim (get-change-back f none h.connections k d (rw (← connections) at)) [ inl same ↦ inl same | inr changed ↦ inr (changed.0, changed.1) ] in
     record {
       numbered = λ i b at. let a = writes.1 i b at in ap (λ (w : Write). w.number) a.2 ∙ homes.numbered i a.0 a.1;
@@ -131,11 +134,11 @@ homes-change h later f homes settings connections writes journal keeps =
             new.0,
             new.1,
             subst (λ (w : Write). slice_get new.0.stream place ≡ Some (WriteItem w)) (sym a.2)
-                (subst (λ (s : List Item). slice_get s place ≡ Some (WriteItem a.0.write)) new.2.stream.1
+                (subst (λ (s : List StreamItem). slice_get s place ≡ Some (WriteItem a.0.write)) new.2.stream.1
                 (get-left old.0.stream new.2.stream.0 place (WriteItem a.0.write) old.2)),
           );
       homed = λ k place d write at item.
-          let find : (c : Outward) → slice_get h.connections k ≡ Some c → slice_get c.stream place ≡ Some (WriteItem write)
+          let find : (c : PrimaryConnection) → slice_get h.connections k ≡ Some c → slice_get c.stream place ≡ Some (WriteItem write)
           → (i : ℕ) × (accepted : Accepted) × (slice_get later.writes i ≡ Some accepted) × (accepted.write ≡ write)
           × (accepted.home ≡ Some (record { index = k; place = place }))
           = λ c there was. let a = homes.homed k place c write there was in let b = writes.0 a.0 a.1 a.2 in (a.0, b.0, b.1, b.2 ∙ a.3, b.3 ∙ a.4) in
@@ -143,9 +146,9 @@ homes-change h later f homes settings connections writes journal keeps =
             | inl same ↦ find d same item
             | inr changed ↦
                 let kept = keeps k changed.1 in
-                let item' : slice_get ((outward h).stream ++ kept.more) place ≡ Some (WriteItem write) = rw (← kept.stream, ← changed.0) item in
-                elim (get-split (outward h).stream kept.more place (WriteItem write) item') [
-                  | inl old ↦ find (outward h) changed.1 old
+                let item' : slice_get ((primary_connection h).stream ++ kept.more) place ≡ Some (WriteItem write) = rw (← kept.stream, ← changed.0) item in
+                elim (get-split (primary_connection h).stream kept.more place (WriteItem write) item') [
+                  | inl old ↦ find (primary_connection h) changed.1 old
                   | inr new ↦ absurd (kept.no_write new.0 write new.2)
                 ]
           ];
@@ -162,15 +165,17 @@ homes-change h later f homes settings connections writes journal keeps =
     }
 
 -- a write with a home: whether it is alone, or confirmed, is seen on its connection
-pub alone-at : (h : PrimaryHistory) (a : Accepted) (home : StreamPosition) (c : Outward) → a.home ≡ Some home → slice_get h.connections home.index ≡ Some c
+pub alone-at : (h : PrimaryHistory) (a : Accepted) (home : StreamPosition) (c : PrimaryConnection) → a.home ≡ Some home
+    → slice_get h.connections home.index ≡ Some c
     → is_alone h a ≡ c.closed
 alone-at h a home c is at =
     ap (λ (v : Option StreamPosition). elim v as
     (λ _. Bool) [ None ↦ true | Some home ↦ elim (slice_get h.connections home.index) as (λ _. Bool) [ None ↦ true | Some c ↦ c.closed ] ]) is
-    ∙ ap (λ (v : Option Outward). elim v as (λ _. Bool) [ None ↦ true | Some c ↦ c.closed ]) at
+    ∙ ap (λ (v : Option PrimaryConnection). elim v as (λ _. Bool) [ None ↦ true | Some c ↦ c.closed ]) at
 
 -- and whether it is confirmed
-pub confirmed-at : (h : PrimaryHistory) (a : Accepted) (home : StreamPosition) (c : Outward) → a.home ≡ Some home → slice_get h.connections home.index ≡ Some c
+pub confirmed-at : (h : PrimaryHistory) (a : Accepted) (home : StreamPosition) (c : PrimaryConnection) → a.home ≡ Some home
+    → slice_get h.connections home.index ≡ Some c
     → is_confirmed h a ≡ barrier_acknowledged c (epoch_of c.stream home.place)
 confirmed-at h a home c is at =
     ap (λ (v : Option StreamPosition). elim v as
@@ -179,7 +184,7 @@ confirmed-at h a home c is at =
       | Some home ↦ elim (slice_get h.connections home.index) as
           (λ _. Bool) [ None ↦ false | Some c ↦ barrier_acknowledged c (epoch_of c.stream home.place) ]
     ]) is
-    ∙ ap (λ (v : Option Outward). elim v as (λ _. Bool) [ None ↦ false | Some c ↦ barrier_acknowledged c (epoch_of c.stream home.place) ]) at
+    ∙ ap (λ (v : Option PrimaryConnection). elim v as (λ _. Bool) [ None ↦ false | Some c ↦ barrier_acknowledged c (epoch_of c.stream home.place) ]) at
 
 -- a write without a home is alone
 pub alone-homeless : (h : PrimaryHistory) (a : Accepted) → a.home ≡ None → is_alone h a ≡ true

@@ -6,21 +6,21 @@ use Rattle.std.proofs.lemmas.Bool.{cases_Bool}
 use Rattle.std.proofs.lemmas.Option.{slice_get-map}
 use Rattle.blocks.specs.Positions.{StreamPosition}
 use Rattle.model.specs.Contents.{Write}
-use Rattle.model.specs.Stream.{Item, WriteItem, BarrierItem, UuidsItem, last_epoch}
+use Rattle.model.specs.Stream.{StreamItem, WriteItem, BarrierItem, UuidsItem, last_epoch}
 use Rattle.model.specs.Identifiers.{sync_end}
-use Rattle.model.specs.Primary.{Accepted, Linked, Alone, Completion, Outward, PrimaryHistory, outward, is_answered_by}
+use Rattle.model.specs.Primary.{Accepted, Linked, Alone, Completion, PrimaryConnection, PrimaryHistory, primary_connection, is_answered_by}
 use Rattle.model.specs.Primary.{is_answered, is_open, completes}
 use Rattle.model.specs.PrimarySteps.{newly_completed, completion_of, with_completions, epoch_is_over, appending, resync_is_over, ending_resync, follows}
-use Rattle.laws.proofs.Rules.ResyncEnds.{over-stands}
+use Rattle.laws.proofs.Rules.ResyncEnds.{over-established}
 use Rattle.laws.proofs.Rules.EpochEnds.{over-standing}
 use Rattle.laws.proofs.Primary.Moves.{following-from}
 use Rattle.laws.proofs.Primary.Homes.{HasHomes, IsLinked, same-writes, homes-change}
 use Rattle.laws.proofs.Lists.Elements.{get-split}
 use Rattle.laws.proofs.Lists.Picks.{pick-filtered}
-use Rattle.laws.proofs.Primary.Ends.{stands-parts, keeps-appending}
+use Rattle.laws.proofs.Primary.Ends.{established-parts, keeps-appending}
 
 -- an item that is no write goes to the end of the stream
-pub homes-appending : (h : PrimaryHistory) (item : Item) → ((write : Write) → item ≢ WriteItem write) → (outward h).begun ≡ true → HasHomes h
+pub homes-appending : (h : PrimaryHistory) (item : StreamItem) → ((write : Write) → item ≢ WriteItem write) → (primary_connection h).begun ≡ true → HasHomes h
     → HasHomes (appending item h)
 homes-appending h item other begun homes =
     homes-change h (appending item h) (λ c. record c { stream = c.stream ++ item ∷ [] }) homes refl refl (same-writes h.writes) refl
@@ -60,7 +60,7 @@ homes-completions h homes = record {
               home = is;
               there = found.1;
               item = found.2;
-              answered = subst (λ (v : Option Outward). elim v as
+              answered = subst (λ (v : Option PrimaryConnection). elim v as
                   (λ _. Bool) [ None ↦ false | Some c ↦ is_answered_by h.settings.protocol c at.place (WriteItem accepted.write) ] ≡ true) found.1 answered;
             }
 
@@ -88,8 +88,8 @@ is-barrier-no-write : (epoch : ℕ) (write : Write) → BarrierItem epoch ≢ Wr
 is-barrier-no-write epoch write e = cc
 
 -- a running resync has begun
-pub runs-begun : (g : PrimaryHistory) → resync_is_over g ≡ true → (outward g).begun ≡ true
-runs-begun g over = (stands-parts (outward g) (over-stands g over)).1
+pub runs-begun : (g : PrimaryHistory) → resync_is_over g ≡ true → (primary_connection g).begun ≡ true
+runs-begun g over = (established-parts (primary_connection g) (over-established g over)).1
 
 -- a resync ends
 pub homes-ending : (g : PrimaryHistory) → resync_is_over g ≡ true → HasHomes g → HasHomes (ending_resync g)
@@ -98,10 +98,10 @@ homes-ending g over homes = homes-change g (ending_resync g) (λ c. record c { s
     (keeps-appending g (UuidsItem (sync_end g.tuple)) (λ write e. cc) (runs-begun g over) homes)
 
 -- a barrier goes to the end of the stream
-pub homes-parting : (g : PrimaryHistory) → epoch_is_over g ≡ true → HasHomes g → HasHomes (appending (BarrierItem (last_epoch (outward g).stream)) g)
+pub homes-parting : (g : PrimaryHistory) → epoch_is_over g ≡ true → HasHomes g → HasHomes (appending (BarrierItem (last_epoch (primary_connection g).stream)) g)
 homes-parting g over homes =
-    homes-appending g (BarrierItem (last_epoch (outward g).stream)) (is-barrier-no-write (last_epoch (outward g).stream))
-    (stands-parts (outward g) (over-standing g over)).1 homes
+    homes-appending g (BarrierItem (last_epoch (primary_connection g).stream)) (is-barrier-no-write (last_epoch (primary_connection g).stream))
+    (established-parts (primary_connection g) (over-standing g over)).1 homes
 
 -- all that follows a step
 pub homes-following : (h : PrimaryHistory) → HasHomes h → HasHomes (follows h).history

@@ -10,11 +10,12 @@ use Rattle.blocks.specs.declared.tuple.Tuple.{Tuple}
 use Rattle.blocks.specs.declared.outcome.Decision.{Decision}
 use Rattle.blocks.specs.declared.outcome.Decision.TheVariants.{NoSync, BitmapSync, FullSync}
 use Rattle.model.specs.Contents.{BlockMap, Write}
-use Rattle.model.specs.Stream.{Item, WriteItem, SyncUuidItem, IsBeginning, within}
+use Rattle.model.specs.Stream.{StreamItem, WriteItem, SyncUuidItem, IsBeginning, within}
 use Rattle.model.specs.Frames.{Received, UuidsFrame, RsWriteAckFrame}
 use Rattle.model.specs.Marks.{Marks, marking, clearing}
-use Rattle.model.specs.Primary.{LocalOutcome, Waiting, OnDisk, Failed, Accepted, Outward, PrimaryHistory, primary_opening, no_outward, outward, change_last}
-use Rattle.model.specs.Primary.{last_index, with_outward, stands, in_resync, accepted_frames, new_outward}
+use Rattle.model.specs.Primary.{LocalOutcome, Waiting, OnDisk, Failed, Accepted, PrimaryConnection, PrimaryHistory, primary_opening, no_primary_connection}
+use Rattle.model.specs.Primary.{primary_connection, change_last}
+use Rattle.model.specs.Primary.{last_index, with_primary_connection, is_established, in_resync, accepted_frames, new_primary_connection}
 use Rattle.model.specs.PrimarySteps.{opened, submission, submitted, set_outcome, with_outcome, faulted, accepted_at, closing, faulted_by}
 use Rattle.model.specs.PrimarySteps.{submitted_with}
 use Rattle.model.specs.Acknowledgements.{begun_with}
@@ -24,7 +25,8 @@ use Rattle.laws.proofs.Primary.Moves.{IsKeptByMoves, IsKeptByReleases, kept-by-r
 use Rattle.laws.proofs.Primary.Homes.{HasHomes, AllGrow, Grows, grows-self, linked-grows, KeepsConnection, SameWrites, same-writes, open-at, homes-change}
 use Rattle.laws.proofs.Primary.Homes.{outcome-write, outcome-home}
 use Rattle.laws.proofs.Lists.Elements.{get-left, get-more, get-end}
-use Rattle.laws.proofs.Primary.Ends.{no-more, stands-parts, not-refused, frames-taking, keeps-self, keeps-pushing, keeps-taking, keeps-refusing, keeps-closing}
+use Rattle.laws.proofs.Primary.Ends.{no-more, established-parts, not-refused, frames-taking, keeps-self, keeps-pushing, keeps-taking, keeps-refusing}
+use Rattle.laws.proofs.Primary.Ends.{keeps-closing}
 use Rattle.laws.proofs.Primary.HomesFollowing.{homes-appending, homes-following}
 use Rattle.laws.proofs.Rules.RefusedFrames.{refused_out, refused_by, refused-last}
 
@@ -72,41 +74,42 @@ homes-faults h number offsets homes = go (accepted_at h number)
         (Failed (within (length accepted.write.contents) offsets)) homes refl refl refl refl
 
 -- the last connection changes, and nothing else that matters here
-homes-with : (h later : PrimaryHistory) (f : Outward → Outward) → HasHomes h → later.settings ≡ h.settings → later.connections ≡ change_last f h.connections
+homes-with : (h later : PrimaryHistory) (f : PrimaryConnection → PrimaryConnection) → HasHomes h → later.settings ≡ h.settings
+    → later.connections ≡ change_last f h.connections
     → later.writes ≡ h.writes → later.journal ≡ h.journal
-    → ((k : ℕ) → slice_get h.connections k ≡ Some (outward h) → KeepsConnection (outward h) (f (outward h))) → HasHomes later
+    → ((k : ℕ) → slice_get h.connections k ≡ Some (primary_connection h) → KeepsConnection (primary_connection h) (f (primary_connection h))) → HasHomes later
 homes-with h later f homes settings connections writes journal keeps = homes-change h later f homes settings connections
     (rw writes (same-writes h.writes)) journal keeps
 
 -- A new connection has an empty stream.
 homes-opens : (h : PrimaryHistory) (sync loss : ℕ) → HasHomes h → HasHomes (opened h sync loss)
 homes-opens h sync loss homes =
-    let new : Outward = new_outward sync loss h.tuple in
+    let new : PrimaryConnection = new_primary_connection sync loss h.tuple in
     let grow : AllGrow h.connections (h.connections ++ new ∷ []) = λ k c at. (c, get-left h.connections (new ∷ []) k c at, grows-self c) in
     record {
       numbered = homes.numbered;
       housed = λ i k place accepted at home. let c = homes.housed i k place accepted at home in (c.0, get-left h.connections (new ∷ []) k c.0 c.1, c.2);
       homed = λ k place c write at item. elim (get-more h.connections new k c at) [
         | inl old ↦ homes.homed k place c write old item
-        | inr added ↦ absurd (no-more place write (subst (λ (x : Outward). slice_get x.stream place ≡ Some (WriteItem write)) added.1 item))
+        | inr added ↦ absurd (no-more place write (subst (λ (x : PrimaryConnection). slice_get x.stream place ≡ Some (WriteItem write)) added.1 item))
       ];
       empty = λ k c at fresh. elim (get-more h.connections new k c at)
-          [ inl old ↦ homes.empty k c old fresh | inr added ↦ ap (λ (x : Outward). x.stream) added.1 ];
+          [ inl old ↦ homes.empty k c old fresh | inr added ↦ ap (λ (x : PrimaryConnection). x.stream) added.1 ];
       refused = λ k c at was. elim (get-more h.connections new k c at) [
         | inl old ↦ homes.refused k c old was
-        | inr added ↦ let no : c.refused ≡ false = ap (λ (x : Outward). x.refused) added.1 in absurd (both_ways c.refused no was)
+        | inr added ↦ let no : c.refused ≡ false = ap (λ (x : PrimaryConnection). x.refused) added.1 in absurd (both_ways c.refused no was)
       ];
       journal = λ n entry at linked. linked-grows h.settings.protocol h.connections (h.connections ++ new ∷ []) entry grow (homes.journal n entry at linked);
     }
 
 -- An accepted write goes to the end of the list, and with a stream to the end of it.
 homes-submits : (h : PrimaryHistory) (first : ℕ) (contents : List (List ℕ)) → HasHomes h → HasHomes (submitted h first contents)
-homes-submits h first contents homes = go (stands (outward h)) refl
+homes-submits h first contents homes = go (is_established (primary_connection h)) refl
   where
     write : Write
     write = submission h first contents
 
-    go : (b : Bool) → stands (outward h) ≡ b → HasHomes (submitted_with b h first contents)
+    go : (b : Bool) → is_established (primary_connection h) ≡ b → HasHomes (submitted_with b h first contents)
     go false is =
         let added : Accepted = record { write = submission h first contents; journal_length = length h.journal; home = None; outcome = Waiting } in
         record {
@@ -131,17 +134,17 @@ homes-submits h first contents homes = go (stands (outward h)) refl
           journal = homes.journal;
         }
     go true is =
-        let c : Outward = outward h in
-        let standing = stands-parts c is in
+        let c : PrimaryConnection = primary_connection h in
+        let standing = established-parts c is in
         let there = open-at h standing.0 in
-        let none : Outward = no_outward h.tuple in
+        let none : PrimaryConnection = no_primary_connection h.tuple in
         let k0 : ℕ = last_index h.connections in
         let p0 : ℕ = length c.stream in
         let w : Write = submission h first contents in
         let added : Accepted = record { write = w; journal_length = length h.journal; home = Some (record { index = k0; place = p0 }); outcome = Waiting } in
-        let f : Outward → Outward = λ x. record x { stream = x.stream ++ WriteItem w ∷ [] } in
-        let connections : List Outward = change_last f h.connections in
-        let growing : (x : Outward) → Grows x (f x) = λ x. record {
+        let f : PrimaryConnection → PrimaryConnection = λ x. record x { stream = x.stream ++ WriteItem w ∷ [] } in
+        let connections : List PrimaryConnection = change_last f h.connections in
+        let growing : (x : PrimaryConnection) → Grows x (f x) = λ x. record {
           stream = (WriteItem w ∷ [], refl);
           pushed = omega arith;
           frames = begins-self (accepted_frames x);
@@ -161,7 +164,7 @@ homes-submits h first contents homes = go (stands (outward h)) refl
                 let now = grow k was.0 was.1 in (
                   now.0,
                   now.1,
-                  subst (λ (s : List Item). slice_get s place ≡ Some (WriteItem a.write)) now.2.stream.1
+                  subst (λ (s : List StreamItem). slice_get s place ≡ Some (WriteItem a.write)) now.2.stream.1
                       (get-left was.0.stream now.2.stream.0 place (WriteItem a.write) was.2),
                 )
             | inr new ↦
@@ -179,7 +182,7 @@ homes-submits h first contents homes = go (stands (outward h)) refl
                 )
           ];
           homed = λ k place d v at item.
-              let old : (x : Outward) → slice_get h.connections k ≡ Some x → slice_get x.stream place ≡ Some (WriteItem v)
+              let old : (x : PrimaryConnection) → slice_get h.connections k ≡ Some x → slice_get x.stream place ≡ Some (WriteItem v)
               → (i : ℕ) × (a : Accepted) × (slice_get (h.writes ++ added ∷ []) i ≡ Some a) × (a.write ≡ v)
               × (a.home ≡ Some (record { index = k; place = place }))
               = λ x was it. let found = homes.homed k place x v was it in (
@@ -193,7 +196,7 @@ homes-submits h first contents homes = go (stands (outward h)) refl
                 | inl same ↦ old d same item
                 | inr changed ↦
                     let item' : slice_get (c.stream ++ WriteItem w ∷ []) place ≡ Some (WriteItem v) =
-                    subst (λ (x : Outward). slice_get x.stream place ≡ Some (WriteItem v)) changed.0 item in
+                    subst (λ (x : PrimaryConnection). slice_get x.stream place ≡ Some (WriteItem v)) changed.0 item in
                     elim (get-more c.stream (WriteItem w) place (WriteItem v) item') [
                       | inl before ↦ old c changed.1 before
                       | inr new ↦
@@ -210,12 +213,12 @@ homes-submits h first contents homes = go (stands (outward h)) refl
               ];
           empty = λ k d at fresh. elim (get-change-back f none h.connections k d at) [
             | inl same ↦ homes.empty k d same fresh
-            | inr changed ↦ absurd (both_ways c.begun (subst (λ (x : Outward). x.begun ≡ false) changed.0 fresh) standing.1)
+            | inr changed ↦ absurd (both_ways c.begun (subst (λ (x : PrimaryConnection). x.begun ≡ false) changed.0 fresh) standing.1)
           ];
           refused = λ k d at was. elim (get-change-back f none h.connections k d at) [
             | inl same ↦ homes.refused k d same was
-            | inr changed ↦ subst (λ (x : Outward). x.closed ≡ true) (sym changed.0)
-                (homes.refused k c changed.1 (subst (λ (x : Outward). x.refused ≡ true) changed.0 was))
+            | inr changed ↦ subst (λ (x : PrimaryConnection). x.closed ≡ true) (sym changed.0)
+                (homes.refused k c changed.1 (subst (λ (x : PrimaryConnection). x.refused ≡ true) changed.0 was))
           ];
           journal = λ n entry at linked. linked-grows h.settings.protocol h.connections connections entry grow (homes.journal n entry at linked);
         }
@@ -226,25 +229,26 @@ no-sync word zero write at = cc
 no-sync word (suc n) write at = cc
 
 -- The stream begins: it was empty.
-homes-begins : (h : PrimaryHistory) (peer : Tuple) (decided : Decision) → (outward h).closed ≡ false → (outward h).begun ≡ false → HasHomes h
-    → HasHomes (begun_with decided (record (with_outward (with_frame (Ok (UuidsFrame peer))) h) { peer = Some peer }))
+homes-begins : (h : PrimaryHistory) (peer : Tuple) (decided : Decision) → (primary_connection h).closed ≡ false → (primary_connection h).begun ≡ false
+    → HasHomes h
+    → HasHomes (begun_with decided (record (with_primary_connection (with_frame (Ok (UuidsFrame peer))) h) { peer = Some peer }))
 homes-begins h peer decided standing new homes = go decided
   where
     taken : PrimaryHistory
-    taken = record (with_outward (with_frame (Ok (UuidsFrame peer))) h) { peer = Some peer }
+    taken = record (with_primary_connection (with_frame (Ok (UuidsFrame peer))) h) { peer = Some peer }
 
     -- the two changes of the connection are one
-    beginning : (later : PrimaryHistory) (g : Outward → Outward) (more : List Item) → later.settings ≡ h.settings
+    beginning : (later : PrimaryHistory) (g : PrimaryConnection → PrimaryConnection) (more : List StreamItem) → later.settings ≡ h.settings
         → later.connections ≡ change_last g (change_last (with_frame (Ok (UuidsFrame peer))) h.connections) → later.writes ≡ h.writes
         → later.journal ≡ h.journal
-        → ((c : Outward) → (g c).stream ≡ more ⊎ ((g c).stream ≡ c.stream)) → ((c : Outward) → (g c).begun ≡ true)
-        → ((c : Outward) → ((g c).pushed ≡ c.pushed) × ((g c).taken ≡ c.taken) × ((g c).refused ≡ c.refused) × ((g c).closed ≡ c.closed))
+        → ((c : PrimaryConnection) → (g c).stream ≡ more ⊎ ((g c).stream ≡ c.stream)) → ((c : PrimaryConnection) → (g c).begun ≡ true)
+        → ((c : PrimaryConnection) → ((g c).pushed ≡ c.pushed) × ((g c).taken ≡ c.taken) × ((g c).refused ≡ c.refused) × ((g c).closed ≡ c.closed))
         → ((n : ℕ) (write : Write) → slice_get more n ≡ Some (WriteItem write) → ⊥) → HasHomes later
     beginning later g more settings connections writes journal streams begun same no_write =
         homes-with h later (λ c. g (with_frame (Ok (UuidsFrame peer)) c)) homes settings (connections
         ∙ change-twice (with_frame (Ok (UuidsFrame peer))) g h.connections) writes journal (λ k at.
-        let c : Outward = outward h in
-        let d : Outward = with_frame (Ok (UuidsFrame peer)) c in
+        let c : PrimaryConnection = primary_connection h in
+        let d : PrimaryConnection = with_frame (Ok (UuidsFrame peer)) c in
         let was = homes.empty k c at new in
         let s = same d in
         let frames : accepted_frames (g d) ≡ accepted_frames d =
@@ -252,10 +256,10 @@ homes-begins h peer decided standing new homes = go decided
         ∙ ap (λ (l : List Received). if d.refused then take (length l - 1) l else l) s.1 in
         record {
           more = (g d).stream;
-          stream = sym (ap (λ (l : List Item). l ++ (g d).stream) was);
+          stream = sym (ap (λ (l : List StreamItem). l ++ (g d).stream) was);
           no_write = λ n write there. elim (streams d) [
-            | inl is ↦ no_write n write (subst (λ (l : List Item). slice_get l n ≡ Some (WriteItem write)) is there)
-            | inr is ↦ no-more n write (subst (λ (l : List Item). slice_get l n ≡ Some (WriteItem write)) (is ∙ was) there)
+            | inl is ↦ no_write n write (subst (λ (l : List StreamItem). slice_get l n ≡ Some (WriteItem write)) is there)
+            | inr is ↦ no-more n write (subst (λ (l : List StreamItem). slice_get l n ≡ Some (WriteItem write)) (is ∙ was) there)
           ];
           pushed = let e = s.0 in omega arith;
           frames = subst (λ (l : List Received). IsBeginning (accepted_frames c) l) (sym frames)
@@ -264,17 +268,17 @@ homes-begins h peer decided standing new homes = go decided
           refused = λ r. s.3 ∙ homes.refused k c at (sym s.2 ∙ r);
         })
 
-    go : (v : Decision) → HasHomes (begun_with v (record (with_outward (with_frame (Ok (UuidsFrame peer))) h) { peer = Some peer }))
+    go : (v : Decision) → HasHomes (begun_with v (record (with_primary_connection (with_frame (Ok (UuidsFrame peer))) h) { peer = Some peer }))
     go NoSync = beginning (begun_with NoSync taken) (λ c. record c { begun = true }) [] refl refl refl refl (λ c. inr refl) (λ c. refl)
         (λ c. (refl, refl, refl, refl)) no-more
     go BitmapSync =
-        beginning (begun_with BitmapSync taken) (λ c. record c { begun = true; stream = SyncUuidItem (outward taken).sync ∷ [] })
-        (SyncUuidItem (outward taken).sync ∷ []) refl refl refl refl (λ c. inl refl) (λ c. refl) (λ c. (refl, refl, refl, refl))
-        (no-sync (outward taken).sync)
+        beginning (begun_with BitmapSync taken) (λ c. record c { begun = true; stream = SyncUuidItem (primary_connection taken).sync ∷ [] })
+        (SyncUuidItem (primary_connection taken).sync ∷ []) refl refl refl refl (λ c. inl refl) (λ c. refl) (λ c. (refl, refl, refl, refl))
+        (no-sync (primary_connection taken).sync)
     go FullSync =
-        beginning (begun_with FullSync taken) (λ c. record c { begun = true; stream = SyncUuidItem (outward taken).sync ∷ [] })
-        (SyncUuidItem (outward taken).sync ∷ []) refl refl refl refl (λ c. inl refl) (λ c. refl) (λ c. (refl, refl, refl, refl))
-        (no-sync (outward taken).sync)
+        beginning (begun_with FullSync taken) (λ c. record c { begun = true; stream = SyncUuidItem (primary_connection taken).sync ∷ [] })
+        (SyncUuidItem (primary_connection taken).sync ∷ []) refl refl refl refl (λ c. inl refl) (λ c. refl) (λ c. (refl, refl, refl, refl))
+        (no-sync (primary_connection taken).sync)
 
 -- Every move keeps the homes and the journal's promises.
 pub homes-kept : IsKeptByMoves HasHomes HasHomes
@@ -284,14 +288,15 @@ homes-kept = record {
   submits = λ h first contents may homes. homes-submits h first contents homes;
   writes = λ h number waiting homes. homes-writes h number homes;
   faults = λ h number offsets waiting homes. homes-faults h number offsets homes;
-  sends = λ h standing due homes. homes-with h (with_outward pushing h) pushing homes refl refl refl refl (keeps-pushing h homes);
-  greets = λ h frame standing new met homes. homes-with h (with_outward (with_frame frame) h) (with_frame frame) homes refl refl refl refl
+  sends = λ h standing due homes. homes-with h (with_primary_connection pushing h) pushing homes refl refl refl refl (keeps-pushing h homes);
+  greets = λ h frame standing new met homes. homes-with h (with_primary_connection (with_frame frame) h) (with_frame frame) homes refl refl refl refl
       (keeps-taking h frame homes standing);
   begins = λ h peer decided standing new late is fresh homes. homes-begins h peer decided standing new homes;
   receives = λ h ack standing begun may homes. homes-with h _ (with_frame _) homes refl refl refl refl (keeps-taking h _ homes standing);
   applies = λ h ack standing begun may homes. homes-with h _ (with_frame _) homes refl refl refl refl (keeps-taking h _ homes standing);
   clears =
-      λ h ack standing begun may homes. homes-with h (record (with_outward (with_frame (Ok (RsWriteAckFrame ack))) h) { marks = clearing ack.first h.marks })
+      λ h ack standing begun may homes. homes-with h
+      (record (with_primary_connection (with_frame (Ok (RsWriteAckFrame ack))) h) { marks = clearing ack.first h.marks })
       (with_frame (Ok (RsWriteAckFrame ack))) homes refl refl refl refl (keeps-taking h (Ok (RsWriteAckFrame ack)) homes standing);
   confirms = λ h number size standing begun turn homes. homes-with h _ (with_frame _) homes refl refl refl refl (keeps-taking h _ homes standing);
   refuses = λ h frame peer standing homes. homes-with h (closing (refused_by frame peer h))
@@ -299,7 +304,7 @@ homes-kept = record {
       (refused-last frame peer h) refl refl
       (keeps-refusing h frame homes standing);
   resyncs = λ h block runs alone is homes. homes-appending h _ (λ write e. cc)
-      (stands-parts (outward h) (and_parts (stands (outward h)) (in_resync (outward h).stream) runs).0).1 homes;
+      (established-parts (primary_connection h) (and_parts (is_established (primary_connection h)) (in_resync (primary_connection h).stream) runs).0).1 homes;
   closes = λ h standing homes. homes-with h (closing h) (λ c. record c { closed = true }) homes refl refl refl refl (keeps-closing h homes);
   receipts = λ h number homes. record {
     numbered = homes.numbered;

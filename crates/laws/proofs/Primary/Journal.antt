@@ -8,7 +8,8 @@ use Rattle.blocks.specs.declared.outcome.Decision.{Decision}
 use Rattle.blocks.specs.declared.outcome.Decision.TheVariants.{NoSync, BitmapSync, FullSync}
 use Rattle.model.specs.Contents.{BlockMap}
 use Rattle.model.specs.Stream.{within}
-use Rattle.model.specs.Primary.{LocalOutcome, Waiting, OnDisk, Failed, Accepted, Completion, PrimaryHistory, primary_opening, outward, last_index, stands}
+use Rattle.model.specs.Primary.{LocalOutcome, Waiting, OnDisk, Failed, Accepted, Completion, PrimaryHistory, primary_opening, primary_connection, last_index}
+use Rattle.model.specs.Primary.{is_established}
 use Rattle.model.specs.Primary.{is_open, completes}
 use Rattle.model.specs.PrimarySteps.{newly_completed, completion_of, with_completions, submission, submitted, set_outcome, accepted_at}
 use Rattle.model.specs.PrimarySteps.{faulted, submitted_with, faulted_by}
@@ -63,13 +64,13 @@ outcomes h number outcome all n entry at =
     (was.0, now.0, now.1, was.3 ∙ now.2)
 
 submits : (h : PrimaryHistory) (first : ℕ) (contents : List (List ℕ)) → JournalIsAccepted h → JournalIsAccepted (submitted h first contents)
-submits h first contents all = go (stands (outward h))
+submits h first contents all = go (is_established (primary_connection h))
   where
     go : (b : Bool) → JournalIsAccepted (submitted_with b h first contents)
     go true = more h (record {
       write = submission h first contents;
       journal_length = length h.journal;
-      home = Some (record { index = last_index h.connections; place = length (outward h).stream });
+      home = Some (record { index = last_index h.connections; place = length (primary_connection h).stream });
       outcome = Waiting;
     }) all
     go false = more h (record { write = submission h first contents; journal_length = length h.journal; home = None; outcome = Waiting }) all

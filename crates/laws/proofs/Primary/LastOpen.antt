@@ -7,8 +7,9 @@ use Rattle.blocks.specs.Positions.{StreamPosition}
 use Rattle.blocks.specs.declared.outcome.Decision.{Decision}
 use Rattle.blocks.specs.declared.outcome.Decision.TheVariants.{NoSync, BitmapSync, FullSync}
 use Rattle.model.specs.Stream.{within}
-use Rattle.model.specs.Primary.{Accepted, Outward, PrimaryHistory, no_outward, outward, last_index, change_last, stands, is_alone}
-use Rattle.model.specs.Primary.{new_outward}
+use Rattle.model.specs.Primary.{Accepted, PrimaryConnection, PrimaryHistory, no_primary_connection, primary_connection, last_index, change_last, is_established}
+use Rattle.model.specs.Primary.{is_alone}
+use Rattle.model.specs.Primary.{new_primary_connection}
 use Rattle.model.specs.PrimarySteps.{submitted, opened, faulted, accepted_at, submitted_with, faulted_by}
 use Rattle.model.specs.Acknowledgements.{begun_with}
 use Rattle.laws.proofs.Lists.Last.{get-change-back, last-at, length-change}
@@ -18,29 +19,30 @@ use Rattle.laws.proofs.Primary.Homes.{alone-homeless, HasHomes, alone-at}
 
 -- every connection before the last one is closed
 abbrev pub IsLastOpen : PrimaryHistory → Type 0
-IsLastOpen h = (k : ℕ) (c : Outward) → slice_get h.connections k ≡ Some c → suc k < length h.connections → c.closed ≡ true
+IsLastOpen h = (k : ℕ) (c : PrimaryConnection) → slice_get h.connections k ≡ Some c → suc k < length h.connections → c.closed ≡ true
 
 -- so one that is open is the last
-pub open-is-last : (h : PrimaryHistory) (k : ℕ) (c : Outward) → IsLastOpen h → slice_get h.connections k ≡ Some c → c.closed ≡ false
-    → (k ≡ last_index h.connections) × (c ≡ outward h)
+pub open-is-last : (h : PrimaryHistory) (k : ℕ) (c : PrimaryConnection) → IsLastOpen h → slice_get h.connections k ≡ Some c → c.closed ≡ false
+    → (k ≡ last_index h.connections) × (c ≡ primary_connection h)
 open-is-last h k c all at unshut =
     let within = slice_get_within h.connections k c at in
     elim (cases_lt (suc k) (length h.connections)) [
       | inl early ↦ absurd (both_ways c.closed unshut (all k c at early))
       | inr late ↦
           let index : k ≡ last_index h.connections = omega arith in
-          elim (last-at (no_outward h.tuple) h.connections) [
+          elim (last-at (no_primary_connection h.tuple) h.connections) [
             | inl none ↦ absurd (let size : length h.connections ≡ 0 = ap length none in omega arith)
             | inr ends ↦ (
               index,
-              same-at h.connections (last_index h.connections) c (outward h) (subst (λ (n : ℕ). slice_get h.connections n ≡ Some c) index at)
+              same-at h.connections (last_index h.connections) c (primary_connection h) (subst (λ (n : ℕ). slice_get h.connections n ≡ Some c) index at)
                   ends,
             )
           ]
     ]
 
 -- no stream stands: each home is on a closed connection
-pub alone-at-rest : (h : PrimaryHistory) → HasHomes h → IsLastOpen h → stands (outward h) ≡ false → (i : ℕ) (w : Accepted) → slice_get h.writes i ≡ Some w
+pub alone-at-rest : (h : PrimaryHistory) → HasHomes h → IsLastOpen h → is_established (primary_connection h) ≡ false → (i : ℕ) (w : Accepted)
+    → slice_get h.writes i ≡ Some w
     → is_alone h w ≡ true
 alone-at-rest h homes closed resting i w at = go w.home refl
   where
@@ -51,11 +53,11 @@ alone-at-rest h homes closed resting i w at = go w.home refl
         alone-at h w home was.0 is was.1 ∙ elim (cases_Bool was.0.closed) [
           | inl shut ↦ shut
           | inr unshut ↦ absurd (
-              let end : was.0 ≡ outward h = (open-is-last h home.index was.0 closed was.1 unshut).1 in
+              let end : was.0 ≡ primary_connection h = (open-is-last h home.index was.0 closed was.1 unshut).1 in
               let fresh : was.0.begun ≡ false = elim (cases_Bool was.0.begun) [
                 | inr new ↦ new
-                | inl begun ↦ absurd (both_ways (stands (outward h)) resting
-                    (subst (λ (c : Outward). stands c ≡ true) end
+                | inl begun ↦ absurd (both_ways (is_established (primary_connection h)) resting
+                    (subst (λ (c : PrimaryConnection). is_established c ≡ true) end
                     (and_from (not was.0.closed) was.0.begun (subst (λ b. not b ≡ true) (sym unshut) refl) begun)))
               ] in
               let empty : was.0.stream ≡ [] = homes.empty home.index was.0 was.1 fresh in
@@ -64,17 +66,18 @@ alone-at-rest h homes closed resting i w at = go w.home refl
         ]
 
 -- a change of the last connection keeps it
-pub changes : (cs : List Outward) (f : Outward → Outward) → ((k : ℕ) (c : Outward) → slice_get cs k ≡ Some c → suc k < length cs → c.closed ≡ true)
-    → (k : ℕ) (c : Outward) → slice_get (change_last f cs) k ≡ Some c → suc k < length (change_last f cs) → c.closed ≡ true
+pub changes : (cs : List PrimaryConnection) (f : PrimaryConnection → PrimaryConnection)
+    → ((k : ℕ) (c : PrimaryConnection) → slice_get cs k ≡ Some c → suc k < length cs → c.closed ≡ true)
+    → (k : ℕ) (c : PrimaryConnection) → slice_get (change_last f cs) k ≡ Some c → suc k < length (change_last f cs) → c.closed ≡ true
 changes [] f all k c at less = absurd (cc)
 changes (x ∷ cs) f all k c at less =
     let size = length-change f (x ∷ cs) in
     elim (get-change-back f x (x ∷ cs) k c at) [ inl same ↦ all k c same (omega arith) | inr changed ↦ absurd (let end = changed.2 in omega arith) ]
 
 -- a new connection comes where the last one is closed
-opens : (h : PrimaryHistory) (sync loss : ℕ) → (outward h).closed ≡ true → IsLastOpen h → IsLastOpen (opened h sync loss)
+opens : (h : PrimaryHistory) (sync loss : ℕ) → (primary_connection h).closed ≡ true → IsLastOpen h → IsLastOpen (opened h sync loss)
 opens h sync loss closed all k c at less =
-    let new : Outward = new_outward sync loss h.tuple in
+    let new : PrimaryConnection = new_primary_connection sync loss h.tuple in
     let size : length (h.connections ++ new ∷ []) ≡ length h.connections + 1 = length-append h.connections (new ∷ []) in
     elim (get-more h.connections new k c at) [
       | inr added ↦ absurd (let here = added.0 in omega arith)
@@ -82,19 +85,20 @@ opens h sync loss closed all k c at less =
           let within = slice_get_within h.connections k c old in
           elim (cases_lt (suc k) (length h.connections)) [
             | inl early ↦ all k c old early
-            | inr last ↦ elim (last-at (no_outward h.tuple) h.connections) [
+            | inr last ↦ elim (last-at (no_primary_connection h.tuple) h.connections) [
               | inl none ↦ absurd (let size_too : length h.connections ≡ 0 = ap length none in omega arith)
               | inr there ↦
                   let index : length h.connections - 1 ≡ k = omega arith in
-                  let here : slice_get h.connections k ≡ Some (outward h) = subst (λ (n : ℕ). slice_get h.connections n ≡ Some (outward h)) index there in
-                  let same : outward h ≡ c = let e : Some (outward h) ≡ Some c = sym here ∙ old in cc in
-                  subst (λ (x : Outward). x.closed ≡ true) same closed
+                  let here : slice_get h.connections k ≡ Some (primary_connection h) =
+                  subst (λ (n : ℕ). slice_get h.connections n ≡ Some (primary_connection h)) index there in
+                  let same : primary_connection h ≡ c = let e : Some (primary_connection h) ≡ Some c = sym here ∙ old in cc in
+                  subst (λ (x : PrimaryConnection). x.closed ≡ true) same closed
             ]
           ]
     ]
 
 submits : (h : PrimaryHistory) (first : ℕ) (contents : List (List ℕ)) → IsLastOpen h → IsLastOpen (submitted h first contents)
-submits h first contents all = go (stands (outward h))
+submits h first contents all = go (is_established (primary_connection h))
   where
     go : (b : Bool) → IsLastOpen (submitted_with b h first contents)
     go true = changes h.connections _ all

@@ -9,12 +9,12 @@ use Rattle.blocks.specs.declared.outcome.Decision.{Decision}
 use Rattle.blocks.specs.declared.outcome.Decision.TheVariants.{NoSync, BitmapSync, FullSync}
 use Rattle.blocks.specs.SettingsRange.{IsInRange}
 use Rattle.model.specs.Contents.{BlockMap}
-use Rattle.model.specs.Stream.{Item, WriteItem, ResyncItem, BarrierItem, SyncUuidItem, UuidsItem, last_epoch, epoch_size, IsLawful}
+use Rattle.model.specs.Stream.{StreamItem, WriteItem, ResyncItem, BarrierItem, SyncUuidItem, UuidsItem, last_epoch, epoch_size, IsLawful}
 use Rattle.model.specs.Frames.{UuidsFrame}
 use Rattle.model.specs.Identifiers.{sync_end}
 use Rattle.model.specs.Marks.{Marks}
-use Rattle.model.specs.Primary.{Accepted, Outward, PrimaryHistory, primary_opening, no_outward, outward, last_of, change_last}
-use Rattle.model.specs.Primary.{with_outward, stands, in_resync, local_map, under_way, free_block, new_outward}
+use Rattle.model.specs.Primary.{Accepted, PrimaryConnection, PrimaryHistory, primary_opening, no_primary_connection, primary_connection, last_of, change_last}
+use Rattle.model.specs.Primary.{with_primary_connection, is_established, in_resync, local_map, under_way, free_block, new_primary_connection}
 use Rattle.model.specs.PrimarySteps.{epoch_is_over, appending, resync_is_over, ending_resync, follows, submission, submitted, faulted}
 use Rattle.model.specs.PrimarySteps.{accepted_at, opened, submitted_with, faulted_by}
 use Rattle.model.specs.Acknowledgements.{begun_with}
@@ -25,8 +25,8 @@ use Rattle.laws.proofs.Streams.Places.{barriers-append}
 use Rattle.laws.proofs.Primary.Moves.{following-from, IsKeptByMoves, IsKeptByReleases, kept-by-releases, MaySubmit, keeps-run, with_frame, pushing}
 use Rattle.laws.proofs.Primary.Homes.{HasHomes}
 use Rattle.laws.proofs.Primary.HomesMoves.{homes-kept, homes-marks, homes-opening}
-use Rattle.laws.proofs.Primary.StaysClosed.{open-stands}
-use Rattle.laws.proofs.Rules.ResyncEnds.{over-stands}
+use Rattle.laws.proofs.Primary.StaysClosed.{open-established}
+use Rattle.laws.proofs.Rules.ResyncEnds.{over-established}
 use Rattle.laws.proofs.Streams.Lawful.{MayFollow, lawful-append, lawful-empty, meets-none, size-grow, barrier-empties}
 use Rattle.laws.proofs.Primary.LastEpoch.{unsettled-more, write-follows, resync-follows}
 use Rattle.laws.proofs.Lists.Elements.{get-more}
@@ -35,7 +35,7 @@ use Rattle.laws.proofs.Rules.RefusedFrames.{refused_out, refused-last}
 -- all streams are lawful
 pub record HasLawfulStreams (settings : Settings) (h : PrimaryHistory) : Type 0 where
   pub setting : h.settings ≡ settings
-  pub lawful : (k : ℕ) (c : Outward) → slice_get h.connections k ≡ Some c → IsLawful (most_writes settings) c.stream
+  pub lawful : (k : ℕ) (c : PrimaryConnection) → slice_get h.connections k ≡ Some c → IsLawful (most_writes settings) c.stream
 
 -- and the last epoch of a stream that stands is not over
 pub record IsLawfulBetween (settings : Settings) (h : PrimaryHistory) : Type 0 where
@@ -45,26 +45,28 @@ pub record IsLawfulBetween (settings : Settings) (h : PrimaryHistory) : Type 0 w
 -- What follows a step's effect.
 
 -- the last end after a change of it
-pub last-changed : (h : PrimaryHistory) (f : Outward → Outward) (other : Outward) → (outward h).closed ≡ false
-    → last_of other (change_last f h.connections) ≡ f (outward h)
-last-changed h f other standing = elim (last-change f (no_outward h.tuple) other h.connections) [
-  | inl none ↦ absurd (both_ways (outward h).closed standing (ap (λ (l : List Outward). (last_of (no_outward h.tuple) l).closed) none))
+pub last-changed : (h : PrimaryHistory) (f : PrimaryConnection → PrimaryConnection) (other : PrimaryConnection) → (primary_connection h).closed ≡ false
+    → last_of other (change_last f h.connections) ≡ f (primary_connection h)
+last-changed h f other standing = elim (last-change f (no_primary_connection h.tuple) other h.connections) [
+  | inl none ↦ absurd (both_ways (primary_connection h).closed standing
+      (ap (λ (l : List PrimaryConnection). (last_of (no_primary_connection h.tuple) l).closed) none))
   | inr last ↦ last
 ]
 
 -- The last connection changes, and its stream stays lawful.
-lawful-change : (settings : Settings) (h later : PrimaryHistory) (f : Outward → Outward) → later.settings ≡ h.settings
+lawful-change : (settings : Settings) (h later : PrimaryHistory) (f : PrimaryConnection → PrimaryConnection) → later.settings ≡ h.settings
     → later.connections ≡ change_last f h.connections
-    → ((k : ℕ) → slice_get h.connections k ≡ Some (outward h) → IsLawful (most_writes settings) (outward h).stream
-    → IsLawful (most_writes settings) (f (outward h)).stream)
+    → ((k : ℕ) → slice_get h.connections k ≡ Some (primary_connection h) → IsLawful (most_writes settings) (primary_connection h).stream
+    → IsLawful (most_writes settings) (f (primary_connection h)).stream)
     → HasLawfulStreams settings h → HasLawfulStreams settings later
 lawful-change settings h later f same connections keeps streams = record {
   setting = same ∙ streams.setting;
-  lawful = λ k d at. elim (get-change-back f (no_outward h.tuple) h.connections k d (subst (λ (l : List Outward). slice_get l k ≡ Some d) connections at)) [
-    | inl old ↦ streams.lawful k d old
-    | inr changed ↦ subst (λ (x : Outward). IsLawful (most_writes settings) x.stream) (sym changed.0)
-        (keeps k changed.1 (streams.lawful k (outward h) changed.1))
-  ];
+  lawful = λ k d at. elim (get-change-back f (no_primary_connection h.tuple) h.connections k d
+      (subst (λ (l : List PrimaryConnection). slice_get l k ≡ Some d) connections at)) [
+        | inl old ↦ streams.lawful k d old
+        | inr changed ↦ subst (λ (x : PrimaryConnection). IsLawful (most_writes settings) x.stream) (sym changed.0)
+            (keeps k changed.1 (streams.lawful k (primary_connection h) changed.1))
+      ];
 }
 
 -- no connection changes
@@ -72,11 +74,11 @@ lawful-same : (settings : Settings) (h later : PrimaryHistory) → later.setting
     → HasLawfulStreams settings later
 lawful-same settings h later same connections streams = record {
   setting = same ∙ streams.setting;
-  lawful = λ k d at. streams.lawful k d (subst (λ (l : List Outward). slice_get l k ≡ Some d) connections at);
+  lawful = λ k d at. streams.lawful k d (subst (λ (l : List PrimaryConnection). slice_get l k ≡ Some d) connections at);
 }
 
 -- the last epoch's barrier may follow
-barrier-follows : (most : ℕ) (items : List Item) → MayFollow most items (BarrierItem (last_epoch items))
+barrier-follows : (most : ℕ) (items : List StreamItem) → MayFollow most items (BarrierItem (last_epoch items))
 barrier-follows most items = record {
   barrier = λ epoch is. let same : last_epoch items ≡ epoch = cc in sym same;
   rising = λ place a b at is. absurd (cc);
@@ -85,7 +87,7 @@ barrier-follows most items = record {
 }
 
 -- the end of a resync may follow every stream
-uuids-follow : (most : ℕ) (items : List Item) (tuple : Tuple) → MayFollow most items (UuidsItem tuple)
+uuids-follow : (most : ℕ) (items : List StreamItem) (tuple : Tuple) → MayFollow most items (UuidsItem tuple)
 uuids-follow most items tuple = record {
   barrier = λ epoch is. absurd (cc);
   rising = λ place a b at is. absurd (cc);
@@ -95,13 +97,13 @@ uuids-follow most items tuple = record {
 
 -- behind a barrier the last epoch is open
 lawful-parts : (settings : Settings) → TakesWrites settings → (g : PrimaryHistory) → epoch_is_over g ≡ true → HasLawfulStreams settings g
-    → IsLawfulBetween settings (appending (BarrierItem (last_epoch (outward g).stream)) g)
+    → IsLawfulBetween settings (appending (BarrierItem (last_epoch (primary_connection g).stream)) g)
 lawful-parts settings bound g over streams =
-    let c : Outward = outward g in
-    let f : Outward → Outward = λ x. record x { stream = x.stream ++ BarrierItem (last_epoch c.stream) ∷ [] } in
+    let c : PrimaryConnection = primary_connection g in
+    let f : PrimaryConnection → PrimaryConnection = λ x. record x { stream = x.stream ++ BarrierItem (last_epoch c.stream) ∷ [] } in
     let later : PrimaryHistory = appending (BarrierItem (last_epoch c.stream)) g in
-    let standing = open-stands c (over-standing g over) in
-    let last : outward later ≡ f c = last-changed g f (no_outward g.tuple) standing in
+    let standing = open-established c (over-standing g over) in
+    let last : primary_connection later ≡ f c = last-changed g f (no_primary_connection g.tuple) standing in
     let empty = barrier-empties c.stream (last_epoch c.stream) in
     record {
       streams = lawful-change settings g later f refl refl
@@ -113,12 +115,12 @@ lawful-parts settings bound g over streams =
 -- the end of a resync leaves the last epoch open
 lawful-ends : (settings : Settings) (g : PrimaryHistory) → resync_is_over g ≡ true → IsLawfulBetween settings g → IsLawfulBetween settings (ending_resync g)
 lawful-ends settings g over between =
-    let c : Outward = outward g in
-    let item : Item = UuidsItem (sync_end g.tuple) in
-    let f : Outward → Outward = λ x. record x { stream = x.stream ++ UuidsItem (sync_end g.tuple) ∷ [] } in
+    let c : PrimaryConnection = primary_connection g in
+    let item : StreamItem = UuidsItem (sync_end g.tuple) in
+    let f : PrimaryConnection → PrimaryConnection = λ x. record x { stream = x.stream ++ UuidsItem (sync_end g.tuple) ∷ [] } in
     let later : PrimaryHistory = ending_resync g in
-    let stood = over-stands g over in
-    let last : outward later ≡ f c = last-changed g f (no_outward later.tuple) (open-stands c stood) in
+    let stood = over-established g over in
+    let last : primary_connection later ≡ f c = last-changed g f (no_primary_connection later.tuple) (open-established c stood) in
     let going = goes-on g stood between.on in
     let grown = barriers-append c.stream (UuidsItem (sync_end g.tuple) ∷ []) in
     let same : last_epoch (c.stream ++ UuidsItem (sync_end g.tuple) ∷ []) ≡ last_epoch c.stream = omega arith in
@@ -147,23 +149,25 @@ lawful-following settings bound = following-from (HasLawfulStreams settings) (Is
 lawful-submits : (settings : Settings) (h : PrimaryHistory) (first : ℕ) (contents : List (List ℕ)) → MaySubmit h first contents → HasHomes h
     → IsLawfulBetween settings h
     → HasLawfulStreams settings (submitted h first contents)
-lawful-submits settings h first contents may homes between = go (stands (outward h)) refl
+lawful-submits settings h first contents may homes between = go (is_established (primary_connection h)) refl
   where
-    go : (b : Bool) → stands (outward h) ≡ b → HasLawfulStreams settings (submitted_with b h first contents)
+    go : (b : Bool) → is_established (primary_connection h) ≡ b → HasLawfulStreams settings (submitted_with b h first contents)
     go true is = lawful-change settings h _ (λ c. record c { stream = c.stream ++ WriteItem (submission h first contents) ∷ [] }) refl refl
-        (λ k at lawful. lawful-append (most_writes settings) (outward h).stream (WriteItem (submission h first contents)) lawful
-        (subst (λ (s : Settings). MayFollow (most_writes s) (outward h).stream (WriteItem (submission h first contents))) between.streams.setting
+        (λ k at lawful. lawful-append (most_writes settings) (primary_connection h).stream (WriteItem (submission h first contents)) lawful
+        (subst (λ (s : Settings). MayFollow (most_writes s) (primary_connection h).stream (WriteItem (submission h first contents))) between.streams.setting
         (write-follows h k first contents homes at is between.on may.free))) between.streams
     go false is = lawful-same settings h _ refl refl between.streams
 
-lawful-resyncs : (settings : Settings) (h : PrimaryHistory) (block : ℕ) → stands (outward h) ≡ true → nat_lt 0 (length (under_way (outward h))) ≡ false
+lawful-resyncs : (settings : Settings) (h : PrimaryHistory) (block : ℕ) → is_established (primary_connection h) ≡ true
+    → nat_lt 0 (length (under_way (primary_connection h))) ≡ false
     → free_block h ≡ Some block
     → HasHomes h → IsLawfulBetween settings h
     → HasLawfulStreams settings (appending (ResyncItem block (unwrap_or (local_map h block) [])) h)
 lawful-resyncs settings h block standing alone free homes between =
     lawful-change settings h _ (λ c. record c { stream = c.stream ++ ResyncItem block (unwrap_or (local_map h block) []) ∷ [] }) refl refl
-    (λ k at lawful. lawful-append (most_writes settings) (outward h).stream (ResyncItem block (unwrap_or (local_map h block) [])) lawful
-    (subst (λ (s : Settings). MayFollow (most_writes s) (outward h).stream (ResyncItem block (unwrap_or (local_map h block) []))) between.streams.setting
+    (λ k at lawful. lawful-append (most_writes settings) (primary_connection h).stream (ResyncItem block (unwrap_or (local_map h block) [])) lawful
+    (subst (λ (s : Settings). MayFollow (most_writes s) (primary_connection h).stream (ResyncItem block (unwrap_or (local_map h block) [])))
+    between.streams.setting
     (resync-follows h k block (unwrap_or (local_map h block) []) homes at standing between.on alone free))) between.streams
 
 lawful-faults : (settings : Settings) (h : PrimaryHistory) (number : ℕ) (offsets : List ℕ) → HasLawfulStreams settings h
@@ -177,15 +181,16 @@ lawful-faults settings h number offsets streams = go (accepted_at h number)
 
 -- a stream that begins is empty, or has the start of a resync
 lawful-begins : (settings : Settings) (h : PrimaryHistory) (peer : Tuple) (decided : Decision) → HasLawfulStreams settings h
-    → HasLawfulStreams settings (begun_with decided (record (with_outward (with_frame (Ok (UuidsFrame peer))) h) { peer = Some peer }))
+    → HasLawfulStreams settings (begun_with decided (record (with_primary_connection (with_frame (Ok (UuidsFrame peer))) h) { peer = Some peer }))
 lawful-begins settings h peer decided streams = go decided
   where
     taken : PrimaryHistory
-    taken = record (with_outward (with_frame (Ok (UuidsFrame peer))) h) { peer = Some peer }
+    taken = record (with_primary_connection (with_frame (Ok (UuidsFrame peer))) h) { peer = Some peer }
 
-    twice : (later : PrimaryHistory) (g : Outward → Outward) → later.settings ≡ h.settings
+    twice : (later : PrimaryHistory) (g : PrimaryConnection → PrimaryConnection) → later.settings ≡ h.settings
         → later.connections ≡ change_last g (change_last (with_frame (Ok (UuidsFrame peer))) h.connections)
-        → (IsLawful (most_writes settings) (outward h).stream → IsLawful (most_writes settings) (g (with_frame (Ok (UuidsFrame peer)) (outward h))).stream)
+        → (IsLawful (most_writes settings) (primary_connection h).stream
+        → IsLawful (most_writes settings) (g (with_frame (Ok (UuidsFrame peer)) (primary_connection h))).stream)
         → HasLawfulStreams settings later
     twice later g same connections keeps =
         lawful-change settings h later (λ c. g (with_frame (Ok (UuidsFrame peer)) c)) same (connections
@@ -199,18 +204,20 @@ lawful-begins settings h peer decided streams = go decided
       small = λ is. absurd (cc);
     })
 
-    go : (v : Decision) → HasLawfulStreams settings (begun_with v (record (with_outward (with_frame (Ok (UuidsFrame peer))) h) { peer = Some peer }))
+    go : (v : Decision) → HasLawfulStreams settings (begun_with v (record (with_primary_connection (with_frame (Ok (UuidsFrame peer))) h) { peer = Some peer }))
     go NoSync = twice _ (λ c. record c { begun = true }) refl refl (λ lawful. lawful)
-    go BitmapSync = twice _ (λ c. record c { begun = true; stream = SyncUuidItem (outward taken).sync ∷ [] }) refl refl (λ lawful. start (outward taken).sync)
-    go FullSync = twice _ (λ c. record c { begun = true; stream = SyncUuidItem (outward taken).sync ∷ [] }) refl refl (λ lawful. start (outward taken).sync)
+    go BitmapSync = twice _ (λ c. record c { begun = true; stream = SyncUuidItem (primary_connection taken).sync ∷ [] }) refl refl
+        (λ lawful. start (primary_connection taken).sync)
+    go FullSync = twice _ (λ c. record c { begun = true; stream = SyncUuidItem (primary_connection taken).sync ∷ [] }) refl refl
+        (λ lawful. start (primary_connection taken).sync)
 
 -- a new connection has an empty stream
 lawful-opens : (settings : Settings) (h : PrimaryHistory) (sync loss : ℕ) → HasLawfulStreams settings h → HasLawfulStreams settings (opened h sync loss)
 lawful-opens settings h sync loss streams = record {
   setting = streams.setting;
-  lawful = λ k c at. elim (get-more h.connections (new_outward sync loss h.tuple) k c at) [
+  lawful = λ k c at. elim (get-more h.connections (new_primary_connection sync loss h.tuple) k c at) [
     | inl old ↦ streams.lawful k c old
-    | inr new ↦ subst (λ (x : Outward). IsLawful (most_writes settings) x.stream) (sym new.1) (lawful-empty (most_writes settings))
+    | inr new ↦ subst (λ (x : PrimaryConnection). IsLawful (most_writes settings) x.stream) (sym new.1) (lawful-empty (most_writes settings))
   ];
 }
 
@@ -261,7 +268,7 @@ lawful-kept settings bound = record {
   );
   resyncs = λ h block runs alone is p. (
     homes-kept.resyncs h block runs alone is p.0,
-    lawful-resyncs settings h block (and_parts (stands (outward h)) (in_resync (outward h).stream) runs).0 alone is p.0 p.1,
+    lawful-resyncs settings h block (and_parts (is_established (primary_connection h)) (in_resync (primary_connection h).stream) runs).0 alone is p.0 p.1,
   );
   closes = λ h standing p. (
     homes-kept.closes h standing p.0,
@@ -291,6 +298,6 @@ primary-between settings disk tuple marks events range =
 
 -- Whatever frames a primary takes, each of its streams is lawful.
 pub primary_lawful : (settings : Settings) (disk : BlockMap) (tuple : Tuple) (marks : ℕ → Bool) (events : List PrimaryEvent) → IsInRange settings
-    → (k : ℕ) (c : Outward) → slice_get (primary_run events (primary_opening settings disk tuple marks)).connections k ≡ Some c
+    → (k : ℕ) (c : PrimaryConnection) → slice_get (primary_run events (primary_opening settings disk tuple marks)).connections k ≡ Some c
     → IsLawful (most_writes settings) c.stream
 primary_lawful settings disk tuple marks events range k c at = (primary-between settings disk tuple marks events range).1.streams.lawful k c at

@@ -8,10 +8,11 @@ use Rattle.std.proofs.lemmas.Option.{slice_get_within}
 use Rattle.blocks.specs.Positions.{StreamPosition}
 use Rattle.blocks.specs.declared.settings.Settings.{Settings}
 use Rattle.model.specs.Contents.{Write, covers}
-use Rattle.model.specs.Stream.{items_meet, Item, WriteItem, barriers_in, epoch_of}
+use Rattle.model.specs.Stream.{items_meet, StreamItem, WriteItem, barriers_in, epoch_of}
 use Rattle.model.specs.Frames.{BarrierAckFrame}
 use Rattle.model.specs.Marks.{is_cleared}
-use Rattle.model.specs.Primary.{OnDisk, Accepted, Outward, PrimaryHistory, no_outward, outward, last_index, with_outward, stands, barrier_acknowledged}
+use Rattle.model.specs.Primary.{OnDisk, Accepted, PrimaryConnection, PrimaryHistory, no_primary_connection, primary_connection, last_index}
+use Rattle.model.specs.Primary.{with_primary_connection, is_established, barrier_acknowledged}
 use Rattle.model.specs.Primary.{is_on_disk, is_alone, is_confirmed, is_released, unreleased}
 use Rattle.model.specs.PrimarySteps.{set_outcome, with_outcome}
 use Rattle.laws.proofs.Rules.ReleaseClears.{Clears, cleared-by}
@@ -31,9 +32,9 @@ use Rattle.laws.proofs.Tracked.Outcomes.{outcome-cases}
 use Rattle.laws.proofs.Rules.Releases.{is_freed, freed-cases, freed-linked, freed-confirmed, freed-alone, freed-same, released-parts, released-by, IsReleased}
 
 -- a later place is in no earlier epoch
-epoch-rises : (items : List Item) (place later : ℕ) → place < later → later ≤ length items → epoch_of items place ≤ epoch_of items later
+epoch-rises : (items : List StreamItem) (place later : ℕ) → place < later → later ≤ length items → epoch_of items place ≤ epoch_of items later
 epoch-rises items place later less within =
-    let front : List Item = take later items in
+    let front : List StreamItem = take later items in
     let split = barriers-append (take place front) (drop place front) in
     let all : barriers_in (take place front ++ drop place front) ≡ barriers_in front = ap barriers_in (take-append-drop place front) in
     let same : epoch_of front place ≡ epoch_of items place = epoch-front items later place less within in
@@ -72,13 +73,14 @@ released-in-order settings h p i j block a b less ata atb cova covb released =
               was.1 in
               elim (freed-cases h b said) [
                 | inr alone ↦ freed-alone h a (alone-at h a home was.0 ha was.1
-                    ∙ (ap (λ (c : Outward). c.closed) (sym end) ∙ (sym (alone-at h b other its.0 hb its.1) ∙ alone)))
+                    ∙ (ap (λ (c : PrimaryConnection). c.closed) (sym end) ∙ (sym (alone-at h b other its.0 hb its.1) ∙ alone)))
                 | inl confirmed ↦
                     let acknowledged : barrier_acknowledged was.0 (epoch_of was.0.stream other.place) ≡ true =
-                    subst (λ (c : Outward). barrier_acknowledged c (epoch_of c.stream other.place) ≡ true) end (sym (confirmed-at h b other its.0 hb its.1)
+                    subst (λ (c : PrimaryConnection). barrier_acknowledged c (epoch_of c.stream other.place) ≡ true) end
+                    (sym (confirmed-at h b other its.0 hb its.1)
                     ∙ confirmed) in
                     let inside = slice_get_within was.0.stream other.place (WriteItem b.write)
-                    (subst (λ (c : Outward). slice_get c.stream other.place ≡ Some (WriteItem b.write)) end its.2) in
+                    (subst (λ (c : PrimaryConnection). slice_get c.stream other.place ≡ Some (WriteItem b.write)) end its.2) in
                     let rising = epoch-rises was.0.stream home.place other.place here.1 (omega arith) in
                     freed-confirmed h a (confirmed-at h a home was.0 ha was.1
                     ∙ order.acknowledged home.index was.0 was.1 (epoch_of was.0.stream home.place) (epoch_of was.0.stream other.place)
@@ -127,8 +129,8 @@ done-releases h number homes = record {
         ]
 
 -- The peer acknowledges an epoch: what it releases is in that epoch.
-pub confirmed-releases : (settings : Settings) (h : PrimaryHistory) (number size : ℕ) → (outward h).closed ≡ false → Ordered settings h
-    → IsRelease h (with_outward (with_frame (Ok (BarrierAckFrame number size))) h)
+pub confirmed-releases : (settings : Settings) (h : PrimaryHistory) (number size : ℕ) → (primary_connection h).closed ≡ false → Ordered settings h
+    → IsRelease h (with_primary_connection (with_frame (Ok (BarrierAckFrame number size))) h)
 confirmed-releases settings h number size standing p = record {
   writes = keeps-writes h.writes;
   apart = λ i j block a b less newa newb cova covb.
@@ -141,7 +143,7 @@ confirmed-releases settings h number size standing p = record {
             two.0;
       }) less newa.at newb.at one.1 two.1)
       [ inl early ↦ absurd (omega arith) | inr here ↦ here.1 ] in
-      let lawful = p.1.1.0.1.streams.lawful (last_index h.connections) (outward h) (open-at h standing) in
+      let lawful = p.1.1.0.1.streams.lawful (last_index h.connections) (primary_connection h) (open-at h standing) in
       both_ways (items_meet (WriteItem a.write) (WriteItem b.write))
       (lawful.apart one.0 two.0 (WriteItem a.write) (WriteItem b.write) after (sym one.3 ∙ two.3) one.2 two.2)
       (meeting a.write b.write block cova covb);
@@ -154,13 +156,13 @@ confirmed-releases settings h number size standing p = record {
     homes = p.1.1.0.0
 
     later : PrimaryHistory
-    later = with_outward (with_frame (Ok (BarrierAckFrame number size))) h
+    later = with_primary_connection (with_frame (Ok (BarrierAckFrame number size))) h
 
     -- its home is on the last connection, in that epoch
-    placed : (i : ℕ) (a : Accepted) → IsNew h (with_outward (with_frame (Ok (BarrierAckFrame number size))) h) i a
+    placed : (i : ℕ) (a : Accepted) → IsNew h (with_primary_connection (with_frame (Ok (BarrierAckFrame number size))) h) i a
         → (place : ℕ) × (a.home ≡ Some (record { index = last_index h.connections; place = place }))
-        × (slice_get (outward h).stream place ≡ Some (WriteItem a.write))
-        × (number ≡ epoch_of (outward h).stream place)
+        × (slice_get (primary_connection h).stream place ≡ Some (WriteItem a.write))
+        × (number ≡ epoch_of (primary_connection h).stream place)
     placed i a new = by-home a.home refl
       where
         parts : IsReleased later a
@@ -172,17 +174,17 @@ confirmed-releases settings h number size standing p = record {
 
         by-home : (v : Option StreamPosition) → a.home ≡ v
             → (place : ℕ) × (a.home ≡ Some (record { index = last_index h.connections; place = place }))
-            × (slice_get (outward h).stream place ≡ Some (WriteItem a.write))
-            × (number ≡ epoch_of (outward h).stream place)
+            × (slice_get (primary_connection h).stream place ≡ Some (WriteItem a.write))
+            × (number ≡ epoch_of (primary_connection h).stream place)
         by-home None is = absurd (not-so (freed-alone h a (alone-homeless h a is)))
         by-home (Some home) is =
             let was = homes.housed i home.index home.place a new.at is in
             let epoch : ℕ = epoch_of was.0.stream home.place in
-            elim (get-change (with_frame (Ok (BarrierAckFrame number size))) (no_outward h.tuple) h.connections home.index was.0 was.1) [
+            elim (get-change (with_frame (Ok (BarrierAckFrame number size))) (no_primary_connection h.tuple) h.connections home.index was.0 was.1) [
               | inl same ↦ absurd (not-so (freed-same later h a a (confirmed-at h a home was.0 is was.1 ∙ sym (confirmed-at later a home was.0 is same))
                   (alone-at h a home was.0 is was.1 ∙ sym (alone-at later a home was.0 is same)) ∙ parts.freed))
               | inr changed ↦
-                  let plain : was.0.refused ≡ false = subst (λ (c : Outward). c.refused ≡ false) (sym changed.1)
+                  let plain : was.0.refused ≡ false = subst (λ (c : PrimaryConnection). c.refused ≡ false) (sym changed.1)
                   (not-refused h homes standing (last_index h.connections) (open-at h standing)) in
                   let index : home.index ≡ last_index h.connections = let end = changed.2 in omega arith in
                   elim (freed-cases later a parts.freed) [
@@ -195,8 +197,8 @@ confirmed-releases settings h number size standing p = record {
                           | inr now ↦ (
                             home.place,
                             is ∙ ap (λ (n : ℕ). let at : StreamPosition = record { index = n; place = home.place } in Some at) index,
-                            subst (λ (c : Outward). slice_get c.stream home.place ≡ Some (WriteItem a.write)) changed.1 was.2,
-                            subst (λ (c : Outward). number ≡ epoch_of c.stream home.place) changed.1 (eqb-true number epoch now),
+                            subst (λ (c : PrimaryConnection). slice_get c.stream home.place ≡ Some (WriteItem a.write)) changed.1 was.2,
+                            subst (λ (c : PrimaryConnection). number ≡ epoch_of c.stream home.place) changed.1 (eqb-true number epoch now),
                           )
                         ]
                   ]
@@ -213,20 +215,20 @@ pub record IsCleared (h : PrimaryHistory) (block : ℕ) : Type 0 where
   pub covered : covers accepted.write block ≡ true
   pub done : is_on_disk accepted.outcome ≡ true
   pub home : accepted.home ≡ Some (record { index = last_index h.connections; place = place })
-  pub connected : slice_get h.connections (last_index h.connections) ≡ Some (outward h)
-  pub standing : stands (outward h) ≡ true
-  pub there : slice_get (outward h).stream place ≡ Some (WriteItem accepted.write)
-  pub confirmed : barrier_acknowledged (outward h) (epoch_of (outward h).stream place) ≡ true
+  pub connected : slice_get h.connections (last_index h.connections) ≡ Some (primary_connection h)
+  pub standing : is_established (primary_connection h) ≡ true
+  pub there : slice_get (primary_connection h).stream place ≡ Some (WriteItem accepted.write)
+  pub confirmed : barrier_acknowledged (primary_connection h) (epoch_of (primary_connection h).stream place) ≡ true
   pub last : (j : ℕ) (b : Accepted) → index < j → slice_get h.writes j ≡ Some b → covers b.write block ≡ false
 
 -- the home of a write that is released while its connection stands
 record IsAtHome (h : PrimaryHistory) (a : Accepted) : Type 0 where
   place : ℕ
   home : a.home ≡ Some (record { index = last_index h.connections; place = place })
-  connected : slice_get h.connections (last_index h.connections) ≡ Some (outward h)
-  standing : stands (outward h) ≡ true
-  there : slice_get (outward h).stream place ≡ Some (WriteItem a.write)
-  confirmed : barrier_acknowledged (outward h) (epoch_of (outward h).stream place) ≡ true
+  connected : slice_get h.connections (last_index h.connections) ≡ Some (primary_connection h)
+  standing : is_established (primary_connection h) ≡ true
+  there : slice_get (primary_connection h).stream place ≡ Some (WriteItem a.write)
+  confirmed : barrier_acknowledged (primary_connection h) (epoch_of (primary_connection h).stream place) ≡ true
 
 at-home : (h : PrimaryHistory) (i : ℕ) (a : Accepted) → HasHomes h → IsLastOpen h → slice_get h.writes i ≡ Some a → is_released h a ≡ true
     → is_alone h a ≡ false → IsAtHome h a
@@ -249,11 +251,12 @@ at-home h i a homes last at released connected = by-home a.home refl
         record {
           place = home.place;
           home = is ∙ ap (λ (n : ℕ). let at : StreamPosition = record { index = n; place = home.place } in Some at) ends.0;
-          connected = subst (λ (n : ℕ). slice_get h.connections n ≡ Some (outward h)) ends.0 (was.1 ∙ ap (λ (c : Outward). Some c) ends.1);
-          standing = subst (λ (c : Outward). stands c ≡ true) ends.1
+          connected = subst (λ (n : ℕ). slice_get h.connections n ≡ Some (primary_connection h)) ends.0 (was.1 ∙ ap (λ (c : PrimaryConnection). Some c) ends.1);
+          standing = subst (λ (c : PrimaryConnection). is_established c ≡ true) ends.1
               (and_from (not was.0.closed) was.0.begun (not_from_false was.0.closed (sym (alone-at h a home was.0 is was.1) ∙ connected)) begun);
-          there = subst (λ (c : Outward). slice_get c.stream home.place ≡ Some (WriteItem a.write)) ends.1 was.2;
-          confirmed = subst (λ (c : Outward). barrier_acknowledged c (epoch_of c.stream home.place) ≡ true) ends.1 (sym (confirmed-at h a home was.0 is was.1)
+          there = subst (λ (c : PrimaryConnection). slice_get c.stream home.place ≡ Some (WriteItem a.write)) ends.1 was.2;
+          confirmed = subst (λ (c : PrimaryConnection). barrier_acknowledged c (epoch_of c.stream home.place) ≡ true) ends.1
+              (sym (confirmed-at h a home was.0 is was.1)
               ∙ confirmed);
         }
 

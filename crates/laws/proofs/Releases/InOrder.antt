@@ -9,7 +9,8 @@ use Rattle.std.proofs.lemmas.Option.{slice_get_within}
 use Rattle.blocks.specs.Positions.{StreamPosition}
 use Rattle.model.specs.Contents.{Write, covers}
 use Rattle.model.specs.Frames.{BarrierAckFrame, Received}
-use Rattle.model.specs.Primary.{Accepted, Outward, PrimaryHistory, outward, no_outward, change_last, accepted_frames, is_barrier_ack, barrier_acknowledged}
+use Rattle.model.specs.Primary.{Accepted, PrimaryConnection, PrimaryHistory, primary_connection, no_primary_connection, change_last, accepted_frames}
+use Rattle.model.specs.Primary.{is_barrier_ack, barrier_acknowledged}
 use Rattle.model.specs.Primary.{is_waiting}
 use Rattle.laws.specs.Reflections.{IsLater}
 use Rattle.laws.proofs.Lists.Elements.{get-more}
@@ -19,7 +20,7 @@ use Rattle.laws.proofs.Primary.Ends.{accepted-all}
 use Rattle.laws.proofs.Primary.Writes.{KeepsWrites}
 
 -- The peer acknowledges epochs in their order.
-abbrev pub AreInTurn : Outward → Type 0
+abbrev pub AreInTurn : PrimaryConnection → Type 0
 AreInTurn c = (e f : ℕ) → 0 < e → e ≤ f → barrier_acknowledged c f ≡ true → barrier_acknowledged c e ≡ true
 
 -- Of two writes that share a block the local disk has done or failed the earlier one; homes rise; where a later write has no
@@ -30,37 +31,39 @@ pub record IsInOrder (h : PrimaryHistory) : Type 0 where
   pub rise : (i j : ℕ) (a b : Accepted) (home other : StreamPosition) → i < j → slice_get h.writes i ≡ Some a → slice_get h.writes j ≡ Some b
       → a.home ≡ Some home
       → b.home ≡ Some other → IsLater home.index home.place other.index other.place
-  pub alone_later : (i j : ℕ) (a b : Accepted) (home : StreamPosition) (c : Outward) → i < j → slice_get h.writes i ≡ Some a → slice_get h.writes j ≡ Some b
+  pub alone_later : (i j : ℕ) (a b : Accepted) (home : StreamPosition) (c : PrimaryConnection) → i < j → slice_get h.writes i ≡ Some a
+      → slice_get h.writes j ≡ Some b
       → a.home ≡ Some home → b.home ≡ None
       → slice_get h.connections home.index ≡ Some c → c.closed ≡ true
-  pub acknowledged : (k : ℕ) (c : Outward) → slice_get h.connections k ≡ Some c → AreInTurn c
+  pub acknowledged : (k : ℕ) (c : PrimaryConnection) → slice_get h.connections k ≡ Some c → AreInTurn c
 
 -- What a change of the last connection has to keep.
-pub record KeepsTurn (c d : Outward) : Type 0 where
+pub record KeepsTurn (c d : PrimaryConnection) : Type 0 where
   pub closed : c.closed ≡ true → d.closed ≡ true
   pub turn : AreInTurn c → AreInTurn d
 
 -- an end of a changed list: the same, or the changed last
-changed-end : (h later : PrimaryHistory) (f : Outward → Outward) → later.connections ≡ change_last f h.connections → (k : ℕ) (d : Outward)
+changed-end : (h later : PrimaryHistory) (f : PrimaryConnection → PrimaryConnection) → later.connections ≡ change_last f h.connections
+    → (k : ℕ) (d : PrimaryConnection)
     → slice_get later.connections k ≡ Some d
-    → (slice_get h.connections k ≡ Some d) ⊎ ((d ≡ f (outward h)) × (slice_get h.connections k ≡ Some (outward h)))
+    → (slice_get h.connections k ≡ Some d) ⊎ ((d ≡ f (primary_connection h)) × (slice_get h.connections k ≡ Some (primary_connection h)))
 changed-end h later f connections k d at =
-    elim (get-change-back f (no_outward h.tuple) h.connections k d (subst (λ (l : List Outward). slice_get l k ≡ Some d) connections at)) [
+    elim (get-change-back f (no_primary_connection h.tuple) h.connections k d (subst (λ (l : List PrimaryConnection). slice_get l k ≡ Some d) connections at)) [
       | inl same ↦ inl same
       | inr changed ↦ inr (changed.0, changed.1)
     ]
 
 -- epochs stay acknowledged in turn
-turn-change : (h later : PrimaryHistory) (f : Outward → Outward) → IsInOrder h → later.connections ≡ change_last f h.connections
-    → KeepsTurn (outward h) (f (outward h)) → (k : ℕ) (d : Outward) → slice_get later.connections k ≡ Some d → AreInTurn d
+turn-change : (h later : PrimaryHistory) (f : PrimaryConnection → PrimaryConnection) → IsInOrder h → later.connections ≡ change_last f h.connections
+    → KeepsTurn (primary_connection h) (f (primary_connection h)) → (k : ℕ) (d : PrimaryConnection) → slice_get later.connections k ≡ Some d → AreInTurn d
 turn-change h later f order connections keeps k d at = elim (changed-end h later f connections k d at) [
   | inl same ↦ order.acknowledged k d same
-  | inr changed ↦ subst AreInTurn (sym changed.0) (keeps.turn (order.acknowledged k (outward h) changed.1))
+  | inr changed ↦ subst AreInTurn (sym changed.0) (keeps.turn (order.acknowledged k (primary_connection h) changed.1))
 ]
 
 -- the last connection changes, and the writes stay
-pub order-change : (h later : PrimaryHistory) (f : Outward → Outward) → IsInOrder h → later.connections ≡ change_last f h.connections
-    → KeepsWrites h.writes later.writes → KeepsTurn (outward h) (f (outward h)) → IsInOrder later
+pub order-change : (h later : PrimaryHistory) (f : PrimaryConnection → PrimaryConnection) → IsInOrder h → later.connections ≡ change_last f h.connections
+    → KeepsWrites h.writes later.writes → KeepsTurn (primary_connection h) (f (primary_connection h)) → IsInOrder later
 order-change h later f order connections writes keeps = record {
   settled_first = λ i j block a b less ata atb cova covb.
       let x = writes.back i a ata in
@@ -77,8 +80,8 @@ order-change h later f order connections writes keeps = record {
       let y = writes.back j b atb in
       elim (changed-end h later f connections home.index d at) [
         | inl same ↦ order.alone_later i j x.0 y.0 home d less x.1 y.1 (sym x.3 ∙ ha) (sym y.3 ∙ hb) same
-        | inr changed ↦ subst (λ (e : Outward). e.closed ≡ true) (sym changed.0)
-            (keeps.closed (order.alone_later i j x.0 y.0 home (outward h) less x.1 y.1 (sym x.3 ∙ ha) (sym y.3 ∙ hb) changed.1))
+        | inr changed ↦ subst (λ (e : PrimaryConnection). e.closed ≡ true) (sym changed.0)
+            (keeps.closed (order.alone_later i j x.0 y.0 home (primary_connection h) less x.1 y.1 (sym x.3 ∙ ha) (sym y.3 ∙ hb) changed.1))
       ];
   acknowledged = turn-change h later f order connections keeps;
 }
@@ -100,8 +103,8 @@ order-same h later order connections writes = record {
       let x = writes.back i a ata in
       let y = writes.back j b atb in
       order.alone_later i j x.0 y.0 home d less x.1 y.1 (sym x.3 ∙ ha) (sym y.3
-      ∙ hb) (subst (λ (l : List Outward). slice_get l home.index ≡ Some d) connections at);
-  acknowledged = λ k d at. order.acknowledged k d (subst (λ (l : List Outward). slice_get l k ≡ Some d) connections at);
+      ∙ hb) (subst (λ (l : List PrimaryConnection). slice_get l home.index ≡ Some d) connections at);
+  acknowledged = λ k d at. order.acknowledged k d (subst (λ (l : List PrimaryConnection). slice_get l k ≡ Some d) connections at);
 }
 
 -- What a new write has to be beside those before it.
@@ -110,12 +113,13 @@ pub record MayCome (h later : PrimaryHistory) (new : Accepted) : Type 0 where
       → is_waiting a.outcome ≡ false
   pub later_home : (i : ℕ) (a : Accepted) (home other : StreamPosition) → slice_get h.writes i ≡ Some a → a.home ≡ Some home → new.home ≡ Some other
       → IsLater home.index home.place other.index other.place
-  pub closed : (i : ℕ) (a : Accepted) (home : StreamPosition) (c : Outward) → slice_get h.writes i ≡ Some a → a.home ≡ Some home → new.home ≡ None
+  pub closed : (i : ℕ) (a : Accepted) (home : StreamPosition) (c : PrimaryConnection) → slice_get h.writes i ≡ Some a → a.home ≡ Some home → new.home ≡ None
       → slice_get later.connections home.index ≡ Some c → c.closed ≡ true
 
 -- a write is accepted
-pub order-added : (h later : PrimaryHistory) (f : Outward → Outward) (new : Accepted) → IsInOrder h → later.connections ≡ change_last f h.connections
-    → later.writes ≡ h.writes ++ new ∷ [] → KeepsTurn (outward h) (f (outward h)) → MayCome h later new
+pub order-added : (h later : PrimaryHistory) (f : PrimaryConnection → PrimaryConnection) (new : Accepted) → IsInOrder h
+    → later.connections ≡ change_last f h.connections
+    → later.writes ≡ h.writes ++ new ∷ [] → KeepsTurn (primary_connection h) (f (primary_connection h)) → MayCome h later new
     → IsInOrder later
 order-added h later f new order connections writes keeps may = record {
   settled_first = λ i j block a b less ata atb cova covb. elim (there j b atb) [
@@ -142,8 +146,8 @@ order-added h later f new order connections writes keeps may = record {
     | inl oldb ↦ elim (there i a ata) [
       | inl olda ↦ elim (changed-end h later f connections home.index d at) [
         | inl same ↦ order.alone_later i j a b home d less olda oldb ha hb same
-        | inr changed ↦ subst (λ (e : Outward). e.closed ≡ true) (sym changed.0)
-            (keeps.closed (order.alone_later i j a b home (outward h) less olda oldb ha hb changed.1))
+        | inr changed ↦ subst (λ (e : PrimaryConnection). e.closed ≡ true) (sym changed.0)
+            (keeps.closed (order.alone_later i j a b home (primary_connection h) less olda oldb ha hb changed.1))
       ]
       | inr newa ↦ absurd (let within = slice_get_within h.writes j b oldb in let here = newa.0 in omega arith)
     ]
@@ -161,7 +165,7 @@ order-added h later f new order connections writes keeps may = record {
 -- Frames.
 
 -- an end whose accepted frames stay
-pub turn-frames : (c d : Outward) → accepted_frames d ≡ accepted_frames c → AreInTurn c → AreInTurn d
+pub turn-frames : (c d : PrimaryConnection) → accepted_frames d ≡ accepted_frames c → AreInTurn c → AreInTurn d
 turn-frames c d same turn e f low less said =
     let said_before : barrier_acknowledged c f ≡ true = ap (list_any (is_barrier_ack f)) (sym same) ∙ said in
     ap (list_any (is_barrier_ack e)) same ∙ turn e f low less said_before
@@ -171,7 +175,7 @@ or-none true = refl
 or-none false = refl
 
 -- what is acknowledged once a frame is taken
-pub said-taking : (c : Outward) (frame : Received) (n : ℕ) → c.refused ≡ false
+pub said-taking : (c : PrimaryConnection) (frame : Received) (n : ℕ) → c.refused ≡ false
     → barrier_acknowledged (with_frame frame c) n ≡ (barrier_acknowledged c n || is_barrier_ack n frame)
 said-taking c frame n plain =
     ap (list_any (is_barrier_ack n)) (accepted-all (with_frame frame c) plain)
@@ -180,7 +184,7 @@ said-taking c frame n plain =
     ∙ ap (λ (l : List Received). list_any (is_barrier_ack n) l || is_barrier_ack n frame) (sym (accepted-all c plain))))
 
 -- a frame that acknowledges no epoch
-pub turn-other : (c : Outward) (frame : Received) → c.refused ≡ false → ((n : ℕ) → is_barrier_ack n frame ≡ false) → AreInTurn c
+pub turn-other : (c : PrimaryConnection) (frame : Received) → c.refused ≡ false → ((n : ℕ) → is_barrier_ack n frame ≡ false) → AreInTurn c
     → AreInTurn (with_frame frame c)
 turn-other c frame plain other turn e f low less said =
     let no_more : (n : ℕ) → barrier_acknowledged (with_frame frame c) n ≡ barrier_acknowledged c n = λ n. said-taking c frame n plain
@@ -188,7 +192,7 @@ turn-other c frame plain other turn e f low less said =
     no_more e ∙ turn e f low less (sym (no_more f) ∙ said)
 
 -- the acknowledgement of the first epoch that was not acknowledged
-pub turn-next : (c : Outward) (number size : ℕ) → c.refused ≡ false → ((e : ℕ) → 0 < e → e < number → barrier_acknowledged c e ≡ true) → AreInTurn c
+pub turn-next : (c : PrimaryConnection) (number size : ℕ) → c.refused ≡ false → ((e : ℕ) → 0 < e → e < number → barrier_acknowledged c e ≡ true) → AreInTurn c
     → AreInTurn (with_frame (Ok (BarrierAckFrame number size)) c)
 turn-next c number size plain before turn e f low less said =
     let all : (barrier_acknowledged c f || (number == f)) ≡ true = sym (said-taking c (Ok (BarrierAckFrame number size)) f plain) ∙ said in

@@ -10,10 +10,11 @@ use Rattle.blocks.specs.declared.tuple.Tuple.{Tuple}
 use Rattle.blocks.specs.declared.outcome.Decision.{Decision}
 use Rattle.blocks.specs.declared.outcome.Decision.TheVariants.{NoSync, BitmapSync, FullSync}
 use Rattle.model.specs.Contents.{Write, covers}
-use Rattle.model.specs.Stream.{Item, WriteItem, ResyncItem, BarrierItem, SyncUuidItem, UuidsItem, IsLawful, epoch_of, last_epoch, within}
+use Rattle.model.specs.Stream.{StreamItem, WriteItem, ResyncItem, BarrierItem, SyncUuidItem, UuidsItem, IsLawful, epoch_of, last_epoch, within}
 use Rattle.model.specs.Frames.{BarrierAckFrame, UuidsFrame, Received, RecvAckFrame, WriteAckFrame, RsWriteAckFrame}
-use Rattle.model.specs.Primary.{OnDisk, Failed, Accepted, Outward, PrimaryHistory, outward, last_index, with_outward, stands, change_last}
-use Rattle.model.specs.Primary.{barrier_acknowledged, is_waiting, is_open, accepted_frames, is_barrier_ack, local_map, new_outward}
+use Rattle.model.specs.Primary.{OnDisk, Failed, Accepted, PrimaryConnection, PrimaryHistory, primary_connection, last_index, with_primary_connection}
+use Rattle.model.specs.Primary.{is_established, change_last}
+use Rattle.model.specs.Primary.{barrier_acknowledged, is_waiting, is_open, accepted_frames, is_barrier_ack, local_map, new_primary_connection}
 use Rattle.model.specs.PrimarySteps.{conflict, submission, submitted, opened, with_outcome, accepted_at, faulted, with_completions, ending_resync}
 use Rattle.model.specs.PrimarySteps.{follows, closing, submitted_with, faulted_by}
 use Rattle.model.specs.Acknowledgements.{begun_with, is_in_turn}
@@ -29,7 +30,7 @@ use Rattle.laws.proofs.Streams.Barriers.{barrier-of}
 use Rattle.laws.proofs.Streams.Places.{epoch-front}
 use Rattle.laws.proofs.Primary.Homes.{HasHomes, open-at, alone-at}
 use Rattle.laws.proofs.Primary.Moves.{IsKeptByMoves, IsGreeting, MaySubmit, following-from, with_frame, pushing}
-use Rattle.laws.proofs.Primary.Ends.{not-refused, frames-refusing, stands-parts}
+use Rattle.laws.proofs.Primary.Ends.{not-refused, frames-refusing, established-parts}
 use Rattle.laws.proofs.Primary.LastOpen.{IsLastOpen, last-open-kept, alone-at-rest}
 use Rattle.laws.proofs.Primary.LawfulMoves.{Before, After, lawful-kept}
 use Rattle.laws.proofs.Releases.InOrder.{AreInTurn, IsInOrder, KeepsTurn, order-change, order-same, order-added, turn-frames, turn-other, turn-next}
@@ -47,7 +48,7 @@ abbrev pub OrderedAfter : Settings → PrimaryHistory → Type 0
 OrderedAfter settings h = IsKnown h × (IsLastOpen h × (After settings h × IsInOrder h))
 
 -- An end that stays as it is, but for what no order speaks of.
-turn-same : (c d : Outward) → (c.closed ≡ true → d.closed ≡ true) → (AreInTurn c → AreInTurn d) → KeepsTurn c d
+turn-same : (c d : PrimaryConnection) → (c.closed ≡ true → d.closed ≡ true) → (AreInTurn c → AreInTurn d) → KeepsTurn c d
 turn-same c d closed turn = record { closed = closed; turn = turn }
 
 -- Submissions.
@@ -63,8 +64,9 @@ settled-before h write known free i block a at cova covb = elim (cases_Bool (is_
 ]
 
 -- a write's home comes before the end of the standing stream
-home-before : (h : PrimaryHistory) → HasHomes h → (outward h).closed ≡ false → (i : ℕ) (a : Accepted) (home : StreamPosition) → slice_get h.writes i ≡ Some a
-    → a.home ≡ Some home → IsLater home.index home.place (last_index h.connections) (length (outward h).stream)
+home-before : (h : PrimaryHistory) → HasHomes h → (primary_connection h).closed ≡ false → (i : ℕ) (a : Accepted) (home : StreamPosition)
+    → slice_get h.writes i ≡ Some a
+    → a.home ≡ Some home → IsLater home.index home.place (last_index h.connections) (length (primary_connection h).stream)
 home-before h homes standing i a home at is =
     let was = homes.housed i home.index home.place a at is in
     let within = slice_get_within h.connections home.index was.0 was.1 in
@@ -72,37 +74,40 @@ home-before h homes standing i a home at is =
       | inl early ↦ inl early
       | inr last ↦
           let index : home.index ≡ length h.connections - 1 = omega arith in
-          let end : was.0 ≡ outward h = same-at h.connections (length h.connections - 1) was.0 (outward h)
+          let end : was.0 ≡ primary_connection h = same-at h.connections (length h.connections - 1) was.0 (primary_connection h)
           (subst (λ (n : ℕ). slice_get h.connections n ≡ Some was.0) index was.1) (open-at h standing) in
           let inside = slice_get_within was.0.stream home.place (WriteItem a.write) was.2 in
-          inr (index, subst (λ (c : Outward). home.place < length c.stream) end inside)
+          inr (index, subst (λ (c : PrimaryConnection). home.place < length c.stream) end inside)
     ]
 
 order-submits : (h : PrimaryHistory) (first : ℕ) (contents : List (List ℕ)) → MaySubmit h first contents → HasHomes h → IsKnown h → IsLastOpen h → IsInOrder h
     → IsInOrder (submitted h first contents)
-order-submits h first contents may homes known last order = go (stands (outward h)) refl
+order-submits h first contents may homes known last order = go (is_established (primary_connection h)) refl
   where
-    go : (b : Bool) → stands (outward h) ≡ b → IsInOrder (submitted_with b h first contents)
+    go : (b : Bool) → is_established (primary_connection h) ≡ b → IsInOrder (submitted_with b h first contents)
     go true is = order-added h _ (λ c. record c { stream = c.stream ++ WriteItem (submission h first contents) ∷ [] }) _ order refl refl
-        (turn-same (outward h) (record (outward h) { stream = (outward h).stream ++ WriteItem (submission h first contents) ∷ [] }) (λ c. c)
-        (λ turn. turn-frames (outward h) (record (outward h) { stream = (outward h).stream ++ WriteItem (submission h first contents) ∷ [] }) refl turn))
+        (turn-same (primary_connection h)
+        (record (primary_connection h) { stream = (primary_connection h).stream ++ WriteItem (submission h first contents) ∷ [] }) (λ c. c)
+        (λ turn. turn-frames (primary_connection h)
+        (record (primary_connection h) { stream = (primary_connection h).stream ++ WriteItem (submission h first contents) ∷ [] }) refl turn))
         (record {
           settled = λ i block a at cova covb. settled-before h (submission h first contents) known may.free i block a at cova covb;
           later_home = λ i a home other at ha hb.
-              let here : StreamPosition = record { index = last_index h.connections; place = length (outward h).stream } in
+              let here : StreamPosition = record { index = last_index h.connections; place = length (primary_connection h).stream } in
               let same : Some here ≡ Some other = hb in
               let equal : here ≡ other = cc in
               subst (λ (x : StreamPosition). IsLater home.index home.place x.index x.place) equal
-              (home-before h homes (stands-parts (outward h) is).0 i a home at ha);
+              (home-before h homes (established-parts (primary_connection h) is).0 i a home at ha);
           closed = λ i a home c at ha hb there. absurd (cc);
         })
-    go false is = order-added h _ (λ c. c) _ order (sym (change-none h.connections)) refl (turn-same (outward h) (outward h) (λ c. c) (λ turn. turn)) (record {
-      settled = λ i block a at cova covb. settled-before h (submission h first contents) known may.free i block a at cova covb;
-      later_home = λ i a home other at ha hb. absurd (cc);
-      closed = λ i a home c at ha hb there. closed-end i a home c at ha there;
-    })
+    go false is = order-added h _ (λ c. c) _ order (sym (change-none h.connections)) refl
+        (turn-same (primary_connection h) (primary_connection h) (λ c. c) (λ turn. turn)) (record {
+          settled = λ i block a at cova covb. settled-before h (submission h first contents) known may.free i block a at cova covb;
+          later_home = λ i a home other at ha hb. absurd (cc);
+          closed = λ i a home c at ha hb there. closed-end i a home c at ha there;
+        })
       where
-        closed-end : (i : ℕ) (a : Accepted) (home : StreamPosition) (c : Outward) → slice_get h.writes i ≡ Some a → a.home ≡ Some home
+        closed-end : (i : ℕ) (a : Accepted) (home : StreamPosition) (c : PrimaryConnection) → slice_get h.writes i ≡ Some a → a.home ≡ Some home
             → slice_get h.connections home.index ≡ Some c → c.closed ≡ true
         closed-end i a home c at ha there = sym (alone-at h a home c ha there) ∙ alone-at-rest h homes last is i a at
 
@@ -133,38 +138,46 @@ order-opens h sync loss homes order = record {
   ];
 }
   where
-    new : Outward
-    new = new_outward sync loss h.tuple
+    new : PrimaryConnection
+    new = new_primary_connection sync loss h.tuple
 
-order-begins : (h : PrimaryHistory) (peer : Tuple) (decided : Decision) → HasHomes h → (outward h).closed ≡ false → IsInOrder h
-    → IsInOrder (begun_with decided (record (with_outward (with_frame (Ok (UuidsFrame peer))) h) { peer = Some peer }))
+order-begins : (h : PrimaryHistory) (peer : Tuple) (decided : Decision) → HasHomes h → (primary_connection h).closed ≡ false → IsInOrder h
+    → IsInOrder (begun_with decided (record (with_primary_connection (with_frame (Ok (UuidsFrame peer))) h) { peer = Some peer }))
 order-begins h peer decided homes standing order = go decided
   where
-    plain : (outward h).refused ≡ false
+    plain : (primary_connection h).refused ≡ false
     plain = not-refused h homes standing (length h.connections - 1) (open-at h standing)
 
-    twice : (later : PrimaryHistory) (g : Outward → Outward) → later.connections ≡ change_last g (change_last (with_frame (Ok (UuidsFrame peer))) h.connections)
-        → later.writes ≡ h.writes → ((c : Outward) → (g c).closed ≡ c.closed) → ((c : Outward) → accepted_frames (g c) ≡ accepted_frames c)
+    twice : (later : PrimaryHistory) (g : PrimaryConnection → PrimaryConnection)
+        → later.connections ≡ change_last g (change_last (with_frame (Ok (UuidsFrame peer))) h.connections)
+        → later.writes ≡ h.writes → ((c : PrimaryConnection) → (g c).closed ≡ c.closed) → ((c : PrimaryConnection) → accepted_frames (g c) ≡ accepted_frames c)
         → IsInOrder later
     twice later g connections writes closed frames =
         order-change h later (λ c. g (with_frame (Ok (UuidsFrame peer)) c)) order (connections
         ∙ change-twice (with_frame (Ok (UuidsFrame peer))) g h.connections) (subst (KeepsWrites h.writes) (sym writes) (keeps-writes h.writes)) (record {
-          closed = λ shut. closed (with_frame (Ok (UuidsFrame peer)) (outward h)) ∙ shut;
-          turn = λ turn. turn-frames (with_frame (Ok (UuidsFrame peer)) (outward h)) (g (with_frame (Ok (UuidsFrame peer)) (outward h)))
-              (frames (with_frame (Ok (UuidsFrame peer)) (outward h))) (turn-other (outward h) (Ok (UuidsFrame peer)) plain (λ n. refl) turn);
+          closed = λ shut. closed (with_frame (Ok (UuidsFrame peer)) (primary_connection h)) ∙ shut;
+          turn = λ turn. turn-frames (with_frame (Ok (UuidsFrame peer)) (primary_connection h)) (g (with_frame (Ok (UuidsFrame peer)) (primary_connection h)))
+              (frames (with_frame (Ok (UuidsFrame peer)) (primary_connection h)))
+              (turn-other (primary_connection h) (Ok (UuidsFrame peer)) plain (λ n. refl) turn);
         })
 
-    go : (v : Decision) → IsInOrder (begun_with v (record (with_outward (with_frame (Ok (UuidsFrame peer))) h) { peer = Some peer }))
+    go : (v : Decision) → IsInOrder (begun_with v (record (with_primary_connection (with_frame (Ok (UuidsFrame peer))) h) { peer = Some peer }))
     go NoSync = twice _ (λ c. record c { begun = true }) refl refl (λ c. refl) (λ c. refl)
-    go BitmapSync = twice _ (λ c. record c { begun = true; stream = SyncUuidItem (outward (with_outward (with_frame (Ok (UuidsFrame peer))) h)).sync ∷ [] })
+    go BitmapSync = twice _ (λ c. record c {
+      begun = true;
+      stream = SyncUuidItem (primary_connection (with_primary_connection (with_frame (Ok (UuidsFrame peer))) h)).sync ∷ [];
+    })
         refl refl (λ c. refl) (λ c. refl)
-    go FullSync = twice _ (λ c. record c { begun = true; stream = SyncUuidItem (outward (with_outward (with_frame (Ok (UuidsFrame peer))) h)).sync ∷ [] }) refl
+    go FullSync = twice _ (λ c. record c {
+      begun = true;
+      stream = SyncUuidItem (primary_connection (with_primary_connection (with_frame (Ok (UuidsFrame peer))) h)).sync ∷ [];
+    }) refl
         refl (λ c. refl) (λ c. refl)
 
 -- Acknowledgements of epochs.
 
 -- in a lawful stream each epoch before that of a barrier is acknowledged, where each barrier before it is
-pub earlier-said : (most : ℕ) (c : Outward) (number place : ℕ) → IsLawful most c.stream → slice_get c.stream place ≡ Some (BarrierItem number)
+pub earlier-said : (most : ℕ) (c : PrimaryConnection) (number place : ℕ) → IsLawful most c.stream → slice_get c.stream place ≡ Some (BarrierItem number)
     → ((j epoch : ℕ) → j < place → slice_get c.stream j ≡ Some (BarrierItem epoch) → barrier_acknowledged c epoch ≡ true) → (e : ℕ) → 0 < e → e < number
     → barrier_acknowledged c e ≡ true
 earlier-said most c number place lawful at before e low less =
@@ -180,11 +193,11 @@ earlier-said most c number place lawful at before e low less =
 
 -- the end that takes a frame which acknowledges no epoch
 order-takes : (h later : PrimaryHistory) (frame : Received) → later.connections ≡ change_last (with_frame frame) h.connections → later.writes ≡ h.writes
-    → HasHomes h → (outward h).closed ≡ false → ((n : ℕ) → is_barrier_ack n frame ≡ false) → IsInOrder h → IsInOrder later
+    → HasHomes h → (primary_connection h).closed ≡ false → ((n : ℕ) → is_barrier_ack n frame ≡ false) → IsInOrder h → IsInOrder later
 order-takes h later frame connections writes homes standing other order =
     order-change h later (with_frame frame) order connections (subst (KeepsWrites h.writes) (sym writes) (keeps-writes h.writes)) (record {
       closed = λ shut. shut;
-      turn = turn-other (outward h) frame (not-refused h homes standing (length h.connections - 1) (open-at h standing)) other;
+      turn = turn-other (primary_connection h) frame (not-refused h homes standing (length h.connections - 1) (open-at h standing)) other;
     })
 
 -- a frame of the hello acknowledges none
@@ -193,18 +206,19 @@ greeting-other h frame (inl first) n = ap (is_barrier_ack n) first.1.1
 greeting-other h frame (inr second) n = ap (is_barrier_ack n) second.1
 
 -- an item goes to the end of the stream, or nothing but what no order speaks of
-order-appends : (h later : PrimaryHistory) (item : Item) → later.connections ≡ change_last (λ c. record c { stream = c.stream ++ item ∷ [] }) h.connections
+order-appends : (h later : PrimaryHistory) (item : StreamItem)
+    → later.connections ≡ change_last (λ c. record c { stream = c.stream ++ item ∷ [] }) h.connections
     → later.writes ≡ h.writes → IsInOrder h → IsInOrder later
 order-appends h later item connections writes order =
     order-change h later (λ c. record c { stream = c.stream ++ item ∷ [] }) order connections
     (subst (KeepsWrites h.writes) (sym writes) (keeps-writes h.writes)) (record {
       closed = λ shut. shut;
-      turn = turn-frames (outward h) (record (outward h) { stream = (outward h).stream ++ item ∷ [] }) refl;
+      turn = turn-frames (primary_connection h) (record (primary_connection h) { stream = (primary_connection h).stream ++ item ∷ [] }) refl;
     })
 
 order-following : (h : PrimaryHistory) → IsInOrder h → IsInOrder (follows h).history
 order-following = following-from IsInOrder IsInOrder IsInOrder (λ h order. order-same h (with_completions h) order refl (keeps-writes h.writes))
-    (λ g over order. order-appends g _ (BarrierItem (last_epoch (outward g).stream)) refl refl order) (λ g on order. order)
+    (λ g over order. order-appends g _ (BarrierItem (last_epoch (primary_connection g).stream)) refl refl order) (λ g on order. order)
     (λ g over order. order-appends g (ending_resync g) (UuidsItem (sync_end g.tuple)) refl refl order) (λ g order. order)
 
 pub in-order-kept : (settings : Settings) → TakesWrites settings → IsKeptByMoves (Ordered settings) (OrderedAfter settings)
@@ -256,8 +270,8 @@ in-order-kept settings bound = record {
       last-open-kept.sends h standing due p.1.0,
       (
         (lawful-kept settings bound).sends h standing due p.1.1.0,
-        order-change h (with_outward pushing h) pushing p.1.1.1 refl (keeps-writes h.writes)
-            (record { closed = λ shut. shut; turn = turn-frames (outward h) (pushing (outward h)) refl }),
+        order-change h (with_primary_connection pushing h) pushing p.1.1.1 refl (keeps-writes h.writes)
+            (record { closed = λ shut. shut; turn = turn-frames (primary_connection h) (pushing (primary_connection h)) refl }),
       ),
     ),
   );
@@ -267,7 +281,7 @@ in-order-kept settings bound = record {
       last-open-kept.greets h frame standing new met p.1.0,
       (
         (lawful-kept settings bound).greets h frame standing new met p.1.1.0,
-        order-takes h (with_outward (with_frame frame) h) frame refl refl p.1.1.0.0 standing (greeting-other h frame met) p.1.1.1,
+        order-takes h (with_primary_connection (with_frame frame) h) frame refl refl p.1.1.0.0 standing (greeting-other h frame met) p.1.1.1,
       ),
     ),
   );
@@ -287,7 +301,7 @@ in-order-kept settings bound = record {
       last-open-kept.receives h ack standing begun may p.1.0,
       (
         (lawful-kept settings bound).receives h ack standing begun may p.1.1.0,
-        order-takes h (with_outward (with_frame (Ok (RecvAckFrame ack))) h) (Ok (RecvAckFrame ack)) refl refl p.1.1.0.0 standing (λ n. refl) p.1.1.1,
+        order-takes h (with_primary_connection (with_frame (Ok (RecvAckFrame ack))) h) (Ok (RecvAckFrame ack)) refl refl p.1.1.0.0 standing (λ n. refl) p.1.1.1,
       ),
     ),
   );
@@ -297,7 +311,8 @@ in-order-kept settings bound = record {
       last-open-kept.applies h ack standing begun may p.1.0,
       (
         (lawful-kept settings bound).applies h ack standing begun may p.1.1.0,
-        order-takes h (with_outward (with_frame (Ok (WriteAckFrame ack))) h) (Ok (WriteAckFrame ack)) refl refl p.1.1.0.0 standing (λ n. refl) p.1.1.1,
+        order-takes h (with_primary_connection (with_frame (Ok (WriteAckFrame ack))) h) (Ok (WriteAckFrame ack)) refl refl p.1.1.0.0 standing
+            (λ n. refl) p.1.1.1,
       ),
     ),
   );
@@ -331,8 +346,8 @@ in-order-kept settings bound = record {
             (refused-last frame peer h) (keeps-writes h.writes)
             (record {
               closed = λ shut. refl;
-              turn = turn-frames (outward h) (refused_out frame (outward h))
-                  (frames-refusing (outward h) frame (not-refused h p.1.1.0.0 standing (length h.connections - 1) (open-at h standing)));
+              turn = turn-frames (primary_connection h) (refused_out frame (primary_connection h))
+                  (frames-refusing (primary_connection h) frame (not-refused h p.1.1.0.0 standing (length h.connections - 1) (open-at h standing)));
             }),
       ),
     ),
@@ -354,7 +369,7 @@ in-order-kept settings bound = record {
       (
         (lawful-kept settings bound).closes h standing p.1.1.0,
         order-change h (closing h) (λ c. record c { closed = true }) p.1.1.1 refl (keeps-writes h.writes)
-            (record { closed = λ shut. refl; turn = turn-frames (outward h) (record (outward h) { closed = true }) refl }),
+            (record { closed = λ shut. refl; turn = turn-frames (primary_connection h) (record (primary_connection h) { closed = true }) refl }),
       ),
     ),
   );
@@ -364,15 +379,16 @@ in-order-kept settings bound = record {
   );
 }
   where
-    order-confirms : (h : PrimaryHistory) (number size : ℕ) → (outward h).closed ≡ false → is_in_turn h number size ≡ true → Ordered settings h
-        → IsInOrder (with_outward (with_frame (Ok (BarrierAckFrame number size))) h)
+    order-confirms : (h : PrimaryHistory) (number size : ℕ) → (primary_connection h).closed ≡ false → is_in_turn h number size ≡ true → Ordered settings h
+        → IsInOrder (with_primary_connection (with_frame (Ok (BarrierAckFrame number size))) h)
     order-confirms h number size standing turn p =
         let k = length h.connections - 1 in
         let there = open-at h standing in
         let its = turn-has h number size turn in
-        order-change h (with_outward (with_frame (Ok (BarrierAckFrame number size))) h) (with_frame (Ok (BarrierAckFrame number size))) p.1.1.1 refl
+        order-change h (with_primary_connection (with_frame (Ok (BarrierAckFrame number size))) h) (with_frame (Ok (BarrierAckFrame number size))) p.1.1.1 refl
         (keeps-writes h.writes) (record {
           closed = λ shut. shut;
-          turn = turn-next (outward h) number size (not-refused h p.1.1.0.0 standing k there)
-              (earlier-said (most_writes settings) (outward h) number its.place (p.1.1.0.1.streams.lawful k (outward h) there) its.there its.before);
+          turn = turn-next (primary_connection h) number size (not-refused h p.1.1.0.0 standing k there)
+              (earlier-said (most_writes settings) (primary_connection h) number its.place (p.1.1.0.1.streams.lawful k (primary_connection h) there) its.there
+              its.before);
         })

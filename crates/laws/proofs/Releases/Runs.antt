@@ -9,10 +9,10 @@ use Rattle.blocks.specs.declared.settings.Settings.{Settings}
 use Rattle.blocks.specs.declared.tuple.Tuple.{Tuple}
 use Rattle.blocks.specs.SettingsRange.{IsInRange}
 use Rattle.model.specs.Contents.{BlockMap, Write, covers}
-use Rattle.model.specs.Stream.{Item, WriteItem, ResyncItem, BarrierItem, SyncUuidItem, UuidsItem}
+use Rattle.model.specs.Stream.{StreamItem, WriteItem, ResyncItem, BarrierItem, SyncUuidItem, UuidsItem}
 use Rattle.model.specs.LocalRuns.{PrimaryEvent, primary_run}
 use Rattle.model.specs.Marks.{is_cleared, releasing}
-use Rattle.model.specs.Primary.{OnDisk, Accepted, PrimaryHistory, primary_opening, outward, last_index}
+use Rattle.model.specs.Primary.{OnDisk, Accepted, PrimaryHistory, primary_opening, primary_connection, last_index}
 use Rattle.model.specs.PrimarySteps.{with_outcome}
 use Rattle.laws.proofs.Rules.EpochEnds.{takes-writes}
 use Rattle.laws.specs.Reflections.{touches, content_at}
@@ -34,9 +34,9 @@ use Rattle.laws.proofs.Tracked.Kept.{known-opening}
 
 module _ (h : PrimaryHistory) (block : ℕ) (t : IsTracked h) (order : IsInOrder h) (c : IsCleared h block) where
   -- no write that stands behind it has the block
-  behind : (next : ℕ) (write : Write) → c.place < next → slice_get (outward h).stream next ≡ Some (WriteItem write) → covers write block ≡ false
+  behind : (next : ℕ) (write : Write) → c.place < next → slice_get (primary_connection h).stream next ≡ Some (WriteItem write) → covers write block ≡ false
   behind next write after at =
-      let its = t.homes.homed (last_index h.connections) next (outward h) write c.connected at in
+      let its = t.homes.homed (last_index h.connections) next (primary_connection h) write c.connected at in
       elim (cases_lt c.index its.0) [
         | inl later ↦ subst (λ (w : Write). covers w block ≡ false) its.3 (c.last its.0 its.1 later its.2)
         | inr not_later ↦ elim (cases_lt its.0 c.index) [
@@ -60,30 +60,30 @@ module _ (h : PrimaryHistory) (block : ℕ) (t : IsTracked h) (order : IsInOrder
       ]
 
   -- what a block of a resync has that stands behind it
-  copied-behind : (next other : ℕ) (contents : List ℕ) → c.place ≤ next → slice_get (outward h).stream next ≡ Some (ResyncItem other contents)
+  copied-behind : (next other : ℕ) (contents : List ℕ) → c.place ≤ next → slice_get (primary_connection h).stream next ≡ Some (ResyncItem other contents)
       → touches (ResyncItem other contents) block ≡ true → content_at (ResyncItem other contents) block ≡ settling_map h block
   copied-behind next other contents from at touched =
       let ends = between-parts other 1 block touched in
       let low = ends.0 in
       let high = ends.1 in
       let is : other ≡ block = omega arith in
-      let copy : IsCopy (outward h) next block contents = record {
+      let copy : IsCopy (primary_connection h) next block contents = record {
         standing = c.standing;
-        there = subst (λ (n : ℕ). slice_get (outward h).stream next ≡ Some (ResyncItem n contents)) is at;
+        there = subst (λ (n : ℕ). slice_get (primary_connection h).stream next ≡ Some (ResyncItem n contents)) is at;
         last = λ later write after there. behind later write (omega arith) there;
       } in
       ap (λ (n : ℕ). content_at (ResyncItem n contents) block) is ∙ (copy-content block contents ∙ sym (t.copied next block contents copy).0)
 
   -- what is sent on the block from there on has what the local disk comes to hold
-  pub sent-since : (next : ℕ) (item : Item) → c.place ≤ next → slice_get (outward h).stream next ≡ Some item → touches item block ≡ true
+  pub sent-since : (next : ℕ) (item : StreamItem) → c.place ≤ next → slice_get (primary_connection h).stream next ≡ Some item → touches item block ≡ true
       → content_at item block ≡ settling_map h block
   sent-since next (WriteItem write) from at touched = elim (cases_lt c.place next) [
     | inl after ↦ absurd (both_ways (covers write block) (behind next write after at) touched)
     | inr here ↦
         let place : next ≡ c.place = omega arith in
-        let one : WriteItem write ≡ WriteItem c.accepted.write = same-at (outward h).stream c.place (WriteItem write) (WriteItem c.accepted.write)
-        (subst (λ (n : ℕ). slice_get (outward h).stream n ≡ Some (WriteItem write)) place at) c.there in
-        ap (λ (i : Item). content_at i block) one ∙ sym (settling-last h c.index block c.accepted c.at c.covered c.done c.last)
+        let one : WriteItem write ≡ WriteItem c.accepted.write = same-at (primary_connection h).stream c.place (WriteItem write) (WriteItem c.accepted.write)
+        (subst (λ (n : ℕ). slice_get (primary_connection h).stream n ≡ Some (WriteItem write)) place at) c.there in
+        ap (λ (i : StreamItem). content_at i block) one ∙ sym (settling-last h c.index block c.accepted c.at c.covered c.done c.last)
   ]
   sent-since next (ResyncItem other contents) from at touched = copied-behind next other contents from at touched
   sent-since next (BarrierItem epoch) from at touched = absurd (both_ways (touches (BarrierItem epoch) block) (touches-nothing 0 block) touched)
@@ -93,22 +93,23 @@ module _ (h : PrimaryHistory) (block : ℕ) (t : IsTracked h) (order : IsInOrder
   -- the last item on the block stands on that stream, there or behind it
   pub latest-since : (touch : Touch) → latest h.connections block ≡ Some touch
       → (last_index h.connections ≡ touch.connection)
-      × ((c.place ≤ touch.place) × ((slice_get (outward h).stream touch.place ≡ Some touch.item) × (touches touch.item block ≡ true)))
+      × ((c.place ≤ touch.place) × ((slice_get (primary_connection h).stream touch.place ≡ Some touch.item) × (touches touch.item block ≡ true)))
   latest-since touch is =
       let there = latest-at h.connections block touch is in
       let within = slice_get_within h.connections touch.connection there.0 there.1 in
-      elim (latest-last h.connections block touch is (last_index h.connections) c.place (outward h)
+      elim (latest-last h.connections block touch is (last_index h.connections) c.place (primary_connection h)
       (WriteItem c.accepted.write) c.connected c.there c.covered) [
         | inl past ↦ absurd (omega arith)
         | inr here ↦
-            let end = same-at h.connections (last_index h.connections) there.0 (outward h)
+            let end = same-at h.connections (last_index h.connections) there.0 (primary_connection h)
             (subst (λ (n : ℕ). slice_get h.connections n ≡ Some there.0) (sym here.0) there.1) c.connected in
             (here.0, (here.1, (subst (λ e. slice_get e.stream touch.place ≡ Some touch.item) end there.2, there.3)))
       ]
 
   cleared-equal : sent_map h block ≡ settling_map h block
   cleared-equal =
-      let some = latest-some h.connections block (last_index h.connections) c.place (outward h) (WriteItem c.accepted.write) c.connected c.there c.covered in
+      let some = latest-some h.connections block (last_index h.connections) c.place (primary_connection h) (WriteItem c.accepted.write) c.connected c.there
+      c.covered in
       let last = latest-since some.0 some.1 in
       ap (content_of (h.opening_map block) block) some.1 ∙ sent-since some.0.place some.0.item last.1.0 last.1.1.0 last.1.1.1
 

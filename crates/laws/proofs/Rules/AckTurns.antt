@@ -7,8 +7,8 @@ use Rattle.std.proofs.lemmas.Bool.{cases_Bool, and_parts, and_from, not-true, no
 use Rattle.blocks.specs.declared.settings.Protocol.{Protocol}
 use Rattle.blocks.specs.declared.settings.Protocol.TheVariants as protocol
 use Rattle.model.specs.Contents.{Write}
-use Rattle.model.specs.Stream.{Item, WriteItem, ResyncItem, BarrierItem, SyncUuidItem, UuidsItem, epoch_of, epoch_size, items_of_epoch, placed}
-use Rattle.model.specs.Primary.{Outward, PrimaryHistory, outward, items_sent, was_resynced, barrier_acknowledged, is_answered_by}
+use Rattle.model.specs.Stream.{StreamItem, WriteItem, ResyncItem, BarrierItem, SyncUuidItem, UuidsItem, epoch_of, epoch_size, items_of_epoch, placed}
+use Rattle.model.specs.Primary.{PrimaryConnection, PrimaryHistory, primary_connection, items_sent, was_resynced, barrier_acknowledged, is_answered_by}
 use Rattle.model.specs.Acknowledgements.{is_acknowledged, is_unacknowledged, oldest_barrier, is_barrier_of, is_in_turn}
 use Rattle.laws.proofs.Lists.Fronts.{get-front, front-get, find-first, all-get, all-at}
 use Rattle.laws.proofs.Lists.Picks.{found-passes, pick-filtered, filtered-pick}
@@ -19,28 +19,30 @@ use Rattle.laws.proofs.Rules.Answered.{answered-has, answered-or}
 -- epoch the acknowledgement was taken that the protocol asks for.
 pub record IsTurn (h : PrimaryHistory) (number size : ℕ) : Type 0 where
   pub place : ℕ
-  pub sent : place < items_sent (outward h)
-  pub there : slice_get (outward h).stream place ≡ Some (BarrierItem number)
-  pub first : barrier_acknowledged (outward h) number ≡ false
-  pub before : (j epoch : ℕ) → j < place → slice_get (outward h).stream j ≡ Some (BarrierItem epoch) → barrier_acknowledged (outward h) epoch ≡ true
-  pub sized : size ≡ epoch_size (outward h).stream number
-  pub blocks : (at block : ℕ) (contents : List ℕ) → slice_get (outward h).stream at ≡ Some (ResyncItem block contents)
-      → epoch_of (outward h).stream at ≡ number → was_resynced (outward h) at (ResyncItem block contents) ≡ true
-  pub writes : (at : ℕ) (write : Write) → slice_get (outward h).stream at ≡ Some (WriteItem write) → epoch_of (outward h).stream at ≡ number
-      → (h.settings.protocol ≡ protocol.A) ⊎ (is_answered_by h.settings.protocol (outward h) at (WriteItem write) ≡ true)
+  pub sent : place < items_sent (primary_connection h)
+  pub there : slice_get (primary_connection h).stream place ≡ Some (BarrierItem number)
+  pub first : barrier_acknowledged (primary_connection h) number ≡ false
+  pub before : (j epoch : ℕ) → j < place → slice_get (primary_connection h).stream j ≡ Some (BarrierItem epoch)
+      → barrier_acknowledged (primary_connection h) epoch ≡ true
+  pub sized : size ≡ epoch_size (primary_connection h).stream number
+  pub blocks : (at block : ℕ) (contents : List ℕ) → slice_get (primary_connection h).stream at ≡ Some (ResyncItem block contents)
+      → epoch_of (primary_connection h).stream at ≡ number → was_resynced (primary_connection h) at (ResyncItem block contents) ≡ true
+  pub writes : (at : ℕ) (write : Write) → slice_get (primary_connection h).stream at ≡ Some (WriteItem write)
+      → epoch_of (primary_connection h).stream at ≡ number
+      → (h.settings.protocol ≡ protocol.A) ⊎ (is_answered_by h.settings.protocol (primary_connection h) at (WriteItem write) ≡ true)
 
 -- an item of an epoch, at its place
-listed : (c : Outward) (place : ℕ) (item : Item) (epoch : ℕ) → slice_get c.stream place ≡ Some item → epoch_of c.stream place ≡ epoch
+listed : (c : PrimaryConnection) (place : ℕ) (item : StreamItem) (epoch : ℕ) → slice_get c.stream place ≡ Some item → epoch_of c.stream place ≡ epoch
     → (n : ℕ) × (slice_get (items_of_epoch c.stream epoch) n ≡ Some (place, item))
 listed c place item epoch at is =
     let index : 0 + place ≡ place = omega arith in
-    filtered-pick (λ (x : ℕ × Item). epoch_of c.stream x.0 == epoch) (placed c.stream) place (place, item)
+    filtered-pick (λ (x : ℕ × StreamItem). epoch_of c.stream x.0 == epoch) (placed c.stream) place (place, item)
     (placed-at 0 c.stream place item at ∙ ap (λ m. Some (m, item)) index) (eq-eqb (epoch_of c.stream place) epoch is)
 
-unlisted : (c : Outward) (n : ℕ) (entry : ℕ × Item) (epoch : ℕ) → slice_get (items_of_epoch c.stream epoch) n ≡ Some entry
+unlisted : (c : PrimaryConnection) (n : ℕ) (entry : ℕ × StreamItem) (epoch : ℕ) → slice_get (items_of_epoch c.stream epoch) n ≡ Some entry
     → (slice_get c.stream entry.0 ≡ Some entry.1) × (epoch_of c.stream entry.0 ≡ epoch)
 unlisted c n entry epoch at =
-    let stood = pick-filtered (λ (x : ℕ × Item). epoch_of c.stream x.0 == epoch) (placed c.stream) n entry at in
+    let stood = pick-filtered (λ (x : ℕ × StreamItem). epoch_of c.stream x.0 == epoch) (placed c.stream) n entry at in
     let was = placed-back 0 c.stream stood.0 entry stood.1 in
     let index : stood.0 ≡ entry.0 = let p = was.0 in omega arith in
     (subst (λ m. slice_get c.stream m ≡ Some entry.1) index was.1, eqb-true (epoch_of c.stream entry.0) epoch stood.2)
@@ -65,36 +67,40 @@ found-first p (z ∷ xs) x is = elim (cases_Bool (p z)) [
 
 -- what holds where it is in turn
 pub turn-has : (h : PrimaryHistory) (number size : ℕ) → is_in_turn h number size ≡ true → IsTurn h number size
-turn-has h number size turn = go (oldest_barrier (outward h)) refl firsts.0
+turn-has h number size turn = go (oldest_barrier (primary_connection h)) refl firsts.0
   where
-    parts : ((is_barrier_of number (oldest_barrier (outward h)) && (size == epoch_size (outward h).stream number)) ≡ true)
-        × (list_all (is_acknowledged h.settings.protocol (outward h)) (items_of_epoch (outward h).stream number) ≡ true)
-    parts = and_parts (is_barrier_of number (oldest_barrier (outward h)) && (size == epoch_size (outward h).stream number))
-        (list_all (is_acknowledged h.settings.protocol (outward h)) (items_of_epoch (outward h).stream number)) turn
+    parts : ((is_barrier_of number (oldest_barrier (primary_connection h)) && (size == epoch_size (primary_connection h).stream number)) ≡ true)
+        × (list_all (is_acknowledged h.settings.protocol (primary_connection h)) (items_of_epoch (primary_connection h).stream number) ≡ true)
+    parts = and_parts (is_barrier_of number (oldest_barrier (primary_connection h)) && (size == epoch_size (primary_connection h).stream number))
+        (list_all (is_acknowledged h.settings.protocol (primary_connection h)) (items_of_epoch (primary_connection h).stream number)) turn
 
-    firsts : (is_barrier_of number (oldest_barrier (outward h)) ≡ true) × ((size == epoch_size (outward h).stream number) ≡ true)
-    firsts = and_parts (is_barrier_of number (oldest_barrier (outward h))) (size == epoch_size (outward h).stream number) parts.0
+    firsts : (is_barrier_of number (oldest_barrier (primary_connection h)) ≡ true) × ((size == epoch_size (primary_connection h).stream number) ≡ true)
+    firsts = and_parts (is_barrier_of number (oldest_barrier (primary_connection h))) (size == epoch_size (primary_connection h).stream number) parts.0
 
-    answered : (place : ℕ) (item : Item) → slice_get (outward h).stream place ≡ Some item → epoch_of (outward h).stream place ≡ number
-        → is_acknowledged h.settings.protocol (outward h) (place, item) ≡ true
+    answered : (place : ℕ) (item : StreamItem) → slice_get (primary_connection h).stream place ≡ Some item
+        → epoch_of (primary_connection h).stream place ≡ number
+        → is_acknowledged h.settings.protocol (primary_connection h) (place, item) ≡ true
     answered place item at is =
-        let in_list = listed (outward h) place item number at is in
-        all-at (is_acknowledged h.settings.protocol (outward h)) (items_of_epoch (outward h).stream number) in_list.0 (place, item) parts.1 in_list.1
+        let in_list = listed (primary_connection h) place item number at is in
+        all-at (is_acknowledged h.settings.protocol (primary_connection h)) (items_of_epoch (primary_connection h).stream number) in_list.0 (
+          place,
+          item,
+        ) parts.1 in_list.1
 
-    asked : (p : Protocol) (place : ℕ) (write : Write) → is_acknowledged p (outward h) (place, WriteItem write) ≡ true
-        → (p ≡ protocol.A) ⊎ (is_answered_by p (outward h) place (WriteItem write) ≡ true)
-    asked p place write is = answered-or p (outward h) place (WriteItem write)
-        (λ of. subst (λ (q : Protocol). is_acknowledged q (outward h) (place, WriteItem write) ≡ true) of is)
-        (λ of. subst (λ (q : Protocol). is_acknowledged q (outward h) (place, WriteItem write) ≡ true) of is)
+    asked : (p : Protocol) (place : ℕ) (write : Write) → is_acknowledged p (primary_connection h) (place, WriteItem write) ≡ true
+        → (p ≡ protocol.A) ⊎ (is_answered_by p (primary_connection h) place (WriteItem write) ≡ true)
+    asked p place write is = answered-or p (primary_connection h) place (WriteItem write)
+        (λ of. subst (λ (q : Protocol). is_acknowledged q (primary_connection h) (place, WriteItem write) ≡ true) of is)
+        (λ of. subst (λ (q : Protocol). is_acknowledged q (primary_connection h) (place, WriteItem write) ≡ true) of is)
 
-    go : (v : Option Item) → oldest_barrier (outward h) ≡ v → is_barrier_of number v ≡ true → IsTurn h number size
+    go : (v : Option StreamItem) → oldest_barrier (primary_connection h) ≡ v → is_barrier_of number v ≡ true → IsTurn h number size
     go None found is = absurd (cc)
     go (Some (WriteItem write)) found is = absurd (cc)
     go (Some (ResyncItem block contents)) found is = absurd (cc)
     go (Some (SyncUuidItem word)) found is = absurd (cc)
     go (Some (UuidsItem tuple)) found is = absurd (cc)
     go (Some (BarrierItem epoch)) found is =
-        let c : Outward = outward h in
+        let c : PrimaryConnection = primary_connection h in
         let same : epoch ≡ number = sym (eqb-true number epoch is) in
         let first = found-first (is_unacknowledged c) (take (items_sent c) c.stream) (BarrierItem epoch) found in
         let there = get-front (items_sent c) c.stream first.0 (BarrierItem epoch) first.1 in
@@ -115,34 +121,38 @@ turn-has h number size turn = go (oldest_barrier (outward h)) refl firsts.0
 -- such a one is in turn
 pub turn-by : (h : PrimaryHistory) (number size : ℕ) → IsTurn h number size → is_in_turn h number size ≡ true
 turn-by h number size t =
-    and_from _ _ (and_from _ _ (ap (is_barrier_of number) oldest ∙ eq-eqb number number refl) (eq-eqb size (epoch_size (outward h).stream number) t.sized))
-    (all-get (is_acknowledged h.settings.protocol (outward h)) (items_of_epoch (outward h).stream number)
-    (λ n entry at. let stood = unlisted (outward h) n entry number at in answered entry.0 entry.1 stood.0 stood.1))
+    and_from _ _ (and_from _ _ (ap (is_barrier_of number) oldest
+    ∙ eq-eqb number number refl) (eq-eqb size (epoch_size (primary_connection h).stream number) t.sized))
+    (all-get (is_acknowledged h.settings.protocol (primary_connection h)) (items_of_epoch (primary_connection h).stream number)
+    (λ n entry at. let stood = unlisted (primary_connection h) n entry number at in answered entry.0 entry.1 stood.0 stood.1))
   where
-    earlier : (j : ℕ) (y : Item) → j < t.place → slice_get (outward h).stream j ≡ Some y → is_unacknowledged (outward h) y ≡ false
+    earlier : (j : ℕ) (y : StreamItem) → j < t.place → slice_get (primary_connection h).stream j ≡ Some y → is_unacknowledged (primary_connection h) y ≡ false
     earlier j (BarrierItem epoch) less at = ap not (t.before j epoch less at)
     earlier j (WriteItem write) less at = refl
     earlier j (ResyncItem block contents) less at = refl
     earlier j (SyncUuidItem word) less at = refl
     earlier j (UuidsItem tuple) less at = refl
 
-    oldest : oldest_barrier (outward h) ≡ Some (BarrierItem number)
-    oldest = find-first (is_unacknowledged (outward h)) (take (items_sent (outward h)) (outward h).stream) t.place (BarrierItem number)
-        (front-get (items_sent (outward h)) (outward h).stream t.place (BarrierItem number) t.sent t.there) (ap not t.first)
-        (λ j y less at. earlier j y less (get-front (items_sent (outward h)) (outward h).stream j y at).1)
+    oldest : oldest_barrier (primary_connection h) ≡ Some (BarrierItem number)
+    oldest = find-first (is_unacknowledged (primary_connection h)) (take (items_sent (primary_connection h)) (primary_connection h).stream) t.place
+        (BarrierItem number)
+        (front-get (items_sent (primary_connection h)) (primary_connection h).stream t.place (BarrierItem number) t.sent t.there) (ap not t.first)
+        (λ j y less at. earlier j y less (get-front (items_sent (primary_connection h)) (primary_connection h).stream j y at).1)
 
-    asked : (p : Protocol) (place : ℕ) (write : Write) → is_answered_by p (outward h) place (WriteItem write) ≡ true
-        → is_acknowledged p (outward h) (place, WriteItem write) ≡ true
-    asked p place write is = answered-has (λ q. is_acknowledged q (outward h) (place, WriteItem write) ≡ true) (outward h) place (WriteItem write)
+    asked : (p : Protocol) (place : ℕ) (write : Write) → is_answered_by p (primary_connection h) place (WriteItem write) ≡ true
+        → is_acknowledged p (primary_connection h) (place, WriteItem write) ≡ true
+    asked p place write is = answered-has (λ q. is_acknowledged q (primary_connection h) (place, WriteItem write) ≡ true) (primary_connection h) place
+        (WriteItem write)
         (λ sent. refl) (λ received. received) (λ written. written) p is
 
-    answered : (place : ℕ) (item : Item) → slice_get (outward h).stream place ≡ Some item → epoch_of (outward h).stream place ≡ number
-        → is_acknowledged h.settings.protocol (outward h) (place, item) ≡ true
+    answered : (place : ℕ) (item : StreamItem) → slice_get (primary_connection h).stream place ≡ Some item
+        → epoch_of (primary_connection h).stream place ≡ number
+        → is_acknowledged h.settings.protocol (primary_connection h) (place, item) ≡ true
     answered place (BarrierItem epoch) at is = refl
     answered place (SyncUuidItem word) at is = refl
     answered place (UuidsItem tuple) at is = refl
     answered place (ResyncItem block contents) at is = t.blocks place block contents at is
     answered place (WriteItem write) at is = elim (t.writes place write at is) [
-      | inl none ↦ ap (λ (p : Protocol). is_acknowledged p (outward h) (place, WriteItem write)) none
+      | inl none ↦ ap (λ (p : Protocol). is_acknowledged p (primary_connection h) (place, WriteItem write)) none
       | inr answer ↦ asked h.settings.protocol place write answer
     ]

@@ -10,10 +10,10 @@ use Rattle.std.proofs.lemmas.Option.{slice_get_within}
 use Rattle.std.proofs.Math.Seq.{take-append_seam}
 use Rattle.blocks.specs.declared.settings.Protocol.{Protocol}
 use Rattle.blocks.specs.declared.settings.Protocol.TheVariants as protocol
-use Rattle.model.specs.Stream.{Item, WriteItem, ResyncItem, BarrierItem, SyncUuidItem, UuidsItem, below, barriers_in}
+use Rattle.model.specs.Stream.{StreamItem, WriteItem, ResyncItem, BarrierItem, SyncUuidItem, UuidsItem, below, barriers_in}
 use Rattle.model.specs.Frames.{Packet, RecvAckFrame, BarrierAckFrame, Acknowledged}
 use Rattle.model.specs.Primary.{is_barrier_ack}
-use Rattle.model.specs.Secondary.{Inward, items_taken, is_applied_to}
+use Rattle.model.specs.Secondary.{SecondaryConnection, items_taken, is_applied_to}
 use Rattle.model.specs.SecondarySteps.{is_barrier_answer, barriers_to_answer, applied_answer}
 use Rattle.laws.proofs.Lists.Elements.{get-left, get-more, get-end}
 use Rattle.laws.proofs.Lists.Picks.{pick-any, pick-filtered, pick-image, pick-below, any-filtered}
@@ -85,7 +85,7 @@ in-turn p (suc n) i x at = subst (λ (l : List ℕ). slice_get l i ≡ Some x
 
 -- It was taken and all up to it is applied; it was not acknowledged, nor is it before this place; and each earlier one was acknowledged, or
 -- is before this place if all up to it is applied.
-pub record IsAnswered (d : Inward) (n epoch : ℕ) : Type 0 where
+pub record IsAnswered (d : SecondaryConnection) (n epoch : ℕ) : Type 0 where
   pub from : 0 < epoch
   pub upto : epoch ≤ barriers_in (items_taken d)
   pub applied : is_applied_to d epoch ≡ true
@@ -95,7 +95,7 @@ pub record IsAnswered (d : Inward) (n epoch : ℕ) : Type 0 where
       → list_any (λ k. k == e) (take n (barriers_to_answer d)) ≡ true
 
 -- each of them is so
-pub answered-now : (d : Inward) (n epoch : ℕ) → slice_get (barriers_to_answer d) n ≡ Some epoch → IsAnswered d n epoch
+pub answered-now : (d : SecondaryConnection) (n epoch : ℕ) → slice_get (barriers_to_answer d) n ≡ Some epoch → IsAnswered d n epoch
 answered-now d n epoch at =
     let all : ℕ = barriers_in (items_taken d) in
     let p : ℕ → Bool = λ e. is_applied_to d e && not (list_any (is_barrier_answer e) d.due) in
@@ -123,7 +123,7 @@ answered-now d n epoch at =
     same-test epoch packet = refl
 
 -- whatever tells which were acknowledged tells which are now
-pub answered-by : (d : Inward) (p : ℕ → Bool) → ((epoch : ℕ) → 0 < epoch → list_any (is_barrier_answer epoch) d.due ≡ p epoch)
+pub answered-by : (d : SecondaryConnection) (p : ℕ → Bool) → ((epoch : ℕ) → 0 < epoch → list_any (is_barrier_answer epoch) d.due ≡ p epoch)
     → barriers_to_answer d ≡ filter (λ epoch. is_applied_to d epoch && not (p epoch)) (map suc (below (barriers_in (items_taken d))))
 answered-by d p tells = go (below (barriers_in (items_taken d)))
   where
@@ -172,7 +172,7 @@ unfolding AnswerNone
 receipt-answers ack epoch = refl
 
 -- and what is due of an item that was applied
-pub applied-answers : (asked : Protocol) (place : ℕ) (item : Item) → AnswerNone (applied_answer asked place item)
+pub applied-answers : (asked : Protocol) (place : ℕ) (item : StreamItem) → AnswerNone (applied_answer asked place item)
 unfolding AnswerNone
 applied-answers protocol.A place (WriteItem write) epoch = refl
 applied-answers protocol.B place (WriteItem write) epoch = refl

@@ -5,18 +5,18 @@ use Rattle.std.specs.Prelude.{if◌then◌else◌, is_some, find, option_map}
 use Rattle.std.specs.List.{list_any}
 use Rattle.std.proofs.lemmas.Bool.{both_ways, and_parts, and_from, leb-true, ltb-true, lt-ltb, false_from_ne_true}
 use Rattle.model.specs.Contents.{Write, covers, overlap}
-use Rattle.model.specs.Stream.{Item, ResyncItem}
-use Rattle.model.specs.Primary.{Accepted, PrimaryHistory, outward, stands, open_writes, under_way}
+use Rattle.model.specs.Stream.{StreamItem, ResyncItem}
+use Rattle.model.specs.Primary.{Accepted, PrimaryHistory, primary_connection, is_established, open_writes, under_way}
 use Rattle.model.specs.PrimarySteps.{conflict}
 use Rattle.laws.proofs.Lists.Picks.{filtered-pick, none-first}
 
 -- the item is of a resync, and of a block that the write has
-abbrev pub has_block_of : Write → ℕ × Item → Bool
+abbrev pub has_block_of : Write → ℕ × StreamItem → Bool
 has_block_of write entry = elim entry.1 as (λ _. Bool) [ ResyncItem block contents ↦ covers write block | _ ↦ false ]
 
 -- what a resync has under way while a stream stands
-abbrev pub ways_of : PrimaryHistory → List (ℕ × Item)
-ways_of h = elim (stands (outward h)) as (λ _. List (ℕ × Item)) [ true ↦ under_way (outward h) | false ↦ [] ]
+abbrev pub ways_of : PrimaryHistory → List (ℕ × StreamItem)
+ways_of h = elim (is_established (primary_connection h)) as (λ _. List (ℕ × StreamItem)) [ true ↦ under_way (primary_connection h) | false ↦ [] ]
 
 -- the open writes that share a block with the write
 abbrev met_by : PrimaryHistory → Write → List Accepted
@@ -53,10 +53,11 @@ free-of-conflict h write free = go (list_any (has_block_of write) (ways_of h)) f
     )
 
 -- so none that is under way has, where a stream stands
-pub way-apart : (h : PrimaryHistory) (write : Write) → is_some (conflict h write) ≡ false → stands (outward h) ≡ true
-    → list_any (has_block_of write) (under_way (outward h)) ≡ false
+pub way-apart : (h : PrimaryHistory) (write : Write) → is_some (conflict h write) ≡ false → is_established (primary_connection h) ≡ true
+    → list_any (has_block_of write) (under_way (primary_connection h)) ≡ false
 way-apart h write free standing =
-    subst (λ b. list_any (has_block_of write) (elim b as (λ _. List (ℕ × Item)) [ true ↦ under_way (outward h) | false ↦ [] ]) ≡ false) standing
+    subst (λ b. list_any (has_block_of write) (elim b as (λ _. List (ℕ × StreamItem)) [ true ↦ under_way (primary_connection h) | false ↦ [] ]) ≡ false)
+    standing
     (free-of-conflict h write free).0
 
 -- and no open write has a block of it

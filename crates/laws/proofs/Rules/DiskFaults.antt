@@ -5,8 +5,8 @@ use Rattle.std.specs.List.{list_any}
 use Rattle.std.proofs.lemmas.Bool.{cases_Bool, both_ways, and_parts, and_from, or_cases, eqb-true, ltb-true, false_from_ne_true}
 use Rattle.std.proofs.lemmas.Bool.Decides.{nat_tests}
 use Rattle.std.proofs.lemmas.List.Folds.{list_any-append}
-use Rattle.model.specs.Stream.{Item, is_whole, contents_of, has_blocks, epoch_of, placed, within}
-use Rattle.model.specs.Secondary.{Inward, items_taken, is_pending, pending}
+use Rattle.model.specs.Stream.{StreamItem, is_whole, contents_of, has_blocks, epoch_of, placed, within}
+use Rattle.model.specs.Secondary.{SecondaryConnection, items_taken, is_pending, pending}
 use Rattle.model.specs.SecondarySteps.{failing, blocks_at, offsets_at}
 use Rattle.laws.proofs.Lists.Elements.{same-at}
 use Rattle.laws.proofs.Lists.Picks.{pick-any, pick-image, pick-filtered}
@@ -16,23 +16,24 @@ use Rattle.laws.proofs.Streams.Places.{listed-at, placed-back}
 -- What is applied.
 
 -- the offsets of the item at a place that reach the disk
-pub reached : ℕ → List ℕ → Inward → List ℕ
+pub reached : ℕ → List ℕ → SecondaryConnection → List ℕ
 reached place offsets d = within (blocks_at (items_taken d) place) offsets
 
 -- they are applied
-pub fault-applied : (place : ℕ) (offsets : List ℕ) (d : Inward) → (failing place offsets d).applied ≡ d.applied ++ offsets_at place (reached place offsets d)
+pub fault-applied : (place : ℕ) (offsets : List ℕ) (d : SecondaryConnection)
+    → (failing place offsets d).applied ≡ d.applied ++ offsets_at place (reached place offsets d)
 unfolding reached
 fault-applied place offsets d = refl
 
 -- of an item that was taken they are the offsets that it has
-pub reached-is : (place : ℕ) (offsets : List ℕ) (d : Inward) (item : Item) → slice_get (items_taken d) place ≡ Some item
+pub reached-is : (place : ℕ) (offsets : List ℕ) (d : SecondaryConnection) (item : StreamItem) → slice_get (items_taken d) place ≡ Some item
     → reached place offsets d ≡ within (length (contents_of item)) offsets
 unfolding reached
 reached-is place offsets d item at =
-    ap (λ (v : Option Item). within (elim v as (λ _. ℕ) [ None ↦ 0 | Some one ↦ length (contents_of one) ]) offsets) at
+    ap (λ (v : Option StreamItem). within (elim v as (λ _. ℕ) [ None ↦ 0 | Some one ↦ length (contents_of one) ]) offsets) at
 
 -- each of them is one of its blocks
-pub reached-inside : (place : ℕ) (offsets : List ℕ) (d : Inward) (item : Item) → slice_get (items_taken d) place ≡ Some item
+pub reached-inside : (place : ℕ) (offsets : List ℕ) (d : SecondaryConnection) (item : StreamItem) → slice_get (items_taken d) place ≡ Some item
     → (n offset : ℕ) → slice_get (reached place offsets d) n ≡ Some offset → offset < length (contents_of item)
 reached-inside place offsets d item there n offset at = ltb-true offset (length (contents_of item))
     (pick-filtered (λ (o : ℕ). nat_lt o (length (contents_of item))) offsets n offset
@@ -41,19 +42,19 @@ reached-inside place offsets d item there n offset at = ltb-true offset (length 
 -- What is gone.
 
 -- the item is of a later epoch than that of the place
-abbrev is_later : Inward → ℕ → ℕ × Item → Bool
+abbrev is_later : SecondaryConnection → ℕ → ℕ × StreamItem → Bool
 is_later d place entry = nat_lt (epoch_of (items_taken d) place) (epoch_of (items_taken d) entry.0)
 
 -- the places of the pending items of later epochs
-abbrev dropped : Inward → ℕ → List ℕ
-dropped d place = map (λ (entry : ℕ × Item). entry.0) (filter (is_later d place) (pending d))
+abbrev dropped : SecondaryConnection → ℕ → List ℕ
+dropped d place = map (λ (entry : ℕ × StreamItem). entry.0) (filter (is_later d place) (pending d))
 
 -- the place of an item is one of them if it is pending and of a later epoch
-dropped-entry : (d : Inward) (place n : ℕ) → list_any (λ k. k == n) (dropped d place) ≡ true
-    → (one : Item) × (slice_get (items_taken d) n ≡ Some one) × (is_pending d (n, one) ≡ true) × (is_later d place (n, one) ≡ true)
+dropped-entry : (d : SecondaryConnection) (place n : ℕ) → list_any (λ k. k == n) (dropped d place) ≡ true
+    → (one : StreamItem) × (slice_get (items_taken d) n ≡ Some one) × (is_pending d (n, one) ≡ true) × (is_later d place (n, one) ≡ true)
 dropped-entry d place n listed =
     let found = pick-any (λ k. k == n) (dropped d place) listed in
-    let entry = pick-image (λ (e : ℕ × Item). e.0) (filter (is_later d place) (pending d)) found.0 found.1 found.2 in
+    let entry = pick-image (λ (e : ℕ × StreamItem). e.0) (filter (is_later d place) (pending d)) found.0 found.1 found.2 in
     let passes = pick-filtered (is_later d place) (pending d) found.0 entry.0 entry.1 in
     let stood = pick-filtered (is_pending d) (placed (items_taken d)) passes.0 entry.0 passes.1 in
     let back = placed-back 0 (items_taken d) stood.0 entry.0 stood.1 in
@@ -65,13 +66,13 @@ dropped-entry d place n listed =
       subst (λ (k : ℕ). is_later d place (k, entry.0.1) ≡ true) is passes.2,
     )
 
-dropped-is : (d : Inward) (place n : ℕ) (one : Item) → slice_get (items_taken d) n ≡ Some one
+dropped-is : (d : SecondaryConnection) (place n : ℕ) (one : StreamItem) → slice_get (items_taken d) n ≡ Some one
     → list_any (λ k. k == n) (dropped d place) ≡ (is_pending d (n, one) && is_later d place (n, one))
 dropped-is d place n one at = elim (cases_Bool (list_any (λ k. k == n) (dropped d place))) [
   | inl listed ↦
       let entry = dropped-entry d place n listed in
       let same : entry.0 ≡ one = same-at (items_taken d) n entry.0 one entry.1 at in
-      listed ∙ sym (subst (λ (x : Item). (is_pending d (n, x) && is_later d place (n, x)) ≡ true) same
+      listed ∙ sym (subst (λ (x : StreamItem). (is_pending d (n, x) && is_later d place (n, x)) ≡ true) same
       (and_from (is_pending d (n, entry.0)) (is_later d place (n, entry.0)) entry.2 entry.3))
   | inr unlisted ↦ unlisted ∙ sym (false_from_ne_true (is_pending d (n, one) && is_later d place (n, one)) (λ both.
       let parts = and_parts (is_pending d (n, one)) (is_later d place (n, one)) both in
@@ -83,7 +84,7 @@ dropped-is d place n one at = elim (cases_Bool (list_any (λ k. k == n) (dropped
 ]
 
 -- what is gone then: what was, that item, and those of later epochs
-gone-is : (d : Inward) (place : ℕ) (offsets : List ℕ) (n : ℕ) (one : Item) → slice_get (items_taken d) n ≡ Some one
+gone-is : (d : SecondaryConnection) (place : ℕ) (offsets : List ℕ) (n : ℕ) (one : StreamItem) → slice_get (items_taken d) n ≡ Some one
     → list_any (λ k. k == n) (failing place offsets d).gone
     ≡ (list_any (λ k. k == n) d.gone || ((n == place) || (is_pending d (n, one) && is_later d place (n, one))))
 gone-is d place offsets n one at =
@@ -94,7 +95,7 @@ gone-is d place offsets n one at =
     turned a b = grind (arith, nat_tests)
 
 -- what was not gone before is of no earlier epoch than the item
-pub fault-gone : (d : Inward) (place : ℕ) (offsets : List ℕ) (n : ℕ) → list_any (λ k. k == n) (failing place offsets d).gone ≡ true
+pub fault-gone : (d : SecondaryConnection) (place : ℕ) (offsets : List ℕ) (n : ℕ) → list_any (λ k. k == n) (failing place offsets d).gone ≡ true
     → (list_any (λ k. k == n) d.gone ≡ true) ⊎ (epoch_of (items_taken d) place ≤ epoch_of (items_taken d) n)
 fault-gone d place offsets n gone = elim (or_cases (list_any (λ k. k == n) d.gone) ((place == n) || list_any (λ k. k == n) (dropped d place))
     (sym (list_any-append (λ k. k == n) d.gone (place ∷ dropped d place)) ∙ gone)) [
@@ -106,7 +107,7 @@ fault-gone d place offsets n gone = elim (or_cases (list_any (λ k. k == n) d.go
     ]
 
 -- What waits after a fault: of what waited, all but that item and those of later epochs.
-pub failing-pending : (d : Inward) (place : ℕ) (offsets : List ℕ) (n : ℕ) (one : Item) → slice_get (items_taken d) n ≡ Some one
+pub failing-pending : (d : SecondaryConnection) (place : ℕ) (offsets : List ℕ) (n : ℕ) (one : StreamItem) → slice_get (items_taken d) n ≡ Some one
     → is_pending (failing place offsets d) (n, one) ≡
     ((is_pending d (n, one) && not (n == place)) && nat_le (epoch_of (items_taken d) n) (epoch_of (items_taken d) place))
 failing-pending d place offsets n one at = by (n == place) refl
@@ -114,7 +115,7 @@ failing-pending d place offsets n one at = by (n == place) refl
     turned : (a b : ℕ) → nat_le b a ≡ not (nat_lt a b)
     turned a b = grind (arith, nat_tests)
 
-    part : Inward → Bool
+    part : SecondaryConnection → Bool
     part e = has_blocks one && not (is_whole e.applied n one)
 
     -- it waits then if it waited and is not dropped
@@ -142,7 +143,8 @@ failing-pending d place offsets n one at = by (n == place) refl
         (is_later d place (n, one)))
 
 -- what waited is gone if it does not wait any more, and nothing else
-pub gone-waited : (d : Inward) (place : ℕ) (item : Item) (offsets : List ℕ) (n : ℕ) (one : Item) → slice_get (items_taken d) place ≡ Some item
+pub gone-waited : (d : SecondaryConnection) (place : ℕ) (item : StreamItem) (offsets : List ℕ) (n : ℕ) (one : StreamItem)
+    → slice_get (items_taken d) place ≡ Some item
     → is_pending d (place, item) ≡ true → slice_get (items_taken d) n ≡ Some one
     → list_any (λ k. k == n) (failing place offsets d).gone
     ≡ (list_any (λ k. k == n) d.gone || (is_pending d (n, one) && not (is_pending (failing place offsets d) (n, one))))
@@ -159,7 +161,7 @@ gone-waited d place item offsets n one there waits at =
     itself same =
         let is : n ≡ place = eqb-true n place same in
         let it : item ≡ one = same-at (items_taken d) n item one (subst (λ (k : ℕ). slice_get (items_taken d) k ≡ Some item) (sym is) there) at in
-        subst (λ (x : Item). is_pending d (n, x) ≡ true) it (subst (λ (k : ℕ). is_pending d (k, item) ≡ true) (sym is) waits)
+        subst (λ (x : StreamItem). is_pending d (n, x) ≡ true) it (subst (λ (k : ℕ). is_pending d (k, item) ≡ true) (sym is) waits)
 
     same : (g p s l : Bool) → (s ≡ true → p ≡ true) → (g || (s || (p && l))) ≡ (g || (p && not ((p && not s) && not l)))
     same true p s l its = refl

@@ -2,18 +2,18 @@
 use Rattle.std.proofs.Common.{ℕ, ◌≡◌, ◌+◌, ◌≤◌, inl, inr, Bool, false, true, Some, slice_get, ◌∙◌, ap, arith, nat_lt}
 use Rattle.std.specs.List.{list_any}
 use Rattle.std.proofs.lemmas.Bool.{both_ways, cases_lt, lt-ltb}
-use Rattle.model.specs.Stream.{Item, epoch_of, placed}
-use Rattle.model.specs.Secondary.{Inward, items_taken, is_pending, pending}
+use Rattle.model.specs.Stream.{StreamItem, epoch_of, placed}
+use Rattle.model.specs.Secondary.{SecondaryConnection, items_taken, is_pending, pending}
 use Rattle.model.specs.SecondarySteps.{has_earlier}
 use Rattle.laws.proofs.Lists.Picks.{any-filtered}
 use Rattle.laws.proofs.Streams.Places.{placed-at}
 
 -- the item is of an earlier epoch than this one
-abbrev is_before : Inward → ℕ → ℕ × Item → Bool
+abbrev is_before : SecondaryConnection → ℕ → ℕ × StreamItem → Bool
 is_before d epoch entry = nat_lt (epoch_of (items_taken d) entry.0) epoch
 
 -- where none of an earlier epoch is pending, what is pending is of the same epoch or of a later one
-pub none-earlier : (d : Inward) (place other : ℕ) (one : Item) → has_earlier d place ≡ false → slice_get (items_taken d) other ≡ Some one
+pub none-earlier : (d : SecondaryConnection) (place other : ℕ) (one : StreamItem) → has_earlier d place ≡ false → slice_get (items_taken d) other ≡ Some one
     → is_pending d (other, one) ≡ true → epoch_of (items_taken d) place ≤ epoch_of (items_taken d) other
 none-earlier d place other one first at waits = elim (cases_lt (epoch_of (items_taken d) other) (epoch_of (items_taken d) place)) [
   | inr later ↦ later
@@ -26,6 +26,6 @@ none-earlier d place other one first at waits = elim (cases_lt (epoch_of (items_
 ]
 
 -- whatever asks the same of the items that are pending is the test
-pub earlier-by : (d : Inward) (place epoch : ℕ) → epoch ≡ epoch_of (items_taken d) place
-    → list_any (λ (entry : ℕ × Item). nat_lt (epoch_of (items_taken d) entry.0) epoch) (pending d) ≡ has_earlier d place
+pub earlier-by : (d : SecondaryConnection) (place epoch : ℕ) → epoch ≡ epoch_of (items_taken d) place
+    → list_any (λ (entry : ℕ × StreamItem). nat_lt (epoch_of (items_taken d) entry.0) epoch) (pending d) ≡ has_earlier d place
 earlier-by d place epoch is = ap (λ (e : ℕ). list_any (is_before d e) (pending d)) is

@@ -8,8 +8,10 @@ use Rattle.std.proofs.lemmas.Bool.{eq-eqb, leb-true, leb-false, lt-leb, false_fr
 use Rattle.blocks.specs.declared.settings.Settings.{Settings}
 use Rattle.blocks.specs.SettingsRange.{IsInRange}
 use Rattle.model.specs.Contents.{Write}
-use Rattle.model.specs.Stream.{Item, WriteItem, ResyncItem, BarrierItem, SyncUuidItem, UuidsItem, is_write, number_of, last_epoch, items_of_epoch, epoch_size}
-use Rattle.model.specs.Primary.{Accepted, Completion, Outward, PrimaryHistory, outward, stands, was_resynced, is_failed, is_open, is_resync}
+use Rattle.model.specs.Stream.{StreamItem, WriteItem, ResyncItem, BarrierItem, SyncUuidItem, UuidsItem, is_write, number_of, last_epoch, items_of_epoch}
+use Rattle.model.specs.Stream.{epoch_size}
+use Rattle.model.specs.Primary.{Accepted, Completion, PrimaryConnection, PrimaryHistory, primary_connection, is_established, was_resynced, is_failed, is_open}
+use Rattle.model.specs.Primary.{is_resync}
 use Rattle.model.specs.PrimarySteps.{is_settled, epoch_is_over}
 use Rattle.laws.proofs.Lists.Elements.{get-there}
 use Rattle.laws.proofs.Lists.Picks.{pick-any, any-pick, pick-none, any-none, pick-filtered}
@@ -46,14 +48,14 @@ room-none settings size bound none = omega arith
 -- What the last epoch is while it goes on.
 
 -- Nothing of the last epoch is done: each of its writes is open, and none of its blocks is acknowledged.
-pub record IsUnsettled (h : PrimaryHistory) (c : Outward) : Type 0 where
+pub record IsUnsettled (h : PrimaryHistory) (c : PrimaryConnection) : Type 0 where
   pub writes : (j place : ℕ) (write : Write) → slice_get (items_of_epoch c.stream (last_epoch c.stream)) j ≡ Some (place, WriteItem write)
       → (i : ℕ) (a : Accepted) → slice_get h.writes i ≡ Some a → a.write.number ≡ write.number → is_open h a ≡ true
   pub blocks : (j place block : ℕ) (contents : List ℕ) → slice_get (items_of_epoch c.stream (last_epoch c.stream)) j ≡ Some (place, ResyncItem block contents)
       → was_resynced c place (ResyncItem block contents) ≡ false
 
 -- The last epoch goes on: nothing of it is done, and it has room for a write.
-pub record GoesOn (h : PrimaryHistory) (c : Outward) : Type 0 where
+pub record GoesOn (h : PrimaryHistory) (c : PrimaryConnection) : Type 0 where
   pub unsettled : IsUnsettled h c
   pub room : HasRoom h.settings (epoch_size c.stream (last_epoch c.stream))
 
@@ -62,17 +64,18 @@ abbrev is_shut : PrimaryHistory → ℕ → Accepted → Bool
 is_shut h number accepted = (true && (accepted.write.number == number)) && not (is_open h accepted)
 
 -- the rule with this for the last end
-abbrev over_at : PrimaryHistory → Outward → Bool
-over_at h c = stands c
+abbrev over_at : PrimaryHistory → PrimaryConnection → Bool
+over_at h c = is_established c
     && (list_any (is_settled h c) (items_of_epoch c.stream (last_epoch c.stream)) || nat_le h.settings.max_epoch (epoch_size c.stream (last_epoch c.stream)))
 
 -- none settles its epoch where nothing of it is done
-none-settled : (h : PrimaryHistory) (c : Outward) → IsUnsettled h c → list_any (is_settled h c) (items_of_epoch c.stream (last_epoch c.stream)) ≡ false
+none-settled : (h : PrimaryHistory) (c : PrimaryConnection) → IsUnsettled h c
+    → list_any (is_settled h c) (items_of_epoch c.stream (last_epoch c.stream)) ≡ false
 none-settled h c unsettled = false_from_ne_true _ (λ some.
     let found = pick-any (is_settled h c) (items_of_epoch c.stream (last_epoch c.stream)) some in
     both_ways _ (item found.0 found.1.0 found.1.1 found.2) found.3)
   where
-    item : (j place : ℕ) (x : Item) → slice_get (items_of_epoch c.stream (last_epoch c.stream)) j ≡ Some (place, x) → is_settled h c (place, x) ≡ false
+    item : (j place : ℕ) (x : StreamItem) → slice_get (items_of_epoch c.stream (last_epoch c.stream)) j ≡ Some (place, x) → is_settled h c (place, x) ≡ false
     item j place (WriteItem write) at = or_from _ _ (false_from_ne_true _ (λ some.
         let found = pick-any (is_shut h write.number) h.writes some in
         let its = and_parts (true && (found.1.write.number == write.number)) (not (is_open h found.1)) found.3 in
@@ -84,7 +87,7 @@ none-settled h c unsettled = false_from_ne_true _ (λ some.
     item j place (UuidsItem tuple) at = or_from _ _ (any-none _ h.writes (λ accepted. refl)) refl
 
 -- and nothing of it is done where none settles it
-none-done : (h : PrimaryHistory) (c : Outward) → list_any (is_settled h c) (items_of_epoch c.stream (last_epoch c.stream)) ≡ false → IsUnsettled h c
+none-done : (h : PrimaryHistory) (c : PrimaryConnection) → list_any (is_settled h c) (items_of_epoch c.stream (last_epoch c.stream)) ≡ false → IsUnsettled h c
 none-done h c none = record {
   writes = λ j place write at i a ati same.
       let shut = (or_parts _ _ (pick-none (is_settled h c) (items_of_epoch c.stream (last_epoch c.stream)) j (place, WriteItem write) none at)).0 in
@@ -98,10 +101,10 @@ none-done h c none = record {
 -- What follows from the rule.
 
 -- where a stream stands and its last epoch is not over, that epoch goes on
-pub goes-on : (h : PrimaryHistory) → stands (outward h) ≡ true → epoch_is_over h ≡ false → GoesOn h (outward h)
+pub goes-on : (h : PrimaryHistory) → is_established (primary_connection h) ≡ true → epoch_is_over h ≡ false → GoesOn h (primary_connection h)
 unfolding HasRoom
 goes-on h standing on =
-    let c : Outward = outward h in
+    let c : PrimaryConnection = primary_connection h in
     let settled : Bool = list_any (is_settled h c) (items_of_epoch c.stream (last_epoch c.stream)) in
     let full : Bool = nat_le h.settings.max_epoch (epoch_size c.stream (last_epoch c.stream)) in
     let rest : (settled || full) ≡ false = subst (λ b. (b && (settled || full)) ≡ false) standing on in
@@ -109,31 +112,32 @@ goes-on h standing on =
     record { unsettled = none-done h c parts.0; room = leb-false h.settings.max_epoch (epoch_size c.stream (last_epoch c.stream)) parts.1 }
 
 -- an epoch that is over is of a stream that stands
-pub over-standing : (h : PrimaryHistory) → epoch_is_over h ≡ true → stands (outward h) ≡ true
-over-standing h over = (and_parts (stands (outward h)) _ over).0
+pub over-standing : (h : PrimaryHistory) → epoch_is_over h ≡ true → is_established (primary_connection h) ≡ true
+over-standing h over = (and_parts (is_established (primary_connection h)) _ over).0
 
 -- an epoch that is over had a write or a block
 pub over-work : (h : PrimaryHistory) → TakesWrites h.settings → epoch_is_over h ≡ true
-    → (j : ℕ) × (entry : ℕ × Item) × (slice_get (items_of_epoch (outward h).stream (last_epoch (outward h).stream)) j ≡ Some entry) × ((is_write entry.1
+    → (j : ℕ) × (entry : ℕ × StreamItem) × (slice_get (items_of_epoch (primary_connection h).stream (last_epoch (primary_connection h).stream)) j ≡ Some entry)
+    × ((is_write entry.1
     || is_resync entry.1) ≡ true)
 unfolding TakesWrites
 over-work h bound over = elim (or_cases (list_any (is_settled h c) entries) (nat_le h.settings.max_epoch (epoch_size c.stream (last_epoch c.stream)))
-    (and_parts (stands c) _ over).1) [
+    (and_parts (is_established c) _ over).1) [
       | inl some ↦ let found = pick-any (is_settled h c) entries some in (found.0, found.1, found.2, work found.1 found.3)
       | inr many ↦
           let size = leb-true h.settings.max_epoch (epoch_size c.stream (last_epoch c.stream)) many in
-          let first = get-there (filter (λ (entry : ℕ × Item). is_write entry.1) entries) 0 (omega arith) in
-          let found = pick-filtered (λ (entry : ℕ × Item). is_write entry.1) entries 0 first.0 first.1 in
+          let first = get-there (filter (λ (entry : ℕ × StreamItem). is_write entry.1) entries) 0 (omega arith) in
+          let found = pick-filtered (λ (entry : ℕ × StreamItem). is_write entry.1) entries 0 first.0 first.1 in
           (found.0, first.0, found.1, or_left (is_write first.0.1) (is_resync first.0.1) found.2)
     ]
   where
-    c : Outward
-    c = outward h
+    c : PrimaryConnection
+    c = primary_connection h
 
-    entries : List (ℕ × Item)
-    entries = items_of_epoch (outward h).stream (last_epoch (outward h).stream)
+    entries : List (ℕ × StreamItem)
+    entries = items_of_epoch (primary_connection h).stream (last_epoch (primary_connection h).stream)
 
-    work : (entry : ℕ × Item) → is_settled h (outward h) entry ≡ true → (is_write entry.1 || is_resync entry.1) ≡ true
+    work : (entry : ℕ × StreamItem) → is_settled h (primary_connection h) entry ≡ true → (is_write entry.1 || is_resync entry.1) ≡ true
     work (place, WriteItem write) is = refl
     work (place, ResyncItem block contents) is = refl
     work (place, BarrierItem epoch) is = absurd (both_ways _ (or_from _ _ (any-none _ h.writes (λ accepted. refl)) refl) is)
@@ -143,38 +147,42 @@ over-work h bound over = elim (or_cases (list_any (is_settled h c) entries) (nat
 -- What concludes it.
 
 -- a last epoch that goes on is not over
-pub not-over : (h : PrimaryHistory) (c : Outward) → outward h ≡ c → GoesOn h c → epoch_is_over h ≡ false
+pub not-over : (h : PrimaryHistory) (c : PrimaryConnection) → primary_connection h ≡ c → GoesOn h c → epoch_is_over h ≡ false
 unfolding HasRoom
 not-over h c last on =
     ap (over_at h) last
-    ∙ and_right (stands c) _ (or_from _ _ (none-settled h c on.unsettled) (lt-leb h.settings.max_epoch (epoch_size c.stream (last_epoch c.stream)) on.room))
+    ∙ and_right (is_established c) _
+    (or_from _ _ (none-settled h c on.unsettled) (lt-leb h.settings.max_epoch (epoch_size c.stream (last_epoch c.stream)) on.room))
 
 -- no epoch of a stream that does not stand is over
-pub down-on : (h : PrimaryHistory) → stands (outward h) ≡ false → epoch_is_over h ≡ false
-down-on h none = ap (λ b. b && (list_any (is_settled h (outward h)) (items_of_epoch (outward h).stream (last_epoch (outward h).stream))
-    || nat_le h.settings.max_epoch (epoch_size (outward h).stream (last_epoch (outward h).stream)))) none
+pub down-on : (h : PrimaryHistory) → is_established (primary_connection h) ≡ false → epoch_is_over h ≡ false
+down-on h none = ap (λ b. b && (list_any (is_settled h (primary_connection h))
+    (items_of_epoch (primary_connection h).stream (last_epoch (primary_connection h).stream))
+    || nat_le h.settings.max_epoch (epoch_size (primary_connection h).stream (last_epoch (primary_connection h).stream)))) none
 
 -- nothing is in the last epoch, as behind a barrier
-pub empty-on : (h : PrimaryHistory) (c : Outward) → outward h ≡ c → TakesWrites h.settings → items_of_epoch c.stream (last_epoch c.stream) ≡ []
+pub empty-on : (h : PrimaryHistory) (c : PrimaryConnection) → primary_connection h ≡ c → TakesWrites h.settings
+    → items_of_epoch c.stream (last_epoch c.stream) ≡ []
     → epoch_is_over h ≡ false
 empty-on h c last bound none = not-over h c last (record {
   unsettled = record {
-    writes = λ j place write at i a ati same. absurd (let no = ap (λ (l : List (ℕ × Item)). slice_get l j) (sym none) ∙ at in cc);
-    blocks = λ j place block contents at. absurd (let no = ap (λ (l : List (ℕ × Item)). slice_get l j) (sym none) ∙ at in cc);
+    writes = λ j place write at i a ati same. absurd (let no = ap (λ (l : List (ℕ × StreamItem)). slice_get l j) (sym none) ∙ at in cc);
+    blocks = λ j place block contents at. absurd (let no = ap (λ (l : List (ℕ × StreamItem)). slice_get l j) (sym none) ∙ at in cc);
   };
-  room = room-none h.settings (epoch_size c.stream (last_epoch c.stream)) bound (ap (λ (l : List (ℕ × Item)). length (filter (λ
-      (entry : ℕ × Item). is_write entry.1) l)) none);
+  room = room-none h.settings (epoch_size c.stream (last_epoch c.stream)) bound (ap (λ (l : List (ℕ × StreamItem)). length (filter (λ
+      (entry : ℕ × StreamItem). is_write entry.1) l)) none);
 })
 
 -- where nothing of the last epoch is done, it is over if it has as many writes as may be
-pub over-full : (h : PrimaryHistory) (c : Outward) (most : ℕ) → outward h ≡ c → stands c ≡ true → most ≡ most_writes h.settings → IsUnsettled h c
+pub over-full : (h : PrimaryHistory) (c : PrimaryConnection) (most : ℕ) → primary_connection h ≡ c → is_established c ≡ true → most ≡ most_writes h.settings
+    → IsUnsettled h c
     → epoch_is_over h ≡ nat_le most (epoch_size c.stream (last_epoch c.stream))
 over-full h c most last standing same unsettled =
     ap (over_at h) last
     ∙ λ i. standing i && (none-settled h c unsettled i || nat_le (sym same i) (epoch_size c.stream (last_epoch c.stream)))
 
 -- a write of the last epoch is open no more
-pub over-by-write : (h : PrimaryHistory) (c : Outward) → outward h ≡ c → stands c ≡ true → (j place : ℕ) (write : Write)
+pub over-by-write : (h : PrimaryHistory) (c : PrimaryConnection) → primary_connection h ≡ c → is_established c ≡ true → (j place : ℕ) (write : Write)
     → slice_get (items_of_epoch c.stream (last_epoch c.stream)) j ≡ Some (place, WriteItem write)
     → (i : ℕ) (a : Accepted) → slice_get h.writes i ≡ Some a → a.write.number ≡ write.number → is_open h a ≡ false → epoch_is_over h ≡ true
 over-by-write h c last standing j place write at i a ati same shut =
@@ -184,7 +192,7 @@ over-by-write h c last standing j place write at i a ati same shut =
     (eq-eqb a.write.number write.number same) (ap not shut))))))
 
 -- a block of the last epoch is acknowledged
-pub over-by-block : (h : PrimaryHistory) (c : Outward) → outward h ≡ c → stands c ≡ true → (j place block : ℕ) (contents : List ℕ)
+pub over-by-block : (h : PrimaryHistory) (c : PrimaryConnection) → primary_connection h ≡ c → is_established c ≡ true → (j place block : ℕ) (contents : List ℕ)
     → slice_get (items_of_epoch c.stream (last_epoch c.stream)) j ≡ Some (place, ResyncItem block contents)
     → was_resynced c place (ResyncItem block contents) ≡ true → epoch_is_over h ≡ true
 over-by-block h c last standing j place block contents at acknowledged =
@@ -193,12 +201,13 @@ over-by-block h c last standing j place block contents at acknowledged =
     (or_right (list_any (λ (accepted : Accepted). (false && (accepted.write.number == zero)) && not (is_open h accepted)) h.writes) _ acknowledged)))
 
 -- a stream goes on where nothing of its last epoch changes: the epoch is over if it was
-pub over-same : (h later : PrimaryHistory) (c d : Outward) → outward h ≡ c → outward later ≡ d → stands d ≡ stands c → d.stream ≡ c.stream
+pub over-same : (h later : PrimaryHistory) (c d : PrimaryConnection) → primary_connection h ≡ c → primary_connection later ≡ d
+    → is_established d ≡ is_established c → d.stream ≡ c.stream
     → later.settings ≡ h.settings → later.writes ≡ h.writes → later.journal ≡ h.journal
-    → ((place : ℕ) (item : Item) → was_resynced d place item ≡ was_resynced c place item) → epoch_is_over later ≡ epoch_is_over h
+    → ((place : ℕ) (item : StreamItem) → was_resynced d place item ≡ was_resynced c place item) → epoch_is_over later ≡ epoch_is_over h
 over-same h later c d was last standing stream settings writes journal blocks =
     ap (over_at later) last
-    ∙ ((λ i. standing i && (list_any (λ (entry : ℕ × Item). list_any (λ (accepted : Accepted). (is_write entry.1 &&
+    ∙ ((λ i. standing i && (list_any (λ (entry : ℕ × StreamItem). list_any (λ (accepted : Accepted). (is_write entry.1 &&
     (accepted.write.number == number_of entry.1)) && not (not (list_any (λ (x : Completion). x.write.number == accepted.write.number) (journal i))
     && not (is_failed accepted.outcome))) (writes i)
     || (is_resync entry.1 && blocks entry.0 entry.1 i)) (items_of_epoch (stream i) (last_epoch (stream i))) || nat_le (settings i).max_epoch (epoch_size

@@ -5,7 +5,7 @@ use Rattle.std.proofs.lemmas.Bool.{not-false, leb-false}
 use Rattle.blocks.specs.declared.refusal.Refusal.TheVariants.{BadRange, Conflict, LogFull, ActivityFull, JournalFull, StreamFull, NotConnected}
 use Rattle.model.specs.Contents.{is_range, extent_of}
 use Rattle.model.specs.Refusals.{Test, first_refusal}
-use Rattle.model.specs.Primary.{PrimaryHistory, outward, stands, unreleased}
+use Rattle.model.specs.Primary.{PrimaryHistory, primary_connection, is_established, unreleased}
 use Rattle.model.specs.PrimarySteps.{conflict, activity_is_full, submission, submit_tests}
 use Rattle.laws.proofs.Lists.Tests.{test-passed}
 
@@ -13,10 +13,10 @@ use Rattle.laws.proofs.Lists.Tests.{test-passed}
 -- with, of an extent that has a slot, and with a place in the stream that stands.
 pub record IsAccepted (h : PrimaryHistory) (first : ℕ) (contents : List (List ℕ)) : Type 0 where
   pub range : is_range h.settings first (length contents) ≡ true
-  pub connected : (not (stands (outward h)) && (h.tuple.bitmap == 0)) ≡ false
+  pub connected : (not (is_established (primary_connection h)) && (h.tuple.bitmap == 0)) ≡ false
   pub free : is_some (conflict h (submission h first contents)) ≡ false
   pub active : activity_is_full h (extent_of first) ≡ false
-  pub places : stands (outward h) ≡ true → length (outward h).stream < 4294967288
+  pub places : is_established (primary_connection h) ≡ true → length (primary_connection h).stream < 4294967288
 
 -- the tests, by what each of them asks, but for the last
 abbrev tests_of : Bool → Bool → ℕ → Bool → Option ℕ → Bool → Bool → List Test → List Test
@@ -25,28 +25,28 @@ tests_of ranged down written full met active long rest =
     ∷ (active, ActivityFull) ∷ (long, StreamFull) ∷ rest
 
 -- a submission that no test refuses
-pub accepted-by-tests : (h : PrimaryHistory) (first : ℕ) (contents : List (List ℕ)) (starved : Bool)
-    → first_refusal (submit_tests h first contents starved) ≡ None → IsAccepted h first contents
-accepted-by-tests h first contents starved none = record {
+pub accepted-by-tests : (h : PrimaryHistory) (first : ℕ) (contents : List (List ℕ)) (out_of_memory : Bool)
+    → first_refusal (submit_tests h first contents out_of_memory) ≡ None → IsAccepted h first contents
+accepted-by-tests h first contents out_of_memory none = record {
   range = not-false (is_range h.settings first (length contents)) one.0;
   connected = two.0;
   free = five.0;
   active = six.0;
-  places = λ standing. leb-false 4294967288 (length (outward h).stream) (subst (λ b. (b && nat_le 4294967288 (length
-      (outward h).stream)) ≡ false) standing seven.0);
+  places = λ standing. leb-false 4294967288 (length (primary_connection h).stream) (subst (λ b. (b && nat_le 4294967288 (length
+      (primary_connection h).stream)) ≡ false) standing seven.0);
 }
   where
     met : Option ℕ
     met = conflict h (submission h first contents)
 
     down : Bool
-    down = not (stands (outward h)) && (h.tuple.bitmap == 0)
+    down = not (is_established (primary_connection h)) && (h.tuple.bitmap == 0)
 
     long : Bool
-    long = stands (outward h) && nat_le 4294967288 (length (outward h).stream)
+    long = is_established (primary_connection h) && nat_le 4294967288 (length (primary_connection h).stream)
 
     after : ℕ → List Test
-    after n = drop n (submit_tests h first contents starved)
+    after n = drop n (submit_tests h first contents out_of_memory)
 
     one : (not (is_range h.settings first (length contents)) ≡ false) × (first_refusal (after 1) ≡ None)
     one = test-passed (not (is_range h.settings first (length contents))) BadRange (after 1) none
@@ -70,11 +70,12 @@ accepted-by-tests h first contents starved none = record {
     seven = test-passed long StreamFull (after 7) six.1
 
 -- whatever asks the same has the same tests
-pub tests-by : (h : PrimaryHistory) (first : ℕ) (contents : List (List ℕ)) (starved ranged down : Bool) (written : ℕ) (full : Bool) (met : Option ℕ)
+pub tests-by : (h : PrimaryHistory) (first : ℕ) (contents : List (List ℕ)) (out_of_memory ranged down : Bool) (written : ℕ) (full : Bool) (met : Option ℕ)
     (active long : Bool)
-    → ranged ≡ is_range h.settings first (length contents) → down ≡ (not (stands (outward h)) && (h.tuple.bitmap == 0)) → written ≡ length h.writes
+    → ranged ≡ is_range h.settings first (length contents) → down ≡ (not (is_established (primary_connection h)) && (h.tuple.bitmap == 0))
+    → written ≡ length h.writes
     → full ≡ nat_le h.settings.backlog (length (unreleased h)) → met ≡ conflict h (submission h first contents) → active ≡ activity_is_full h (extent_of first)
-    → long ≡ (stands (outward h) && nat_le 4294967288 (length (outward h).stream))
-    → tests_of ranged down written full met active long (drop 7 (submit_tests h first contents starved)) ≡ submit_tests h first contents starved
-tests-by h first contents starved ranged down written full met active long ranges downs writes fulls meets actives longs =
-    λ i. tests_of (ranges i) (downs i) (writes i) (fulls i) (meets i) (actives i) (longs i) (drop 7 (submit_tests h first contents starved))
+    → long ≡ (is_established (primary_connection h) && nat_le 4294967288 (length (primary_connection h).stream))
+    → tests_of ranged down written full met active long (drop 7 (submit_tests h first contents out_of_memory)) ≡ submit_tests h first contents out_of_memory
+tests-by h first contents out_of_memory ranged down written full met active long ranges downs writes fulls meets actives longs =
+    λ i. tests_of (ranges i) (downs i) (writes i) (fulls i) (meets i) (actives i) (longs i) (drop 7 (submit_tests h first contents out_of_memory))

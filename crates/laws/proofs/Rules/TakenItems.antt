@@ -12,9 +12,9 @@ use Rattle.blocks.specs.declared.outcome.What.{What}
 use Rattle.blocks.specs.declared.outcome.What.TheVariants as what
 use Rattle.blocks.specs.declared.command.Command.TheVariants as command
 use Rattle.model.specs.Contents.{Write, is_range}
-use Rattle.model.specs.Stream.{Item, WriteItem, ResyncItem, number_of, epoch_of, last_epoch, items_of_epoch, placed_from, placed, items_meet}
+use Rattle.model.specs.Stream.{StreamItem, WriteItem, ResyncItem, number_of, epoch_of, last_epoch, items_of_epoch, placed_from, placed, items_meet}
 use Rattle.model.specs.Frames.{Packet, DataFrame, RsDataReplyFrame, BarrierFrame, UuidsFrame, SyncUuidFrame}
-use Rattle.model.specs.Secondary.{Inward, SecondaryHistory, items_taken, is_in_resync}
+use Rattle.model.specs.Secondary.{SecondaryConnection, SecondaryHistory, items_taken, is_in_resync}
 use Rattle.model.specs.SecondarySteps.{Checked, is_above, is_apart, checked_if, adopting, receiving, has_place, checking_item}
 use Rattle.laws.proofs.Lists.Fronts.{all-at, all-get}
 use Rattle.laws.proofs.Lists.Picks.{any-filtered, pick-any, pick-filtered}
@@ -24,18 +24,19 @@ use Rattle.std.specs.Prelude.{if◌then◌else◌}
 -- Numbers that rise.
 
 -- the number is above those of all items
-abbrev pub IsAbove : ℕ → List Item → Type 0
-IsAbove number items = (k : ℕ) (x : Item) → slice_get items k ≡ Some x → number_of x < number
+abbrev pub IsAbove : ℕ → List StreamItem → Type 0
+IsAbove number items = (k : ℕ) (x : StreamItem) → slice_get items k ≡ Some x → number_of x < number
 
-above-has : (number : ℕ) (items : List Item) → is_above number items ≡ true → IsAbove number items
+above-has : (number : ℕ) (items : List StreamItem) → is_above number items ≡ true → IsAbove number items
 above-has number items above k x at = ltb-true (number_of x) number (all-at (λ item. nat_lt (number_of item) number) items k x above at)
 
-above-by : (number : ℕ) (items : List Item) → IsAbove number items → is_above number items ≡ true
+above-by : (number : ℕ) (items : List StreamItem) → IsAbove number items → is_above number items ≡ true
 above-by number items all = all-get (λ item. nat_lt (number_of item) number) items (λ k x at. lt-ltb (number_of x) number (all k x at))
 
 -- it is tested by the highest of them, where there is one
-pub above-highest : (highest : List Item → ℕ) → highest [] ≡ 0 → ((x : Item) (items : List Item) → highest (x ∷ items) ≡ max (number_of x) (highest items))
-    → (number : ℕ) (items : List Item) → is_above number items ≡ ((length items == 0) || nat_lt (highest items) number)
+pub above-highest : (highest : List StreamItem → ℕ) → highest [] ≡ 0
+    → ((x : StreamItem) (items : List StreamItem) → highest (x ∷ items) ≡ max (number_of x) (highest items))
+    → (number : ℕ) (items : List StreamItem) → is_above number items ≡ ((length items == 0) || nat_lt (highest items) number)
 above-highest highest none more number [] = refl
 above-highest highest none more number (x ∷ items) = go x items
     ∙ ap (λ b. b || nat_lt (highest (x ∷ items)) number) (sym (some-not-none (length items)))
@@ -49,7 +50,7 @@ above-highest highest none more number (x ∷ items) = go x items
     alone : (a n : ℕ) → (nat_lt a n && true) ≡ nat_lt (max a 0) n
     alone a n = grind (arith)
 
-    go : (y : Item) (ys : List Item) → (nat_lt (number_of y) number && is_above number ys) ≡ nat_lt (highest (y ∷ ys)) number
+    go : (y : StreamItem) (ys : List StreamItem) → (nat_lt (number_of y) number && is_above number ys) ≡ nat_lt (highest (y ∷ ys)) number
     go y [] = alone (number_of y) number ∙ ap (λ m. nat_lt m number) (ap (max (number_of y)) (sym none) ∙ sym (more y []))
     go y (z ∷ ys) = ap (λ b. nat_lt (number_of y) number && b) (go z ys)
         ∙ (sym (max-below (number_of y) (highest (z ∷ ys)) number) ∙ ap (λ m. nat_lt m number) (sym (more y (z ∷ ys))))
@@ -57,27 +58,27 @@ above-highest highest none more number (x ∷ items) = go x items
 -- Items of one epoch.
 
 -- no item of the last epoch shares a block with it
-abbrev pub IsApartFrom : Item → List Item → Type 0
-IsApartFrom item items = (place : ℕ) (a : Item) → epoch_of items place ≡ last_epoch items → slice_get items place ≡ Some a → items_meet a item ≡ false
+abbrev pub IsApartFrom : StreamItem → List StreamItem → Type 0
+IsApartFrom item items = (place : ℕ) (a : StreamItem) → epoch_of items place ≡ last_epoch items → slice_get items place ≡ Some a → items_meet a item ≡ false
 
 -- the test, by what it asks
-pub apart-is : (item : Item) (items : List Item)
-    → is_apart item items ≡ not (list_any (λ (entry : ℕ × Item). items_meet entry.1 item) (items_of_epoch items (last_epoch items)))
+pub apart-is : (item : StreamItem) (items : List StreamItem)
+    → is_apart item items ≡ not (list_any (λ (entry : ℕ × StreamItem). items_meet entry.1 item) (items_of_epoch items (last_epoch items)))
 apart-is item items = refl
 
-apart-has : (item : Item) (items : List Item) → is_apart item items ≡ true → IsApartFrom item items
+apart-has : (item : StreamItem) (items : List StreamItem) → is_apart item items ≡ true → IsApartFrom item items
 apart-has item items tested place a epoch at =
-    let none : list_any (λ (entry : ℕ × Item). items_meet entry.1 item) (items_of_epoch items (last_epoch items)) ≡ false =
-    not-true (list_any (λ (entry : ℕ × Item). items_meet entry.1 item) (items_of_epoch items (last_epoch items))) tested in
+    let none : list_any (λ (entry : ℕ × StreamItem). items_meet entry.1 item) (items_of_epoch items (last_epoch items)) ≡ false =
+    not-true (list_any (λ (entry : ℕ × StreamItem). items_meet entry.1 item) (items_of_epoch items (last_epoch items))) tested in
     let here : 0 + place ≡ place = omega arith in
     false_from_ne_true (items_meet a item)
-    (λ met. both_ways (list_any (λ (entry : ℕ × Item). items_meet entry.1 item) (items_of_epoch items (last_epoch items))) none
-    (any-filtered (λ (entry : ℕ × Item). items_meet entry.1 item) (λ entry. epoch_of items entry.0 == last_epoch items) (placed items) place (place, a)
+    (λ met. both_ways (list_any (λ (entry : ℕ × StreamItem). items_meet entry.1 item) (items_of_epoch items (last_epoch items))) none
+    (any-filtered (λ (entry : ℕ × StreamItem). items_meet entry.1 item) (λ entry. epoch_of items entry.0 == last_epoch items) (placed items) place (place, a)
     (placed-at 0 items place a at ∙ ap (λ (n : ℕ). Some (n, a)) here) (eq-eqb (epoch_of items place) (last_epoch items) epoch) met))
 
 -- what stands among the placed items is the item there, with its place
-get-placed : (start : ℕ) (items : List Item) (n : ℕ) (entry : ℕ × Item) → slice_get (placed_from start items) n ≡ Some entry
-    → (item : Item) × (slice_get items n ≡ Some item) × (entry ≡ (start + n, item))
+get-placed : (start : ℕ) (items : List StreamItem) (n : ℕ) (entry : ℕ × StreamItem) → slice_get (placed_from start items) n ≡ Some entry
+    → (item : StreamItem) × (slice_get items n ≡ Some item) × (entry ≡ (start + n, item))
 get-placed start [] n entry at = absurd (cc)
 get-placed start (x ∷ items) zero entry at =
     let same : (start, x) ≡ entry = cc in
@@ -86,16 +87,16 @@ get-placed start (x ∷ items) (suc n) entry at =
     let rest = get-placed (suc start) items n entry at in
     (rest.0, rest.1, rest.2 ∙ ap (λ (m : ℕ). (m, rest.0)) (omega arith))
 
-apart-by : (item : Item) (items : List Item) → IsApartFrom item items → is_apart item items ≡ true
+apart-by : (item : StreamItem) (items : List StreamItem) → IsApartFrom item items → is_apart item items ≡ true
 apart-by item items apart = not_from_false _ (false_from_ne_true _ (λ meets.
-    let met = pick-any (λ (entry : ℕ × Item). items_meet entry.1 item) (items_of_epoch items (last_epoch items)) meets in
-    let found = pick-filtered (λ (e : ℕ × Item). epoch_of items e.0 == last_epoch items) (placed items) met.0 met.1 met.2 in
+    let met = pick-any (λ (entry : ℕ × StreamItem). items_meet entry.1 item) (items_of_epoch items (last_epoch items)) meets in
+    let found = pick-filtered (λ (e : ℕ × StreamItem). epoch_of items e.0 == last_epoch items) (placed items) met.0 met.1 met.2 in
     let there = get-placed 0 items found.0 met.1 found.1 in
     let index : 0 + found.0 ≡ found.0 = omega arith in
     let is : met.1 ≡ (found.0, there.0) = there.2 ∙ ap (λ (m : ℕ). (m, there.0)) index in
     both_ways (items_meet there.0 item) (apart found.0 there.0
-    (subst (λ (e : ℕ × Item). epoch_of items e.0 ≡ last_epoch items) is (eqb-true (epoch_of items met.1.0) (last_epoch items) found.2)) there.1)
-    (subst (λ (e : ℕ × Item). items_meet e.1 item ≡ true) is met.3)))
+    (subst (λ (e : ℕ × StreamItem). epoch_of items e.0 ≡ last_epoch items) is (eqb-true (epoch_of items met.1.0) (last_epoch items) found.2)) there.1)
+    (subst (λ (e : ℕ × StreamItem). items_meet e.1 item ≡ true) is met.3)))
 
 -- What holds of an item that is taken.
 
@@ -106,13 +107,13 @@ pub record IsPlaced (settings : Settings) (at place first count : ℕ) : Type 0 
   pub range : is_range settings first count ≡ true
 
 -- a write: its number is above the others, and its blocks are apart
-pub record WriteMay (settings : Settings) (write : Write) (at place : ℕ) (items : List Item) : Type 0 where
+pub record WriteMay (settings : Settings) (write : Write) (at place : ℕ) (items : List StreamItem) : Type 0 where
   pub here : IsPlaced settings at place write.first (length write.contents)
   pub above : IsAbove write.number items
   pub apart : IsApartFrom (WriteItem write) items
 
 -- a block of a resync, while one runs
-pub record BlockMay (settings : Settings) (block : ℕ) (contents : List ℕ) (at place : ℕ) (c : Inward) : Type 0 where
+pub record BlockMay (settings : Settings) (block : ℕ) (contents : List ℕ) (at place : ℕ) (c : SecondaryConnection) : Type 0 where
   pub here : IsPlaced settings at place block 1
   pub resync : is_in_resync c ≡ true
   pub apart : IsApartFrom (ResyncItem block contents) (items_taken c)
@@ -146,14 +147,14 @@ placed-from : (at place : ℕ) (settings : Settings) (first count : ℕ) (other 
 placed-from at place settings first count other apart here others aparts =
     and_from _ _ (and_from _ _ (and_from _ _ (eq-eqb at place here.next) (lt-ltb place 4294967295 here.room)) here.range) (and_from _ _ others aparts)
 
-pub write-may : (settings : Settings) (write : Write) (at place : ℕ) (items : List Item)
+pub write-may : (settings : Settings) (write : Write) (at place : ℕ) (items : List StreamItem)
     → placed_by at place settings write.first (length write.contents) (is_above write.number items) (is_apart (WriteItem write) items) ≡ true
     → WriteMay settings write at place items
 write-may settings write at place items good =
     let parts = placed-has at place settings write.first (length write.contents) (is_above write.number items) (is_apart (WriteItem write) items) good in
     record { here = parts.0; above = above-has write.number items parts.1.0; apart = apart-has (WriteItem write) items parts.1.1 }
 
-block-may : (settings : Settings) (block : ℕ) (contents : List ℕ) (at place : ℕ) (c : Inward)
+block-may : (settings : Settings) (block : ℕ) (contents : List ℕ) (at place : ℕ) (c : SecondaryConnection)
     → placed_by at place settings block 1 (is_in_resync c) (is_apart (ResyncItem block contents) (items_taken c)) ≡ true
     → BlockMay settings block contents at place c
 block-may settings block contents at place c good =
@@ -179,7 +180,7 @@ abbrev pub end_by : ℕ → Bool → Bool
 end_by place resync = has_place place && resync
 
 -- What holds of each item that is taken, and of each refusal, holds of what is checked.
-pub item-checked : (P : Checked → Type 0) (packet : Packet) (place : ℕ) (c : Inward) (h : SecondaryHistory)
+pub item-checked : (P : Checked → Type 0) (packet : Packet) (place : ℕ) (c : SecondaryConnection) (h : SecondaryHistory)
     → ((write : Write) (at : ℕ) → packet ≡ DataFrame write at → WriteMay h.settings write at place (items_taken c)
     → P (Ok (what.Frame command.Data (Some place), receiving place (WriteItem write) h)))
     → ((block : ℕ) (contents : List ℕ) (at : ℕ) → packet ≡ RsDataReplyFrame block contents at → BlockMay h.settings block contents at place c
@@ -220,7 +221,7 @@ taken-if : (P : Checked → Type 0) (good : Bool) (name : What) (h : SecondaryHi
 taken-if P true name h is taken = taken (name, h)
 taken-if P false name h is taken = absurd (cc)
 
-module _ (P : Checked → Type 0) (place : ℕ) (c : Inward) (h : SecondaryHistory) (taken : (done : What × SecondaryHistory) → P (Ok done)) where
+module _ (P : Checked → Type 0) (place : ℕ) (c : SecondaryConnection) (h : SecondaryHistory) (taken : (done : What × SecondaryHistory) → P (Ok done)) where
   pub takes-write : (write : Write) (at : ℕ) → WriteMay h.settings write at place (items_taken c) → P (checking_item (DataFrame write at) place c h)
   takes-write write at may = taken-if P _ _ _ (placed-from at place h.settings write.first (length write.contents) _ _ may.here
       (above-by write.number (items_taken c) may.above) (apart-by (WriteItem write) (items_taken c) may.apart)) taken

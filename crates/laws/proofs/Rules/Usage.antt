@@ -6,9 +6,10 @@ use Rattle.std.proofs.lemmas.Bool.{cases_lt, both_ways, not-true, and_parts, and
 use Rattle.std.proofs.lemmas.Bool.{false_from_ne_true}
 use Rattle.std.proofs.lemmas.List.{append-nil, map-append}
 use Rattle.std.proofs.lemmas.List.Elements.{filter-append}
-use Rattle.model.specs.Stream.{Item, is_whole, has_blocks, epoch_of, barriers_in, placed, below}
+use Rattle.model.specs.Stream.{StreamItem, is_whole, has_blocks, epoch_of, barriers_in, placed, below}
 use Rattle.model.specs.Primary.{last_of}
-use Rattle.model.specs.Secondary.{Inward, SecondaryHistory, inward, items_taken, is_pending, is_applied_to, is_done, is_done_to, whole}
+use Rattle.model.specs.Secondary.{SecondaryConnection, SecondaryHistory, secondary_connection, items_taken, is_pending, is_applied_to, is_done, is_done_to}
+use Rattle.model.specs.Secondary.{whole}
 use Rattle.model.specs.Settlement.{applied_items}
 use Rattle.laws.proofs.Lists.Fronts.{all-at, all-get}
 use Rattle.laws.proofs.Lists.Last.{last-at, last-more}
@@ -18,11 +19,11 @@ use Rattle.laws.proofs.Streams.Places.{placed-at, placed-back}
 -- Which items are done.
 
 -- an item with blocks that neither waits nor is gone
-abbrev pub is_applied : Inward → ℕ × Item → Bool
+abbrev pub is_applied : SecondaryConnection → ℕ × StreamItem → Bool
 is_applied d entry = (has_blocks entry.1 && not (is_pending d entry)) && not (list_any (λ (place : ℕ). place == entry.0) d.gone)
 
 -- such an item is done
-done-is : (d : Inward) (entry : ℕ × Item) → (has_blocks entry.1 && is_done d entry) ≡ is_applied d entry
+done-is : (d : SecondaryConnection) (entry : ℕ × StreamItem) → (has_blocks entry.1 && is_done d entry) ≡ is_applied d entry
 done-is d entry = go (has_blocks entry.1) (is_whole d.applied entry.0 entry.1) (list_any (λ (place : ℕ). place == entry.0) d.gone)
   where
     go : (a w g : Bool) → (a && (w && not g)) ≡ ((a && not ((a && not w) && not g)) && not g)
@@ -33,27 +34,27 @@ done-is d entry = go (has_blocks entry.1) (is_whole d.applied entry.0 entry.1) (
     go false w g = refl
 
 -- the items that are applied, over whatever was taken
-pub applied-with : (c d : Inward) → c.applied ≡ d.applied → c.gone ≡ d.gone
+pub applied-with : (c d : SecondaryConnection) → c.applied ≡ d.applied → c.gone ≡ d.gone
     → applied_items c ≡ length (filter (is_applied d) (placed (items_taken c)))
 applied-with c d applied gone =
-    (λ i. length (filter (λ (entry : ℕ × Item). has_blocks entry.1
+    (λ i. length (filter (λ (entry : ℕ × StreamItem). has_blocks entry.1
     && (is_whole (applied i) entry.0 entry.1 && not (list_any (λ (place : ℕ). place == entry.0) (gone i)))) (placed (items_taken c))))
-    ∙ λ i. length (filter (λ (entry : ℕ × Item). done-is d entry i) (placed (items_taken c)))
+    ∙ λ i. length (filter (λ (entry : ℕ × StreamItem). done-is d entry i) (placed (items_taken c)))
 
 -- How far it is whole.
 
 -- all items up to the end of an epoch that was ended are whole
-pub record IsWholeTo (d : Inward) (epoch : ℕ) : Type 0 where
+pub record IsWholeTo (d : SecondaryConnection) (epoch : ℕ) : Type 0 where
   pub ended : epoch ≤ barriers_in (items_taken d)
-  pub items : (place : ℕ) (item : Item) → slice_get (items_taken d) place ≡ Some item → epoch_of (items_taken d) place ≤ epoch → has_blocks item ≡ true
+  pub items : (place : ℕ) (item : StreamItem) → slice_get (items_taken d) place ≡ Some item → epoch_of (items_taken d) place ≤ epoch → has_blocks item ≡ true
       → is_whole d.applied place item ≡ true
 
 -- an item is done up to an epoch
-abbrev done_by : Inward → ℕ → ℕ × Item → Bool
+abbrev done_by : SecondaryConnection → ℕ → ℕ × StreamItem → Bool
 done_by d epoch entry = not (nat_le (epoch_of (items_taken d) entry.0) epoch && has_blocks entry.1) || is_done d entry
 
 -- each item up to the end of an epoch that is done is done
-done-item : (d : Inward) (epoch place : ℕ) (item : Item) → is_done_to d epoch ≡ true → slice_get (items_taken d) place ≡ Some item
+done-item : (d : SecondaryConnection) (epoch place : ℕ) (item : StreamItem) → is_done_to d epoch ≡ true → slice_get (items_taken d) place ≡ Some item
     → epoch_of (items_taken d) place ≤ epoch → has_blocks item ≡ true → is_done d (place, item) ≡ true
 done-item d epoch place item done at upto blocks =
     let index : 0 + place ≡ place = omega arith in
@@ -66,27 +67,27 @@ done-item d epoch place item done at upto blocks =
     ]
 
 -- so it is whole to no epoch, or to this one
-pub whole-to : (s : SecondaryHistory) → (whole s ≡ 0) ⊎ IsWholeTo (inward s) (whole s)
-whole-to s = elim (last-at 0 (filter (is_done_to (inward s)) (map suc (below all)))) [
+pub whole-to : (s : SecondaryHistory) → (whole s ≡ 0) ⊎ IsWholeTo (secondary_connection s) (whole s)
+whole-to s = elim (last-at 0 (filter (is_done_to (secondary_connection s)) (map suc (below all)))) [
   | inl none ↦ inl (ap (last_of 0) none)
   | inr last ↦
-      let found = pick-filtered (is_done_to (inward s)) (map suc (below all)) _ (whole s) last in
+      let found = pick-filtered (is_done_to (secondary_connection s)) (map suc (below all)) _ (whole s) last in
       let number = pick-image suc (below all) found.0 (whole s) found.1 in
       let low = pick-below all found.0 number.0 number.1 in
       let is = number.2 in
       inr (record {
         ended = omega arith;
-        items = λ place item at upto blocks. (and_parts (is_whole (inward s).applied place item) _
-            (done-item (inward s) (whole s) place item found.2 at upto blocks)).0;
+        items = λ place item at upto blocks. (and_parts (is_whole (secondary_connection s).applied place item) _
+            (done-item (secondary_connection s) (whole s) place item found.2 at upto blocks)).0;
       })
 ]
   where
     all : ℕ
-    all = barriers_in (items_taken (inward s))
+    all = barriers_in (items_taken (secondary_connection s))
 
 -- to none where nothing was taken
-pub whole-none : (s : SecondaryHistory) → items_taken (inward s) ≡ [] → whole s ≡ 0
-whole-none s none = ap (λ (l : List Item). last_of 0 (filter (is_done_to (inward s)) (map suc (below (barriers_in l))))) none
+pub whole-none : (s : SecondaryHistory) → items_taken (secondary_connection s) ≡ [] → whole s ≡ 0
+whole-none s none = ap (λ (l : List StreamItem). last_of 0 (filter (is_done_to (secondary_connection s)) (map suc (below (barriers_in l))))) none
 
 -- the last that passes of the first so many numbers, where those up to one pass and no others
 last-passing : (p : ℕ → Bool) (w n : ℕ) → w ≤ n → ((x : ℕ) → 0 < x → x ≤ n → p x ≡ nat_le x w) → last_of 0 (filter p (map suc (below n))) ≡ w
@@ -105,28 +106,30 @@ last-passing p w (suc n) within passes =
         ap (last_of 0) (append-nil (filter p (map suc (below n)))) ∙ rest (omega arith)
 
 -- where nothing is gone, it is whole as far as all is applied
-pub whole-applied : (s : SecondaryHistory) (w : ℕ) → (inward s).gone ≡ [] → w ≤ barriers_in (items_taken (inward s))
-    → ((x : ℕ) → 0 < x → x ≤ barriers_in (items_taken (inward s)) → is_applied_to (inward s) x ≡ nat_le x w) → w ≡ whole s
+pub whole-applied : (s : SecondaryHistory) (w : ℕ) → (secondary_connection s).gone ≡ [] → w ≤ barriers_in (items_taken (secondary_connection s))
+    → ((x : ℕ) → 0 < x → x ≤ barriers_in (items_taken (secondary_connection s)) → is_applied_to (secondary_connection s) x ≡ nat_le x w) → w ≡ whole s
 whole-applied s w none within passes = sym (last-passing (is_done_to d) w (barriers_in (items_taken d)) within (λ x from upto. done x ∙ passes x from upto))
   where
-    d : Inward
-    d = inward s
+    d : SecondaryConnection
+    d = secondary_connection s
 
     plain : (b : Bool) → (b && true) ≡ b
     plain true = refl
     plain false = refl
 
-    done : (x : ℕ) → is_done_to (inward s) x ≡ is_applied_to (inward s) x
-    done x = (λ i. list_all (λ (entry : ℕ × Item). not (nat_le (epoch_of (items_taken d) entry.0) x && has_blocks entry.1)
+    done : (x : ℕ) → is_done_to (secondary_connection s) x ≡ is_applied_to (secondary_connection s) x
+    done x = (λ i. list_all (λ (entry : ℕ × StreamItem). not (nat_le (epoch_of (items_taken d) entry.0) x && has_blocks entry.1)
         || (is_whole d.applied entry.0 entry.1 && not (list_any (λ (place : ℕ). place == entry.0) (none i)))) (placed (items_taken d)))
-        ∙ λ i. list_all (λ (entry : ℕ × Item). not (nat_le (epoch_of (items_taken d) entry.0) x && has_blocks entry.1)
+        ∙ λ i. list_all (λ (entry : ℕ × StreamItem). not (nat_le (epoch_of (items_taken d) entry.0) x && has_blocks entry.1)
         || plain (is_whole d.applied entry.0 entry.1) i) (placed (items_taken d))
 
 -- where an item of the next epoch is gone and all before is applied, it is whole so far
-pub whole-gone : (s : SecondaryHistory) (w place : ℕ) (item : Item) → slice_get (items_taken (inward s)) place ≡ Some item → has_blocks item ≡ true
-    → list_any (λ k. k == place) (inward s).gone ≡ true → epoch_of (items_taken (inward s)) place ≡ suc w → w ≤ barriers_in (items_taken (inward s))
-    → ((other : ℕ) (one : Item) → slice_get (items_taken (inward s)) other ≡ Some one → has_blocks one ≡ true
-    → epoch_of (items_taken (inward s)) other ≤ w → is_applied (inward s) (other, one) ≡ true) → w ≡ whole s
+pub whole-gone : (s : SecondaryHistory) (w place : ℕ) (item : StreamItem) → slice_get (items_taken (secondary_connection s)) place ≡ Some item
+    → has_blocks item ≡ true
+    → list_any (λ k. k == place) (secondary_connection s).gone ≡ true → epoch_of (items_taken (secondary_connection s)) place ≡ suc w
+    → w ≤ barriers_in (items_taken (secondary_connection s))
+    → ((other : ℕ) (one : StreamItem) → slice_get (items_taken (secondary_connection s)) other ≡ Some one → has_blocks one ≡ true
+    → epoch_of (items_taken (secondary_connection s)) other ≤ w → is_applied (secondary_connection s) (other, one) ≡ true) → w ≡ whole s
 whole-gone s w place item at blocks gone epoch within applied =
     sym (last-passing (is_done_to d) w (barriers_in (items_taken d)) within (λ x from upto. elim (cases_lt w x) [
       | inl late ↦ false_from_ne_true (is_done_to d x) (λ done. not-gone (and_from _ _ blocks (done-item d x place item done at (omega arith) blocks)))
@@ -134,8 +137,8 @@ whole-gone s w place item at blocks gone epoch within applied =
       | inr early ↦ all-done x early ∙ sym (le-leb x w early)
     ]))
   where
-    d : Inward
-    d = inward s
+    d : SecondaryConnection
+    d = secondary_connection s
 
     not-gone : (has_blocks item && is_done d (place, item)) ≡ true → ⊥
     not-gone done = both_ways (list_any (λ k. k == place) d.gone) (not-true (list_any (λ k. k == place) d.gone)
@@ -149,7 +152,7 @@ whole-gone s w place item at blocks gone epoch within applied =
         (omega (arith, back.0)) back.1 in
         go entry (nat_le (epoch_of (items_taken d) entry.0) x) refl (has_blocks entry.1) refl here)
       where
-        go : (entry : ℕ × Item) (soon : Bool) → nat_le (epoch_of (items_taken d) entry.0) x ≡ soon → (b : Bool) → has_blocks entry.1 ≡ b
+        go : (entry : ℕ × StreamItem) (soon : Bool) → nat_le (epoch_of (items_taken d) entry.0) x ≡ soon → (b : Bool) → has_blocks entry.1 ≡ b
             → slice_get (items_taken d) entry.0 ≡ Some entry.1 → done_by d x entry ≡ true
         go entry false is b is_b here = ap (λ t. not (t && has_blocks entry.1) || is_done d entry) is
         go entry true is false is_b here = rw (is, is_b) refl

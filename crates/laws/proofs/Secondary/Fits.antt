@@ -9,7 +9,8 @@ use Rattle.std.proofs.lemmas.List.{append-nil}
 use Rattle.blocks.specs.declared.settings.Protocol.{Protocol}
 use Rattle.blocks.specs.declared.settings.Protocol.TheVariants as protocol
 use Rattle.model.specs.Contents.{Write}
-use Rattle.model.specs.Stream.{Item, WriteItem, ResyncItem, BarrierItem, SyncUuidItem, UuidsItem, Part, is_whole, has_blocks, barriers_in, epoch_of, last_epoch}
+use Rattle.model.specs.Stream.{StreamItem, WriteItem, ResyncItem, BarrierItem, SyncUuidItem, UuidsItem, Part, is_whole, has_blocks, barriers_in, epoch_of}
+use Rattle.model.specs.Stream.{last_epoch}
 use Rattle.model.specs.Stream.{epoch_size}
 use Rattle.model.specs.Frames.{Packet, RecvAckFrame, WriteAckFrame, RsWriteAckFrame, BarrierAckFrame, Acknowledged, Received, naming}
 use Rattle.model.specs.Primary.{same_naming, is_recv_ack, is_write_ack, is_rs_write_ack, is_barrier_ack}
@@ -23,7 +24,7 @@ abbrev pub is_said : (Received → Bool) → List Packet → Bool
 is_said test packets = list_any (λ packet. test (Ok packet)) packets
 
 -- the acknowledgement that the protocol asks of an item is among the packets
-abbrev pub is_answered_to : Protocol → List Packet → ℕ → Item → Bool
+abbrev pub is_answered_to : Protocol → List Packet → ℕ → StreamItem → Bool
 is_answered_to asked packets place (WriteItem write) = elim asked [
   | protocol.A ↦ true
   | protocol.B ↦ is_said (is_recv_ack (naming place (WriteItem write))) packets
@@ -35,7 +36,7 @@ is_answered_to asked packets place (SyncUuidItem word) = true
 is_answered_to asked packets place (UuidsItem tuple) = true
 
 -- a RECV_ACK of a write that was taken, the first of it
-pub record FitsReceived (asked : Protocol) (items : List Item) (front : List Packet) (ack : Acknowledged) : Type 0 where
+pub record FitsReceived (asked : Protocol) (items : List StreamItem) (front : List Packet) (ack : Acknowledged) : Type 0 where
   pub protocol : asked ≡ protocol.B
   pub write : Write
   pub there : slice_get items ack.place ≡ Some (WriteItem write)
@@ -43,7 +44,7 @@ pub record FitsReceived (asked : Protocol) (items : List Item) (front : List Pac
   pub first : is_said (is_recv_ack (naming ack.place (WriteItem write))) front ≡ false
 
 -- a WRITE_ACK of a write that is applied, the first of it
-pub record FitsWritten (asked : Protocol) (items : List Item) (part : Part) (front : List Packet) (ack : Acknowledged) : Type 0 where
+pub record FitsWritten (asked : Protocol) (items : List StreamItem) (part : Part) (front : List Packet) (ack : Acknowledged) : Type 0 where
   pub protocol : asked ≡ protocol.C
   pub write : Write
   pub there : slice_get items ack.place ≡ Some (WriteItem write)
@@ -52,7 +53,7 @@ pub record FitsWritten (asked : Protocol) (items : List Item) (part : Part) (fro
   pub first : is_said (is_write_ack (naming ack.place (WriteItem write))) front ≡ false
 
 -- a RS_WRITE_ACK of a resync block that is applied, the first of it
-pub record FitsResynced (items : List Item) (part : Part) (front : List Packet) (ack : Acknowledged) : Type 0 where
+pub record FitsResynced (items : List StreamItem) (part : Part) (front : List Packet) (ack : Acknowledged) : Type 0 where
   pub block : ℕ
   pub contents : List ℕ
   pub there : slice_get items ack.place ≡ Some (ResyncItem block contents)
@@ -61,17 +62,17 @@ pub record FitsResynced (items : List Item) (part : Part) (front : List Packet) 
   pub first : is_said (is_rs_write_ack (naming ack.place (ResyncItem block contents))) front ≡ false
 
 -- a BARRIER_ACK of a barrier that was taken, the next one, with its epoch's size, after all that its items want
-pub record FitsBarrier (asked : Protocol) (items : List Item) (front : List Packet) (number size : ℕ) : Type 0 where
+pub record FitsBarrier (asked : Protocol) (items : List StreamItem) (front : List Packet) (number size : ℕ) : Type 0 where
   pub from : 0 < number
   pub upto : number ≤ barriers_in items
   pub counts : size ≡ epoch_size items number
   pub earlier : (epoch : ℕ) → 0 < epoch → epoch < number → is_said (is_barrier_ack epoch) front ≡ true
   pub first : is_said (is_barrier_ack number) front ≡ false
-  pub answered : (place : ℕ) (item : Item) → slice_get items place ≡ Some item → epoch_of items place ≤ number → has_blocks item ≡ true
+  pub answered : (place : ℕ) (item : StreamItem) → slice_get items place ≡ Some item → epoch_of items place ≤ number → has_blocks item ≡ true
       → is_answered_to asked front place item ≡ true
 
 -- what is due, by what was due before it; no other packet is
-abbrev pub Fits : Protocol → List Item → Part → List Packet → Packet → Type 0
+abbrev pub Fits : Protocol → List StreamItem → Part → List Packet → Packet → Type 0
 Fits asked items part front (RecvAckFrame ack) = FitsReceived asked items front ack
 Fits asked items part front (WriteAckFrame ack) = FitsWritten asked items part front ack
 Fits asked items part front (RsWriteAckFrame ack) = FitsResynced items part front ack
@@ -79,16 +80,17 @@ Fits asked items part front (BarrierAckFrame number size) = FitsBarrier asked it
 Fits asked items part front packet = ⊥
 
 -- the size of an epoch whose barrier was taken stays
-pub size-stays : (items more : List Item) (epoch : ℕ) → epoch ≤ barriers_in items → epoch_size (items ++ more) epoch ≡ epoch_size items epoch
-size-stays items [] epoch upto = ap (λ (l : List Item). epoch_size l epoch) (append-nil items)
+pub size-stays : (items more : List StreamItem) (epoch : ℕ) → epoch ≤ barriers_in items → epoch_size (items ++ more) epoch ≡ epoch_size items epoch
+size-stays items [] epoch upto = ap (λ (l : List StreamItem). epoch_size l epoch) (append-nil items)
 size-stays items (x ∷ more) epoch upto =
     let grown = barriers-append items (x ∷ []) in
-    ap (λ (l : List Item). epoch_size l epoch) (sym (append_assoc items (x ∷ []) more))
+    ap (λ (l : List StreamItem). epoch_size l epoch) (sym (append_assoc items (x ∷ []) more))
     ∙ (size-stays (items ++ x ∷ []) more epoch (omega arith)
     ∙ elim (size-grow items x epoch) [ inl same ↦ same | inr grew ↦ absurd (let last : last_epoch items ≡ epoch = grew.1 in omega arith) ])
 
 -- a fitting acknowledgement stays so as more is taken and applied
-pub fits-grow : (asked : Protocol) (items more : List Item) (part further : Part) (front : List Packet) (packet : Packet) → Fits asked items part front packet
+pub fits-grow : (asked : Protocol) (items more : List StreamItem) (part further : Part) (front : List Packet) (packet : Packet)
+    → Fits asked items part front packet
     → Fits asked (items ++ more) (part ++ further) front packet
 fits-grow asked items more part further front (RecvAckFrame ack) f =
     record { protocol = f.protocol; write = f.write; there = get-left items more ack.place (WriteItem f.write) f.there; names = f.names; first = f.first }
@@ -127,7 +129,7 @@ pub said-grows : (test : Received → Bool) (packets more : List Packet) → is_
 said-grows test packets more h = list_any-append (λ packet. test (Ok packet)) packets more ∙ or_left (is_said test packets) (is_said test more) h
 
 -- so is what the protocol asks
-pub answered-grows : (asked : Protocol) (packets more : List Packet) (place : ℕ) (item : Item) → is_answered_to asked packets place item ≡ true
+pub answered-grows : (asked : Protocol) (packets more : List Packet) (place : ℕ) (item : StreamItem) → is_answered_to asked packets place item ≡ true
     → is_answered_to asked (packets ++ more) place item ≡ true
 answered-grows protocol.A packets more place (WriteItem write) h = refl
 answered-grows protocol.B packets more place (WriteItem write) h = said-grows (is_recv_ack (naming place (WriteItem write))) packets more h

@@ -9,9 +9,9 @@ use Rattle.std.proofs.Math.Seq.{take-append_seam}
 use Rattle.blocks.specs.declared.settings.Protocol.{Protocol}
 use Rattle.blocks.specs.declared.tuple.Tuple.{Tuple}
 use Rattle.model.specs.Contents.{BlockMap}
-use Rattle.model.specs.Stream.{Item, below, contents_of}
+use Rattle.model.specs.Stream.{StreamItem, below, contents_of}
 use Rattle.model.specs.Frames.{Packet, Received}
-use Rattle.model.specs.Secondary.{Inward, items_taken, accepted_of, received_item, new_inward}
+use Rattle.model.specs.Secondary.{SecondaryConnection, items_taken, accepted_of, received_item, new_secondary_connection}
 use Rattle.model.specs.SecondarySteps.{answering, barrier_answer, barriers_to_answer, is_pending_at, has_earlier, applying, failing}
 use Rattle.model.specs.SecondarySteps.{applied_with}
 use Rattle.laws.proofs.Rules.DiskFaults.{reached, fault-applied, reached-inside}
@@ -22,31 +22,32 @@ use Rattle.laws.proofs.Lists.Picks.{pick-below}
 use Rattle.laws.proofs.Rules.RefusedFrames.{refused_in}
 
 -- A connection as it has to be: sound, and closed once a frame of it was refused.
-pub record IsGood (d : Inward) : Type 0 where
+pub record IsGood (d : SecondaryConnection) : Type 0 where
   pub sound : IsSound d
   pub refused : d.refused ≡ true → d.closed ≡ true
 
 -- Acknowledgements that become due change nothing of this.
-pub good-due : (d : Inward) (due : List Packet) → IsGood d → IsGood (record d { due = due })
+pub good-due : (d : SecondaryConnection) (due : List Packet) → IsGood d → IsGood (record d { due = due })
 good-due d due good = record { sound = sound-same d (record d { due = due }) good.sound refl refl refl (λ c. c); refused = good.refused }
 
 -- an end that answers barriers stays good
-pub good-answering : (d : Inward) → IsGood d → IsGood (answering d)
+pub good-answering : (d : SecondaryConnection) → IsGood d → IsGood (answering d)
 good-answering d good = elim d.closed as
-    (λ b. IsGood (elim b as (λ _. Inward) [ true ↦ d | false ↦ record d { due = d.due ++ map (barrier_answer d) (barriers_to_answer d) } ])) [
+    (λ b. IsGood (elim b as (λ _. SecondaryConnection) [ true ↦ d | false ↦ record d { due = d.due ++ map (barrier_answer d) (barriers_to_answer d) } ])) [
       | true ↦ good
       | false ↦ good-due d (d.due ++ map (barrier_answer d) (barriers_to_answer d)) good
     ]
 
 -- and its opening disk stays
-pub base-answering : (d : Inward) (block : ℕ) → (answering d).base block ≡ d.base block
+pub base-answering : (d : SecondaryConnection) (block : ℕ) → (answering d).base block ≡ d.base block
 base-answering d block =
-    elim d.closed as (λ b. (elim b as (λ _. Inward) [ true ↦ d | false ↦ record d { due = d.due ++ map (barrier_answer d) (barriers_to_answer d) } ]).base
+    elim d.closed as (λ b. (elim b as
+    (λ _. SecondaryConnection) [ true ↦ d | false ↦ record d { due = d.due ++ map (barrier_answer d) (barriers_to_answer d) } ]).base
     block ≡ d.base block) [ true ↦ refl | false ↦ refl ]
 
 -- a new connection is good
 pub good-new : (number : ℕ) (disk : BlockMap) (hello : Tuple)
-    → IsGood (new_inward number disk hello)
+    → IsGood (new_secondary_connection number disk hello)
 good-new number disk hello = record {
   sound = record {
     epoch = 0;
@@ -61,8 +62,8 @@ good-new number disk hello = record {
 }
 
 -- a frame more only adds to the items taken
-pub taking-more : (frame : Received) (d : Inward) → d.refused ≡ false
-    → (more : List Item) × (items_taken (record d { taken = d.taken ++ frame ∷ [] }) ≡ items_taken d ++ more)
+pub taking-more : (frame : Received) (d : SecondaryConnection) → d.refused ≡ false
+    → (more : List StreamItem) × (items_taken (record d { taken = d.taken ++ frame ∷ [] }) ≡ items_taken d ++ more)
 taking-more frame d accepted =
     let split = begins-drop 3 d.taken (d.taken ++ frame ∷ []) (frame ∷ [], refl) in
     let old : accepted_of d ≡ drop 3 d.taken = ap (λ b. drop 3 (if b then take (length d.taken - 1) d.taken else d.taken)) accepted in
@@ -74,7 +75,7 @@ taking-more frame d accepted =
     )
 
 -- an open end that takes a frame stays good
-pub good-taking : (frame : Received) (d : Inward) → d.closed ≡ false → IsGood d → IsGood (record d { taken = d.taken ++ frame ∷ [] })
+pub good-taking : (frame : Received) (d : SecondaryConnection) → d.closed ≡ false → IsGood d → IsGood (record d { taken = d.taken ++ frame ∷ [] })
 good-taking frame d standing good =
     let accepted : d.refused ≡ false =
     elim (cases_Bool d.refused) [ inl was ↦ absurd (both_ways d.closed standing (good.refused was)) | inr not_so ↦ not_so ] in
@@ -85,7 +86,7 @@ good-taking frame d standing good =
     }
 
 -- a frame that is refused brings nothing
-pub items-refusing : (frame : Received) (d : Inward) → d.refused ≡ false
+pub items-refusing : (frame : Received) (d : SecondaryConnection) → d.refused ≡ false
     → items_taken (refused_in frame d) ≡ items_taken d
 items-refusing frame d accepted =
     let old : accepted_of d ≡ drop 3 d.taken = ap (λ b. drop 3 (if b then take (length d.taken - 1) d.taken else d.taken)) accepted in
@@ -95,7 +96,7 @@ items-refusing frame d accepted =
     ap (λ (l : List Received). filter_map received_item (drop 3 l)) whole ∙ ap (filter_map received_item) (sym old)
 
 -- an open end that refuses a frame closes, and stays good
-pub good-refusing : (frame : Received) (d : Inward) → d.closed ≡ false → IsGood d
+pub good-refusing : (frame : Received) (d : SecondaryConnection) → d.closed ≡ false → IsGood d
     → IsGood (refused_in frame d)
 good-refusing frame d standing good =
     let accepted : d.refused ≡ false =
@@ -112,32 +113,32 @@ good-refusing frame d standing good =
     }
 
 -- an item that is applied leaves the opening disk
-pub base-applying : (asked : Protocol) (place : ℕ) (d : Inward) (block : ℕ) → (applying asked place d).base block ≡ d.base block
+pub base-applying : (asked : Protocol) (place : ℕ) (d : SecondaryConnection) (block : ℕ) → (applying asked place d).base block ≡ d.base block
 base-applying asked place d block = go (slice_get (items_taken d) place)
   where
-    go : (v : Option Item) → (applied_with v asked place d).base block ≡ d.base block
+    go : (v : Option StreamItem) → (applied_with v asked place d).base block ≡ d.base block
     go None = refl
     go (Some item) = refl
 
 -- a pending item is applied whose epoch has its turn
-pub good-applying : (asked : Protocol) (place : ℕ) (d : Inward) → is_pending_at d place ≡ true → has_earlier d place ≡ false → IsGood d
+pub good-applying : (asked : Protocol) (place : ℕ) (d : SecondaryConnection) → is_pending_at d place ≡ true → has_earlier d place ≡ false → IsGood d
     → IsGood (applying asked place d)
 good-applying asked place d waiting none good = go (slice_get (items_taken d) place) refl
   where
     start : Started d place good.sound
     start = starting d place good.sound waiting none
 
-    go : (v : Option Item) → slice_get (items_taken d) place ≡ v → IsGood (applied_with v asked place d)
+    go : (v : Option StreamItem) → slice_get (items_taken d) place ≡ v → IsGood (applied_with v asked place d)
     go None is = good
     go (Some item) is = record {
       sound = sound-applying d _ place (below (length (contents_of item))) good.sound start
-          (λ n offset at. subst (λ (i : Item). offset < length (contents_of i)) (same-at (items_taken d) place item start.item is start.there)
+          (λ n offset at. subst (λ (i : StreamItem). offset < length (contents_of i)) (same-at (items_taken d) place item start.item is start.there)
           (pick-below (length (contents_of item)) n offset at)) refl refl (inl (refl, refl));
       refused = good.refused;
     }
 
 -- the disk fails at such an item, and the end closes
-pub good-failing : (place : ℕ) (offsets : List ℕ) (d : Inward) → is_pending_at d place ≡ true → has_earlier d place ≡ false → IsGood d
+pub good-failing : (place : ℕ) (offsets : List ℕ) (d : SecondaryConnection) → is_pending_at d place ≡ true → has_earlier d place ≡ false → IsGood d
     → IsGood (failing place offsets d)
 good-failing place offsets d waiting none good = record {
   sound = sound-applying d (failing place offsets d) place (reached place offsets d) good.sound start (reached-inside place offsets d start.item start.there)

@@ -5,10 +5,10 @@ use Rattle.std.specs.List.{list_any, list_all}
 use Rattle.std.proofs.lemmas.Bool.{cases_Bool, and_parts, and_from, or_right, or_from, le-leb, leb-true}
 use Rattle.std.proofs.lemmas.List.Folds.{list_any-append}
 use Rattle.blocks.specs.declared.settings.Protocol.{Protocol}
-use Rattle.model.specs.Stream.{Item, is_whole, has_blocks, epoch_of, epoch_size, placed}
+use Rattle.model.specs.Stream.{StreamItem, is_whole, has_blocks, epoch_of, epoch_size, placed}
 use Rattle.model.specs.Frames.{Packet}
 use Rattle.model.specs.Primary.{is_barrier_ack}
-use Rattle.model.specs.Secondary.{Inward, items_taken, is_applied_to}
+use Rattle.model.specs.Secondary.{SecondaryConnection, items_taken, is_applied_to}
 use Rattle.model.specs.SecondarySteps.{barrier_answer, barriers_to_answer}
 use Rattle.laws.proofs.Rules.BarrierAnswers.{answered-now}
 use Rattle.laws.proofs.Secondary.Fits.{is_said, is_answered_to, FitsBarrier, said-grows, answered-grows}
@@ -22,11 +22,11 @@ all-implied p q (x ∷ xs) implied all =
     and_from (q x) (list_all q xs) (implied x parts.0) (all-implied p q xs implied parts.1)
 
 -- where all is applied up to an epoch, it is up to each earlier one
-applied-before : (d : Inward) (epoch later : ℕ) → epoch ≤ later → is_applied_to d later ≡ true → is_applied_to d epoch ≡ true
+applied-before : (d : SecondaryConnection) (epoch later : ℕ) → epoch ≤ later → is_applied_to d later ≡ true → is_applied_to d epoch ≡ true
 applied-before d epoch later before applied = all-implied (test later) (test epoch) (placed (items_taken d))
     (λ entry. weaker (epoch_of (items_taken d) entry.0) (has_blocks entry.1) (is_whole d.applied entry.0 entry.1)) applied
   where
-    test : ℕ → ℕ × Item → Bool
+    test : ℕ → ℕ × StreamItem → Bool
     test e entry = not (nat_le (epoch_of (items_taken d) entry.0) e && has_blocks entry.1) || is_whole d.applied entry.0 entry.1
 
     weaker : (at : ℕ) (blocks whole : Bool) → (not (nat_le at later && blocks) || whole) ≡ true → (not (nat_le at epoch && blocks) || whole) ≡ true
@@ -36,14 +36,15 @@ applied-before d epoch later before applied = all-implied (test later) (test epo
     ]
 
 -- what is said of the acknowledgements of some epochs
-said-of : (d : Inward) (epoch n : ℕ) (epochs : List ℕ)
+said-of : (d : SecondaryConnection) (epoch n : ℕ) (epochs : List ℕ)
     → is_said (is_barrier_ack epoch) (take n (map (barrier_answer d) epochs)) ≡ list_any (λ k. k == epoch) (take n epochs)
 said-of d epoch zero epochs = refl
 said-of d epoch (suc n) [] = refl
 said-of d epoch (suc n) (e ∷ epochs) = ap (λ b. (e == epoch) || b) (said-of d epoch n epochs)
 
 -- Each of the acknowledgements that become due in one step is in its turn.
-pub answers-fit : (asked : Protocol) (d : Inward) → ((place : ℕ) (item : Item) → slice_get (items_taken d) place ≡ Some item → has_blocks item ≡ true
+pub answers-fit : (asked : Protocol) (d : SecondaryConnection)
+    → ((place : ℕ) (item : StreamItem) → slice_get (items_taken d) place ≡ Some item → has_blocks item ≡ true
     → is_whole d.applied place item ≡ true → is_answered_to asked d.due place item ≡ true)
     → (n epoch : ℕ) → slice_get (barriers_to_answer d) n ≡ Some epoch
     → FitsBarrier asked (items_taken d) (d.due ++ take n (map (barrier_answer d) (barriers_to_answer d))) epoch (epoch_size (items_taken d) epoch)

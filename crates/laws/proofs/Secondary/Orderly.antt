@@ -9,10 +9,10 @@ use Rattle.blocks.specs.declared.settings.Protocol.{Protocol}
 use Rattle.blocks.specs.declared.settings.Protocol.TheVariants as protocol
 use Rattle.blocks.specs.declared.tuple.Tuple.{Tuple}
 use Rattle.model.specs.Contents.{BlockMap, Write}
-use Rattle.model.specs.Stream.{Item, WriteItem, Part, is_whole, has_blocks}
+use Rattle.model.specs.Stream.{StreamItem, WriteItem, Part, is_whole, has_blocks}
 use Rattle.model.specs.Frames.{Packet, RecvAckFrame, WriteAckFrame, RsWriteAckFrame, Acknowledged, Received, naming}
 use Rattle.model.specs.Primary.{same_naming, is_recv_ack, is_write_ack, is_rs_write_ack}
-use Rattle.model.specs.Secondary.{Inward, items_taken, new_inward}
+use Rattle.model.specs.Secondary.{SecondaryConnection, items_taken, new_secondary_connection}
 use Rattle.model.specs.SecondarySteps.{answering, barrier_answer, barriers_to_answer, is_pending_at, has_earlier, offsets_at, failing}
 use Rattle.laws.proofs.Lists.Elements.{get-split}
 use Rattle.laws.proofs.Rules.DiskFaults.{reached, fault-applied}
@@ -25,17 +25,17 @@ use Rattle.laws.proofs.Secondary.InTurn.{answers-fit}
 use Rattle.laws.proofs.Rules.RefusedFrames.{refused_in}
 
 -- each acknowledgement that is due fits those that were due before it
-abbrev pub AllFit : Protocol → Inward → Type 0
+abbrev pub AllFit : Protocol → SecondaryConnection → Type 0
 AllFit asked d = (n : ℕ) (packet : Packet) → slice_get d.due n ≡ Some packet → Fits asked (items_taken d) d.applied (take n d.due) packet
 
 -- A connection whose acknowledgements fit. While it is open each write that was taken is acknowledged under B, and whatever is
 -- applied as the protocol asks.
-pub record IsOrderly (asked : Protocol) (d : Inward) : Type 0 where
+pub record IsOrderly (asked : Protocol) (d : SecondaryConnection) : Type 0 where
   pub good : IsGood d
   pub fits : AllFit asked d
   pub received : d.closed ≡ false → asked ≡ protocol.B → (place : ℕ) (write : Write) → slice_get (items_taken d) place ≡ Some (WriteItem write)
       → is_said (is_recv_ack (naming place (WriteItem write))) d.due ≡ true
-  pub applied : d.closed ≡ false → (place : ℕ) (item : Item) → slice_get (items_taken d) place ≡ Some item → has_blocks item ≡ true
+  pub applied : d.closed ≡ false → (place : ℕ) (item : StreamItem) → slice_get (items_taken d) place ≡ Some item → has_blocks item ≡ true
       → is_whole d.applied place item ≡ true → is_answered_to asked d.due place item ≡ true
 
 -- the acknowledgement in a packet that passes
@@ -57,7 +57,7 @@ said-resync of (RsWriteAckFrame ack) h = (ack, refl, h)
 said-resync of packet h = absurd (cc)
 
 -- more is taken, applied and due, and the new acknowledgements fit
-pub fits-change : (asked : Protocol) (d e : Inward) (items : List Item) (part : Part) (more : List Packet) → AllFit asked d
+pub fits-change : (asked : Protocol) (d e : SecondaryConnection) (items : List StreamItem) (part : Part) (more : List Packet) → AllFit asked d
     → items_taken e ≡ items_taken d ++ items → e.applied ≡ d.applied ++ part
     → e.due ≡ d.due ++ more → ((n : ℕ) (packet : Packet) → slice_get more n ≡ Some packet → Fits asked (items_taken e) e.applied (d.due ++ take n more) packet)
     → AllFit asked e
@@ -68,7 +68,7 @@ fits-change asked d e items part more fits taken applied due new n packet at =
           ∙ ap (take n) (sym due) in
           let grown = fits-grow asked (items_taken d) items d.applied part (take n d.due) packet (fits n packet old) in
           subst (λ (l : List Packet). Fits asked (items_taken e) e.applied l packet) front
-          (subst (λ (i : List Item). Fits asked i e.applied (take n d.due) packet) (sym taken)
+          (subst (λ (i : List StreamItem). Fits asked i e.applied (take n d.due) packet) (sym taken)
           (subst (λ (p : Part). Fits asked (items_taken d ++ items) p (take n d.due) packet) (sym applied) grown))
       | inr added ↦
           let front : d.due ++ take added.0 more ≡ take n e.due = sym (take-append-add d.due more added.0)
@@ -77,12 +77,12 @@ fits-change asked d e items part more fits taken applied due new n packet at =
     ]
 
 -- where none is new
-pub none-more : (asked : Protocol) (e : Inward) (front : List Packet) (n : ℕ) (packet : Packet) → slice_get [] n ≡ Some packet
+pub none-more : (asked : Protocol) (e : SecondaryConnection) (front : List Packet) (n : ℕ) (packet : Packet) → slice_get [] n ≡ Some packet
     → Fits asked (items_taken e) e.applied (front ++ take n []) packet
 none-more asked e front n packet at = absurd (cc)
 
 -- nothing taken or due is lost, and where the end is still open nothing more is taken or applied
-pub orderly-same : (asked : Protocol) (d e : Inward) (part : Part) → IsOrderly asked d → IsGood e → items_taken e ≡ items_taken d
+pub orderly-same : (asked : Protocol) (d e : SecondaryConnection) (part : Part) → IsOrderly asked d → IsGood e → items_taken e ≡ items_taken d
     → e.applied ≡ d.applied ++ part → e.due ≡ d.due
     → (e.closed ≡ true) ⊎ ((d.closed ≡ e.closed) × (part ≡ [])) → IsOrderly asked e
 orderly-same asked d e part o good taken applied due rest = record {
@@ -91,14 +91,14 @@ orderly-same asked d e part o good taken applied due rest = record {
   received = λ standing asks place write at. elim rest [
     | inl shut ↦ absurd (both_ways e.closed standing shut)
     | inr same ↦ subst (λ (l : List Packet). is_said (is_recv_ack (naming place (WriteItem write))) l ≡ true) (sym due)
-        (o.received (same.0 ∙ standing) asks place write (subst (λ (l : List Item). slice_get l place ≡ Some (WriteItem write)) taken at))
+        (o.received (same.0 ∙ standing) asks place write (subst (λ (l : List StreamItem). slice_get l place ≡ Some (WriteItem write)) taken at))
   ];
   applied = λ standing place item at blocks whole. elim rest [
     | inl shut ↦ absurd (both_ways e.closed standing shut)
     | inr same ↦
         let part_same : e.applied ≡ d.applied = applied ∙ (ap (λ (p : Part). d.applied ++ p) same.1 ∙ append-nil d.applied) in
         subst (λ (l : List Packet). is_answered_to asked l place item ≡ true) (sym due)
-        (o.applied (same.0 ∙ standing) place item (subst (λ (l : List Item). slice_get l place ≡ Some item) taken at) blocks
+        (o.applied (same.0 ∙ standing) place item (subst (λ (l : List StreamItem). slice_get l place ≡ Some item) taken at) blocks
         (subst (λ (p : Part). is_whole p place item ≡ true) part_same whole))
   ];
 }
@@ -107,7 +107,7 @@ orderly-same asked d e part o good taken applied due rest = record {
 
 -- a new connection owes nothing
 pub orderly-new : (asked : Protocol) (number : ℕ) (disk : BlockMap) (hello : Tuple)
-    → IsOrderly asked (new_inward number disk hello)
+    → IsOrderly asked (new_secondary_connection number disk hello)
 orderly-new asked number disk hello = record {
   good = good-new number disk hello;
   fits = λ n packet at. absurd (cc);
@@ -116,14 +116,14 @@ orderly-new asked number disk hello = record {
 }
 
 -- the barriers that are applied are answered
-pub orderly-answering : (asked : Protocol) (d : Inward) → IsOrderly asked d → IsOrderly asked (answering d)
+pub orderly-answering : (asked : Protocol) (d : SecondaryConnection) → IsOrderly asked d → IsOrderly asked (answering d)
 orderly-answering asked d o = go d.closed refl
   where
     more : List Packet
     more = map (barrier_answer d) (barriers_to_answer d)
 
     go : (b : Bool) → d.closed ≡ b → IsOrderly asked
-        (elim b as (λ _. Inward) [ true ↦ d | false ↦ record d { due = d.due ++ map (barrier_answer d) (barriers_to_answer d) } ])
+        (elim b as (λ _. SecondaryConnection) [ true ↦ d | false ↦ record d { due = d.due ++ map (barrier_answer d) (barriers_to_answer d) } ])
     go true is = o
     go false is = record {
       good = good-due d (d.due ++ more) o.good;
@@ -136,29 +136,29 @@ orderly-answering asked d o = go d.closed refl
     }
 
 -- the end pushes an acknowledgement
-pub orderly-pushing : (asked : Protocol) (d : Inward) → IsOrderly asked d → IsOrderly asked (pushed_one d)
+pub orderly-pushing : (asked : Protocol) (d : SecondaryConnection) → IsOrderly asked d → IsOrderly asked (pushed_one d)
 orderly-pushing asked d o =
     orderly-same asked d (pushed_one d) [] o (record { sound = sound-same d (pushed_one d) o.good.sound refl refl refl (λ c. c); refused = o.good.refused })
     refl (sym (append-nil d.applied)) refl (inr (refl, refl))
 
 -- the end closes
-pub orderly-closing : (asked : Protocol) (d : Inward) → IsOrderly asked d → IsOrderly asked (closed_end d)
+pub orderly-closing : (asked : Protocol) (d : SecondaryConnection) → IsOrderly asked d → IsOrderly asked (closed_end d)
 orderly-closing asked d o =
     orderly-same asked d (closed_end d) [] o (record { sound = sound-same d (closed_end d) o.good.sound refl refl refl (λ c. refl); refused = λ r. refl }) refl
     (sym (append-nil d.applied)) refl (inl refl)
 
 -- an item fails, and the end closes
-pub orderly-failing : (asked : Protocol) (place : ℕ) (offsets : List ℕ) (d : Inward) → is_pending_at d place ≡ true → has_earlier d place ≡ false
+pub orderly-failing : (asked : Protocol) (place : ℕ) (offsets : List ℕ) (d : SecondaryConnection) → is_pending_at d place ≡ true → has_earlier d place ≡ false
     → IsOrderly asked d → IsOrderly asked (failing place offsets d)
 orderly-failing asked place offsets d waiting none o = orderly-same asked d (failing place offsets d) (offsets_at place (reached place offsets d)) o
     (good-failing place offsets d waiting none o.good) refl (fault-applied place offsets d) refl (inl refl)
 
 -- the end is open, so nothing was refused
-pub plain : (d : Inward) → IsGood d → d.closed ≡ false → d.refused ≡ false
+pub plain : (d : SecondaryConnection) → IsGood d → d.closed ≡ false → d.refused ≡ false
 plain d good standing = elim (cases_Bool d.refused) [ inl was ↦ absurd (both_ways d.closed standing (good.refused was)) | inr not_so ↦ not_so ]
 
 -- a frame is refused, and the end closes
-pub orderly-refusing : (asked : Protocol) (frame : Received) (d : Inward) → d.closed ≡ false → IsOrderly asked d
+pub orderly-refusing : (asked : Protocol) (frame : Received) (d : SecondaryConnection) → d.closed ≡ false → IsOrderly asked d
     → IsOrderly asked (refused_in frame d)
 orderly-refusing asked frame d standing o =
     orderly-same asked d (refused_in frame d) [] o (good-refusing frame d standing o.good) (items-refusing frame d (plain d o.good standing))

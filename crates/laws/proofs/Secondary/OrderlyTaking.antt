@@ -12,10 +12,10 @@ use Rattle.std.proofs.lemmas.Option.{slice_get_within}
 use Rattle.blocks.specs.declared.settings.Protocol.{Protocol}
 use Rattle.blocks.specs.declared.settings.Protocol.TheVariants as protocol
 use Rattle.model.specs.Contents.{Write}
-use Rattle.model.specs.Stream.{Item, WriteItem, ResyncItem, BarrierItem, SyncUuidItem, UuidsItem, Part, is_in, is_whole, has_blocks, below, contents_of}
+use Rattle.model.specs.Stream.{StreamItem, WriteItem, ResyncItem, BarrierItem, SyncUuidItem, UuidsItem, Part, is_in, is_whole, has_blocks, below, contents_of}
 use Rattle.model.specs.Frames.{Packet, DataFrame, RecvAckFrame, WriteAckFrame, RsWriteAckFrame, Received, naming}
 use Rattle.model.specs.Primary.{is_recv_ack, is_write_ack, is_rs_write_ack}
-use Rattle.model.specs.Secondary.{Inward, items_taken, received_item}
+use Rattle.model.specs.Secondary.{SecondaryConnection, items_taken, received_item}
 use Rattle.model.specs.SecondarySteps.{is_pending_at, has_earlier, offsets_at, applied_answer, applying, applied_with}
 use Rattle.laws.proofs.Lists.Elements.{get-more, get-end, same-at}
 use Rattle.laws.proofs.Lists.Picks.{pick-any}
@@ -30,9 +30,9 @@ use Rattle.laws.proofs.Secondary.Orderly.{AllFit, IsOrderly, said-recv, said-wri
 use Rattle.laws.proofs.Secondary.Tuples.{taken-item}
 
 -- A frame more brings its item at the next place, or none.
-takes-one : (frame : Received) (d : Inward) → d.refused ≡ false
+takes-one : (frame : Received) (d : SecondaryConnection) → d.refused ≡ false
     → (items_taken (framed frame d) ≡ items_taken d)
-    ⊎ ((item : Item) × (received_item frame ≡ Some item) × (items_taken (framed frame d) ≡ items_taken d ++ item ∷ []))
+    ⊎ ((item : StreamItem) × (received_item frame ≡ Some item) × (items_taken (framed frame d) ≡ items_taken d ++ item ∷ []))
 takes-one frame d accepted = elim (cases_Bool (nat_lt (length d.taken) 3)) [
   | inl early ↦ inl (new ∙ (few d.taken (ltb-true (length d.taken) 3 early) ∙ sym old))
   | inr late ↦ behind (received_item frame) refl (ltb-false (length d.taken) 3 late)
@@ -51,27 +51,28 @@ takes-one frame d accepted = elim (cases_Bool (nat_lt (length d.taken) 3)) [
     few (a ∷ b ∷ []) less = refl
     few (a ∷ b ∷ c ∷ taken) less = absurd (omega arith)
 
-    go : (v : Option Item) → received_item frame ≡ v → items_taken (framed frame d) ≡ items_taken d ++ cons_option v []
+    go : (v : Option StreamItem) → received_item frame ≡ v → items_taken (framed frame d) ≡ items_taken d ++ cons_option v []
         → (items_taken (framed frame d) ≡ items_taken d)
-        ⊎ ((item : Item) × (received_item frame ≡ Some item) × (items_taken (framed frame d) ≡ items_taken d ++ item ∷ []))
+        ⊎ ((item : StreamItem) × (received_item frame ≡ Some item) × (items_taken (framed frame d) ≡ items_taken d ++ item ∷ []))
     go None is all = inl (all ∙ append-nil (items_taken d))
     go (Some item) is all = inr (item, is, all)
 
-    behind : (v : Option Item) → received_item frame ≡ v → 3 ≤ length d.taken
+    behind : (v : Option StreamItem) → received_item frame ≡ v → 3 ≤ length d.taken
         → (items_taken (framed frame d) ≡ items_taken d)
-        ⊎ ((item : Item) × (received_item frame ≡ Some item) × (items_taken (framed frame d) ≡ items_taken d ++ item ∷ []))
+        ⊎ ((item : StreamItem) × (received_item frame ≡ Some item) × (items_taken (framed frame d) ≡ items_taken d ++ item ∷ []))
     behind v is late = go v is (new
         ∙ (ap (filter_map received_item) (drop-append-le 3 d.taken (frame ∷ []) late) ∙ (filter_map-append received_item (drop 3 d.taken) (frame ∷ [])
-        ∙ (ap (λ (l : List Item). l ++ cons_option (received_item frame) []) (sym old) ∙ ap (λ (w : Option Item). items_taken d ++ cons_option w []) is))))
+        ∙ (ap (λ (l : List StreamItem). l ++ cons_option (received_item frame) []) (sym old)
+        ∙ ap (λ (w : Option StreamItem). items_taken d ++ cons_option w []) is))))
 
 -- what is applied was taken
-applied-within : (d : Inward) → IsGood d → (place : ℕ) (item : Item) → has_blocks item ≡ true → is_whole d.applied place item ≡ true
+applied-within : (d : SecondaryConnection) → IsGood d → (place : ℕ) (item : StreamItem) → has_blocks item ≡ true → is_whole d.applied place item ≡ true
     → place < length (items_taken d)
 applied-within d good place item blocks whole =
     good.sound.within place 0 (whole-has d.applied place 0 item whole (ltb-true 0 (length (contents_of item)) blocks))
 
 -- an item more was taken, which is not applied; a write under B is acknowledged with it
-takes-item : (asked : Protocol) (d e : Inward) (item : Item) (more : List Packet) → IsOrderly asked d → IsGood e → d.closed ≡ false
+takes-item : (asked : Protocol) (d e : SecondaryConnection) (item : StreamItem) (more : List Packet) → IsOrderly asked d → IsGood e → d.closed ≡ false
     → items_taken e ≡ items_taken d ++ item ∷ [] → e.applied ≡ d.applied
     → e.due ≡ d.due ++ more → AllFit asked e
     → ((write : Write) → item ≡ WriteItem write → asked ≡ protocol.B → is_said (is_recv_ack (naming (length (items_taken d)) (WriteItem write))) e.due ≡ true)
@@ -80,14 +81,14 @@ takes-item asked d e item more o good standing taken applied due fits new = reco
   good = good;
   fits = fits;
   received = λ still asks place write at. elim
-      (get-more (items_taken d) item place (WriteItem write) (subst (λ (l : List Item). slice_get l place ≡ Some (WriteItem write)) taken at)) [
+      (get-more (items_taken d) item place (WriteItem write) (subst (λ (l : List StreamItem). slice_get l place ≡ Some (WriteItem write)) taken at)) [
         | inl old ↦ subst (λ (l : List Packet). is_said (is_recv_ack (naming place (WriteItem write))) l ≡ true) (sym due)
             (said-grows (is_recv_ack (naming place (WriteItem write))) d.due more (o.received standing asks place write old))
         | inr added ↦ subst (λ (n : ℕ). is_said (is_recv_ack (naming n (WriteItem write))) e.due ≡ true) (sym added.0) (new write (sym added.1) asks)
       ];
   applied = λ still place x at blocks whole.
       let was : is_whole d.applied place x ≡ true = subst (λ (p : Part). is_whole p place x ≡ true) applied whole in
-      elim (get-more (items_taken d) item place x (subst (λ (l : List Item). slice_get l place ≡ Some x) taken at)) [
+      elim (get-more (items_taken d) item place x (subst (λ (l : List StreamItem). slice_get l place ≡ Some x) taken at)) [
         | inl old ↦ subst (λ (l : List Packet). is_answered_to asked l place x ≡ true) (sym due)
             (answered-grows asked d.due more place x (o.applied standing place x old blocks was))
         | inr added ↦ absurd (let within = applied-within d o.good place x blocks was in let end = added.0 in omega arith)
@@ -95,7 +96,7 @@ takes-item asked d e item more o good standing taken applied due fits new = reco
 }
 
 -- A frame is taken that is no write under B.
-pub orderly-taking : (asked : Protocol) (frame : Received) (d : Inward) → d.closed ≡ false
+pub orderly-taking : (asked : Protocol) (frame : Received) (d : SecondaryConnection) → d.closed ≡ false
     → ((write : Write) → received_item frame ≡ Some (WriteItem write) → asked ≡ protocol.B → ⊥) → IsOrderly asked d → IsOrderly asked (framed frame d)
 orderly-taking asked frame d standing other o =
     let good = good-taking frame d standing o.good in
@@ -105,18 +106,19 @@ orderly-taking asked frame d standing other o =
         fits = fits-change asked d (framed frame d) [] [] [] o.fits (none ∙ sym (append-nil (items_taken d))) (sym (append-nil d.applied))
             (sym (append-nil d.due)) (none-more asked (framed frame d) d.due);
         received = λ still asks place write at. o.received standing asks place write
-            (subst (λ (l : List Item). slice_get l place ≡ Some (WriteItem write)) none at);
-        applied = λ still place item at blocks whole. o.applied standing place item (subst (λ (l : List Item). slice_get l place ≡ Some item) none at) blocks
+            (subst (λ (l : List StreamItem). slice_get l place ≡ Some (WriteItem write)) none at);
+        applied = λ still place item at blocks whole. o.applied standing place item (subst (λ (l : List StreamItem). slice_get l place ≡ Some item) none at)
+            blocks
             whole;
       }
       | inr one ↦ takes-item asked d (framed frame d) one.0 [] o good standing one.2 refl (sym (append-nil d.due))
           (fits-change asked d (framed frame d) (one.0 ∷ []) [] [] o.fits one.2 (sym (append-nil d.applied)) (sym (append-nil d.due))
           (none-more asked (framed frame d) d.due))
-          (λ write is asks. absurd (other write (one.1 ∙ ap (λ (i : Item). Some i) is) asks))
+          (λ write is asks. absurd (other write (one.1 ∙ ap (λ (i : StreamItem). Some i) is) asks))
     ]
 
 -- no acknowledgement of a place is due that was not taken
-not-received : (asked : Protocol) (d : Inward) (write : Write) → AllFit asked d
+not-received : (asked : Protocol) (d : SecondaryConnection) (write : Write) → AllFit asked d
     → is_said (is_recv_ack (naming (length (items_taken d)) (WriteItem write))) d.due ≡ false
 not-received asked d write fits = false_from_ne_true _ (λ said.
     let found = pick-any (λ packet. is_recv_ack (naming (length (items_taken d)) (WriteItem write)) (Ok packet)) d.due said in
@@ -128,7 +130,8 @@ not-received asked d write fits = false_from_ne_true _ (λ said.
     omega arith)
 
 -- Under B a write is taken, and acknowledged at once.
-pub orderly-receipting : (asked : Protocol) (write : Write) (at : ℕ) (d : Inward) → d.closed ≡ false → nat_lt (length d.taken) 3 ≡ false → asked ≡ protocol.B
+pub orderly-receipting : (asked : Protocol) (write : Write) (at : ℕ) (d : SecondaryConnection) → d.closed ≡ false → nat_lt (length d.taken) 3 ≡ false
+    → asked ≡ protocol.B
     → IsOrderly asked d
     → IsOrderly asked (receipting (length (items_taken d)) write (framed (Ok (DataFrame write at)) d))
 orderly-receipting asked write at d standing late asks o = takes-item asked d e (WriteItem write) (ack ∷ []) o
@@ -146,7 +149,7 @@ orderly-receipting asked write at d standing late asks o = takes-item asked d e 
     ack : Packet
     ack = RecvAckFrame (naming (length (items_taken d)) (WriteItem write))
 
-    e : Inward
+    e : SecondaryConnection
     e = receipting (length (items_taken d)) write (framed (Ok (DataFrame write at)) d)
 
     taken : items_taken (framed (Ok (DataFrame write at)) d) ≡ items_taken d ++ WriteItem write ∷ []
@@ -168,7 +171,7 @@ orderly-receipting asked write at d standing late asks o = takes-item asked d e 
         record {
           protocol = asks;
           write = write;
-          there = ap (λ (l : List Item). slice_get l (length (items_taken d))) taken ∙ get-end (items_taken d) (WriteItem write);
+          there = ap (λ (l : List StreamItem). slice_get l (length (items_taken d))) taken ∙ get-end (items_taken d) (WriteItem write);
           names = refl;
           first = ap (is_said (is_recv_ack (naming (length (items_taken d)) (WriteItem write)))) (append-nil d.due) ∙ not-received asked d write o.fits;
         } in
@@ -178,7 +181,7 @@ orderly-receipting asked write at d standing late asks o = takes-item asked d e 
 -- Applying an item.
 
 -- an item that was not whole is so where another one is applied only if it was before
-whole-elsewhere : (before : Part) (place other : ℕ) (offsets : List ℕ) (item : Item) → (place ≡ other → ⊥)
+whole-elsewhere : (before : Part) (place other : ℕ) (offsets : List ℕ) (item : StreamItem) → (place ≡ other → ⊥)
     → is_whole (before ++ offsets_at place offsets) other item ≡ true → is_whole before other item ≡ true
 whole-elsewhere before place other offsets item apart whole = whole-from before other item (λ offset less.
     elim (or_cases (is_in before other offset) (is_in (offsets_at place offsets) other offset) (sym (in-append before (offsets_at place offsets) other offset)
@@ -188,7 +191,8 @@ whole-elsewhere before place other offsets item apart whole = whole-from before 
     ])
 
 -- no acknowledgement is due of a write that is not applied
-not-written : (asked : Protocol) (d : Inward) (place : ℕ) (write : Write) → AllFit asked d → slice_get (items_taken d) place ≡ Some (WriteItem write)
+not-written : (asked : Protocol) (d : SecondaryConnection) (place : ℕ) (write : Write) → AllFit asked d
+    → slice_get (items_taken d) place ≡ Some (WriteItem write)
     → is_whole d.applied place (WriteItem write) ≡ false
     → is_said (is_write_ack (naming place (WriteItem write))) d.due ≡ false
 not-written asked d place write fits at unfinished = false_from_ne_true _ (λ said.
@@ -200,10 +204,10 @@ not-written asked d place write fits at unfinished = false_from_ne_true _ (λ sa
     let item : WriteItem fit.write ≡ WriteItem write = same-at (items_taken d) place (WriteItem fit.write) (WriteItem write)
     (subst (λ n. slice_get (items_taken d) n ≡ Some (WriteItem fit.write)) (sym same) fit.there) at in
     both_ways (is_whole d.applied place (WriteItem write)) unfinished
-    (subst (λ (i : Item). is_whole d.applied place i ≡ true) item (subst (λ n. is_whole d.applied n (WriteItem fit.write) ≡ true) (sym same) fit.whole)))
+    (subst (λ (i : StreamItem). is_whole d.applied place i ≡ true) item (subst (λ n. is_whole d.applied n (WriteItem fit.write) ≡ true) (sym same) fit.whole)))
 
 -- nor of a resync block
-not-resynced : (asked : Protocol) (d : Inward) (place block : ℕ) (contents : List ℕ) → AllFit asked d
+not-resynced : (asked : Protocol) (d : SecondaryConnection) (place block : ℕ) (contents : List ℕ) → AllFit asked d
     → slice_get (items_taken d) place ≡ Some (ResyncItem block contents) → is_whole d.applied place (ResyncItem block contents) ≡ false
     → is_said (is_rs_write_ack (naming place (ResyncItem block contents))) d.due ≡ false
 not-resynced asked d place block contents fits at unfinished = false_from_ne_true _ (λ said.
@@ -211,15 +215,16 @@ not-resynced asked d place block contents fits at unfinished = false_from_ne_tru
     let ack = said-resync (naming place (ResyncItem block contents)) found.1 found.3 in
     let fit : FitsResynced (items_taken d) d.applied (take found.0 d.due) ack.0 = subst (Fits asked (items_taken d) d.applied (take found.0 d.due)) ack.1
     (fits found.0 found.1 found.2) in
-    let old : Item = ResyncItem fit.block fit.contents in
+    let old : StreamItem = ResyncItem fit.block fit.contents in
     let same : place ≡ ack.0.place = same-place (naming place (ResyncItem block contents)) ack.0 ack.2 in
     let item : old ≡ ResyncItem block contents = same-at (items_taken d) place old (ResyncItem block contents)
     (subst (λ n. slice_get (items_taken d) n ≡ Some old) (sym same) fit.there) at in
     both_ways (is_whole d.applied place (ResyncItem block contents)) unfinished
-    (subst (λ (i : Item). is_whole d.applied place i ≡ true) item (subst (λ n. is_whole d.applied n old ≡ true) (sym same) fit.whole)))
+    (subst (λ (i : StreamItem). is_whole d.applied place i ≡ true) item (subst (λ n. is_whole d.applied n old ≡ true) (sym same) fit.whole)))
 
 -- what applying an item answers fits
-answer-fits : (asked : Protocol) (d : Inward) (place : ℕ) (item : Item) (part : Part) → AllFit asked d → slice_get (items_taken d) place ≡ Some item
+answer-fits : (asked : Protocol) (d : SecondaryConnection) (place : ℕ) (item : StreamItem) (part : Part) → AllFit asked d
+    → slice_get (items_taken d) place ≡ Some item
     → is_whole d.applied place item ≡ false → is_whole part place item ≡ true
     → (n : ℕ) (packet : Packet) → slice_get (applied_answer asked place item) n ≡ Some packet
     → Fits asked (items_taken d) part (d.due ++ take n (applied_answer asked place item)) packet
@@ -255,7 +260,7 @@ answer-fits asked d place (SyncUuidItem word) part fits at unfinished whole n pa
 answer-fits asked d place (UuidsItem tuple) part fits at unfinished whole n packet there = absurd (cc)
 
 -- and it is what the protocol asks, where a write under B is acknowledged already
-answers-it : (asked : Protocol) (due : List Packet) (place : ℕ) (item : Item)
+answers-it : (asked : Protocol) (due : List Packet) (place : ℕ) (item : StreamItem)
     → ((write : Write) → item ≡ WriteItem write → asked ≡ protocol.B → is_said (is_recv_ack (naming place (WriteItem write))) due ≡ true)
     → is_answered_to asked (due ++ applied_answer asked place item) place item ≡ true
 answers-it protocol.A due place (WriteItem write) before = refl
@@ -273,7 +278,7 @@ answers-it asked due place (SyncUuidItem word) before = refl
 answers-it asked due place (UuidsItem tuple) before = refl
 
 -- A pending item is applied whose epoch has its turn.
-pub orderly-applying : (asked : Protocol) (place : ℕ) (d : Inward) → is_pending_at d place ≡ true → has_earlier d place ≡ false → IsOrderly asked d
+pub orderly-applying : (asked : Protocol) (place : ℕ) (d : SecondaryConnection) → is_pending_at d place ≡ true → has_earlier d place ≡ false → IsOrderly asked d
     → IsOrderly asked (applying asked place d)
 orderly-applying asked place d waiting none o = go (slice_get (items_taken d) place) refl (good-applying asked place d waiting none o.good)
   where
@@ -282,12 +287,12 @@ orderly-applying asked place d waiting none o = go (slice_get (items_taken d) pl
 
     unfinished : is_whole d.applied place (starting d place o.good.sound waiting none).item ≡ false
     unfinished =
-        let item : Item = (starting d place o.good.sound waiting none).item in
+        let item : StreamItem = (starting d place o.good.sound waiting none).item in
         not-true (is_whole d.applied place item)
         (and_parts (has_blocks item) (not (is_whole d.applied place item))
         (and_parts (has_blocks item && not (is_whole d.applied place item)) _ (starting d place o.good.sound waiting none).waits).0).1
 
-    go : (v : Option Item) → slice_get (items_taken d) place ≡ v
+    go : (v : Option StreamItem) → slice_get (items_taken d) place ≡ v
         → IsGood (applied_with v asked place d)
         → IsOrderly asked (applied_with v asked place d)
     go None is good = o
@@ -314,7 +319,7 @@ orderly-applying asked place d waiting none o = go (slice_get (items_taken d) pl
             due = d.due ++ applied_answer asked place item;
           }) [] part (applied_answer asked place item) o.fits (sym (append-nil (items_taken d))) refl refl
               (answer-fits asked d place item (d.applied ++ part) o.fits is
-              (subst (λ (i : Item). is_whole d.applied place i ≡ false) (same-at (items_taken d) place started.item item started.there is) unfinished)
+              (subst (λ (i : StreamItem). is_whole d.applied place i ≡ false) (same-at (items_taken d) place started.item item started.there is) unfinished)
               (applied-now d.applied place item));
           received = λ still asks other write at. said-grows (is_recv_ack (naming other (WriteItem write))) d.due (applied_answer asked place item)
               (o.received standing asks other write at);
@@ -324,8 +329,9 @@ orderly-applying asked place d waiting none o = go (slice_get (items_taken d) pl
                 let there : slice_get (items_taken d) place ≡ Some x = subst (λ n. slice_get (items_taken d) n ≡ Some x) (sym here) at in
                 let is_it : item ≡ x = same-at (items_taken d) place item x is there in
                 subst (λ n. is_answered_to asked (d.due ++ applied_answer asked place item) n x ≡ true) here
-                (subst (λ (i : Item). is_answered_to asked (d.due ++ applied_answer asked place item) place i ≡ true) is_it
-                (answers-it asked d.due place item (λ write is_write asks. o.received standing asks place write (is ∙ ap (λ (i : Item). Some i) is_write))))
+                (subst (λ (i : StreamItem). is_answered_to asked (d.due ++ applied_answer asked place item) place i ≡ true) is_it
+                (answers-it asked d.due place item (λ write is_write asks. o.received standing asks place write (is
+                ∙ ap (λ (i : StreamItem). Some i) is_write))))
             | inr apart ↦ answered-grows asked d.due (applied_answer asked place item) other x
                 (o.applied standing other x at blocks
                 (whole-elsewhere d.applied place other (below (length (contents_of item))) x

@@ -10,11 +10,12 @@ use Rattle.blocks.specs.declared.settings.Protocol.{Protocol}
 use Rattle.blocks.specs.declared.settings.Protocol.TheVariants as protocol
 use Rattle.blocks.specs.declared.tuple.Tuple.{Tuple}
 use Rattle.model.specs.Contents.{BlockMap}
-use Rattle.model.specs.Stream.{Item, WriteItem}
+use Rattle.model.specs.Stream.{StreamItem, WriteItem}
 use Rattle.model.specs.Frames.{Packet, DataFrame, RsDataReplyFrame, BarrierFrame, ProtocolFrame, UuidsFrame, SizesFrame, SyncUuidFrame, RecvAckFrame}
 use Rattle.model.specs.Frames.{WriteAckFrame, RsWriteAckFrame, BarrierAckFrame, Received, naming}
 use Rattle.model.specs.Refusals.{Test, first_refusal, done_with}
-use Rattle.model.specs.Secondary.{Inward, SecondaryHistory, secondary_opening, no_inward, inward, with_inward, items_taken, secondary_map}
+use Rattle.model.specs.Secondary.{SecondaryConnection, SecondaryHistory, secondary_opening, no_secondary_connection, secondary_connection}
+use Rattle.model.specs.Secondary.{with_secondary_connection, items_taken, secondary_map}
 use Rattle.model.specs.SecondarySteps.{answering, succeeding_secondary, tested_secondary, open_secondary_tests, opened_secondary, open_secondary, Checked}
 use Rattle.model.specs.SecondarySteps.{checking_hello, checking_item, checking, adopting, receiving, take_item, receive, peer_tests, is_pending_at, has_earlier}
 use Rattle.model.specs.SecondarySteps.{applying, peer, failing, peer_fault, ack_out_tests, answering_with, ack_out, close_secondary}
@@ -52,15 +53,16 @@ tested-keeps P h tests done same new = go (first_refusal tests) refl
     go None is = new is
 
 -- A change of the last connection that keeps it good keeps the history.
-kept-change : (f : Inward → Inward) (h : SecondaryHistory) → IsKept h → ((d : Inward) (block : ℕ) → (f d).base block ≡ d.base block)
-    → (IsGood (inward h) → IsGood (f (inward h))) → IsKept (with_inward f h)
+kept-change : (f : SecondaryConnection → SecondaryConnection) (h : SecondaryHistory) → IsKept h
+    → ((d : SecondaryConnection) (block : ℕ) → (f d).base block ≡ d.base block)
+    → (IsGood (secondary_connection h) → IsGood (f (secondary_connection h))) → IsKept (with_secondary_connection f h)
 kept-change f h kept base good = record {
-  good = each-change IsGood f (no_inward h) h.connections kept.good good;
+  good = each-change IsGood f (no_secondary_connection h) h.connections kept.good good;
   chained = chained-change f base h.opening_map h.connections kept.chained;
 }
 
 kept-succeeding : (done : What) (h : SecondaryHistory) → IsKept h → IsKept (succeeding_secondary done h).1
-kept-succeeding done h kept = kept-change answering h kept base-answering (good-answering (inward h))
+kept-succeeding done h kept = kept-change answering h kept base-answering (good-answering (secondary_connection h))
 
 -- Open.
 
@@ -68,7 +70,7 @@ kept-open : (unseen : ℕ) (h : SecondaryHistory) → IsKept h → IsKept (open_
 kept-open unseen h kept = tested-keeps IsKept h (open_secondary_tests h) (λ _. succeeding_secondary what.Nothing (opened_secondary unseen h)) kept
     (λ passed. kept-succeeding what.Nothing (opened_secondary unseen h) (record {
       good = each-append IsGood h.connections _ kept.good (good-new _ (secondary_map h) h.tuple);
-      chained = chained-append h.opening_map h.connections _ kept.chained (λ block. last-disk (no_inward h) h.connections block);
+      chained = chained-append h.opening_map h.connections _ kept.chained (λ block. last-disk (no_secondary_connection h) h.connections block);
     }))
 
 -- The checks keep the history, but for the tuple and the acknowledgements due.
@@ -76,16 +78,16 @@ kept-open unseen h kept = tested-keeps IsKept h (open_secondary_tests h) (λ _. 
 kept-adopting : (tuple : Tuple) (consistent : Bool) (h : SecondaryHistory) → IsKept h → IsKept (adopting tuple consistent h)
 kept-adopting tuple consistent h kept = record { good = kept.good; chained = kept.chained }
 
-kept-receiving : (place : ℕ) (item : Item) (h : SecondaryHistory) → IsKept h → IsKept (receiving place item h)
+kept-receiving : (place : ℕ) (item : StreamItem) (h : SecondaryHistory) → IsKept h → IsKept (receiving place item h)
 kept-receiving place item h kept = go h.settings.protocol
   where
     go : (asked : Protocol) → IsKept
         (elim asked as (λ _. SecondaryHistory)
-        [ protocol.A ↦ h | protocol.B ↦ with_inward (λ c. record c { due = c.due ++ RecvAckFrame (naming place item) ∷ [] }) h | protocol.C ↦ h ])
+        [ protocol.A ↦ h | protocol.B ↦ with_secondary_connection (λ c. record c { due = c.due ++ RecvAckFrame (naming place item) ∷ [] }) h | protocol.C ↦ h ])
     go protocol.A = kept
     go protocol.B =
         kept-change (λ c. record c { due = c.due ++ RecvAckFrame (naming place item) ∷ [] }) h kept (λ d block. refl)
-        (λ good. good-due (inward h) ((inward h).due ++ RecvAckFrame (naming place item) ∷ []) good)
+        (λ good. good-due (secondary_connection h) ((secondary_connection h).due ++ RecvAckFrame (naming place item) ∷ []) good)
     go protocol.C = kept
 
 kept-if : (good : Bool) (done : What) (h : SecondaryHistory) (refusal : Refusal) (result : What × SecondaryHistory) → IsKept h
@@ -129,7 +131,7 @@ kept-hello (suc (suc n)) (WriteAckFrame ack) h result kept is = absurd (cc)
 kept-hello (suc (suc n)) (RsWriteAckFrame ack) h result kept is = absurd (cc)
 kept-hello (suc (suc n)) (BarrierAckFrame number size) h result kept is = absurd (cc)
 
-kept-item : (packet : Packet) (place : ℕ) (c : Inward) (h : SecondaryHistory) (result : What × SecondaryHistory) → IsKept h
+kept-item : (packet : Packet) (place : ℕ) (c : SecondaryConnection) (h : SecondaryHistory) (result : What × SecondaryHistory) → IsKept h
     → checking_item packet place c h ≡ Ok result → IsKept result.1
 kept-item (DataFrame write at) place c h result kept is = kept-if _ _ (receiving place (WriteItem write) h) _ result
     (kept-receiving place (WriteItem write) h kept) is
@@ -145,7 +147,8 @@ kept-item (WriteAckFrame ack) place c h result kept is = absurd (cc)
 kept-item (RsWriteAckFrame ack) place c h result kept is = absurd (cc)
 kept-item (BarrierAckFrame number size) place c h result kept is = absurd (cc)
 
-kept-checking : (frame : Received) (c : Inward) (h : SecondaryHistory) (result : What × SecondaryHistory) → IsKept h → checking frame c h ≡ Ok result
+kept-checking : (frame : Received) (c : SecondaryConnection) (h : SecondaryHistory) (result : What × SecondaryHistory) → IsKept h
+    → checking frame c h ≡ Ok result
     → IsKept result.1
 kept-checking (Err fault) c h result kept is = absurd (cc)
 kept-checking (Ok packet) c h result kept is = go (nat_lt (length c.taken) 3) is
@@ -156,69 +159,76 @@ kept-checking (Ok packet) c h result kept is = go (nat_lt (length c.taken) 3) is
     go true is = kept-hello (length c.taken) packet h result kept is
     go false is = kept-item packet (length (items_taken c)) c h result kept is
 
-kept-take : (frame : Received) (h : SecondaryHistory) → (inward h).closed ≡ false → IsKept h → IsKept (take_item frame h).1
-kept-take frame h standing kept = item-has (λ r. IsKept r.1) (λ v. checking frame (inward h) taken ≡ v) frame h refl
-    (λ done is. kept-succeeding done.0 done.1 (kept-checking frame (inward h) _ done kept-taken is)) (λ refusal is. record {
+kept-take : (frame : Received) (h : SecondaryHistory) → (secondary_connection h).closed ≡ false → IsKept h → IsKept (take_item frame h).1
+kept-take frame h standing kept = item-has (λ r. IsKept r.1) (λ v. checking frame (secondary_connection h) taken ≡ v) frame h refl
+    (λ done is. kept-succeeding done.0 done.1 (kept-checking frame (secondary_connection h) _ done kept-taken is)) (λ refusal is. record {
       good = subst (Each IsGood) (sym (refused-last-too frame h))
-          (each-change IsGood (refused_in frame) (no_inward h) h.connections kept.good (good-refusing frame (inward h) standing));
+          (each-change IsGood (refused_in frame) (no_secondary_connection h) h.connections kept.good (good-refusing frame (secondary_connection h) standing));
       chained = chained-change refused_end (λ d block. refl) h.opening_map _ kept-taken.chained;
     })
   where
     taken : SecondaryHistory
-    taken = with_inward (λ c. record c { taken = c.taken ++ frame ∷ [] }) h
+    taken = with_secondary_connection (λ c. record c { taken = c.taken ++ frame ∷ [] }) h
 
     kept-taken : IsKept taken
-    kept-taken = kept-change (λ c. record c { taken = c.taken ++ frame ∷ [] }) h kept (λ d block. refl) (good-taking frame (inward h) standing)
+    kept-taken = kept-change (λ c. record c { taken = c.taken ++ frame ∷ [] }) h kept (λ d block. refl) (good-taking frame (secondary_connection h) standing)
 
-kept-receive : (frame : Option Received) (starved : Bool) (h : SecondaryHistory) → IsKept h → IsKept (receive frame starved h).1
-kept-receive frame starved h kept =
-    receive-has (λ r. IsKept r.1) frame starved h (λ refusal other. kept) (λ taken is standing. kept-take taken h standing kept)
+kept-receive : (frame : Option Received) (out_of_memory : Bool) (h : SecondaryHistory) → IsKept h → IsKept (receive frame out_of_memory h).1
+kept-receive frame out_of_memory h kept =
+    receive-has (λ r. IsKept r.1) frame out_of_memory h (λ refusal other. kept) (λ taken is standing. kept-take taken h standing kept)
 
 -- The disk.
 
 kept-peer : (place : ℕ) (h : SecondaryHistory) → IsKept h → IsKept (peer place h).1
 kept-peer place h kept = tested-keeps IsKept h (peer_tests h place)
-    (λ _. succeeding_secondary what.Nothing (with_inward (applying h.settings.protocol place) h)) kept (λ passed.
-    let one = test-passed (not (is_pending_at (inward h) place)) UnknownJob ((has_earlier (inward h) place, EpochOpen) ∷ []) passed in
-    let two = test-passed (has_earlier (inward h) place) EpochOpen [] one.1 in
-    kept-succeeding what.Nothing (with_inward (applying h.settings.protocol place) h)
+    (λ _. succeeding_secondary what.Nothing (with_secondary_connection (applying h.settings.protocol place) h)) kept (λ passed.
+    let one = test-passed (not (is_pending_at (secondary_connection h) place)) UnknownJob ((has_earlier (secondary_connection h) place, EpochOpen) ∷ [])
+    passed in
+    let two = test-passed (has_earlier (secondary_connection h) place) EpochOpen [] one.1 in
+    kept-succeeding what.Nothing (with_secondary_connection (applying h.settings.protocol place) h)
     (kept-change (applying h.settings.protocol place) h kept (base-applying h.settings.protocol place)
-    (good-applying h.settings.protocol place (inward h) (not-false (is_pending_at (inward h) place) one.0) two.0)))
+    (good-applying h.settings.protocol place (secondary_connection h) (not-false (is_pending_at (secondary_connection h) place) one.0) two.0)))
 
 kept-fault : (place : ℕ) (offsets : List ℕ) (h : SecondaryHistory) → IsKept h → IsKept (peer_fault place offsets h).1
-kept-fault place offsets h kept = tested-keeps IsKept h (peer_tests h place) (λ _. (reply.Ok (done_with what.Nothing), with_inward (failing place offsets) h))
+kept-fault place offsets h kept = tested-keeps IsKept h (peer_tests h place)
+    (λ _. (reply.Ok (done_with what.Nothing), with_secondary_connection (failing place offsets) h))
     kept (λ passed.
-    let one = test-passed (not (is_pending_at (inward h) place)) UnknownJob ((has_earlier (inward h) place, EpochOpen) ∷ []) passed in
-    let two = test-passed (has_earlier (inward h) place) EpochOpen [] one.1 in
+    let one = test-passed (not (is_pending_at (secondary_connection h) place)) UnknownJob ((has_earlier (secondary_connection h) place, EpochOpen) ∷ [])
+    passed in
+    let two = test-passed (has_earlier (secondary_connection h) place) EpochOpen [] one.1 in
     kept-change (failing place offsets) h kept (λ d block. refl)
-    (good-failing place offsets (inward h) (not-false (is_pending_at (inward h) place) one.0) two.0))
+    (good-failing place offsets (secondary_connection h) (not-false (is_pending_at (secondary_connection h) place) one.0) two.0))
 
 -- Pushing and closing.
 
-kept-push : (room starved : Bool) (h : SecondaryHistory) → IsKept h → IsKept (ack_out room starved h).1
-kept-push room starved h kept = tested-keeps IsKept h (ack_out_tests h room starved)
-    (λ _. (reply.Ok (done_with (answering_with h)), with_inward (λ c. record c { pushed = suc c.pushed }) h)) kept (λ passed.
+kept-push : (room out_of_memory : Bool) (h : SecondaryHistory) → IsKept h → IsKept (ack_out room out_of_memory h).1
+kept-push room out_of_memory h kept = tested-keeps IsKept h (ack_out_tests h room out_of_memory)
+    (λ _. (reply.Ok (done_with (answering_with h)), with_secondary_connection (λ c. record c { pushed = suc c.pushed }) h)) kept (λ passed.
     kept-change (λ c. record c { pushed = suc c.pushed }) h kept (λ d block. refl)
     (λ good. record {
-      sound = sound-same (inward h) (record (inward h) { pushed = suc (inward h).pushed }) good.sound refl refl refl (λ c. c);
+      sound = sound-same (secondary_connection h) (record (secondary_connection h) { pushed = suc (secondary_connection h).pushed }) good.sound refl refl refl
+          (λ c. c);
       refused = good.refused;
     }))
 
 kept-close : (h : SecondaryHistory) → IsKept h → IsKept (close_secondary h).1
-kept-close h kept = tested-keeps IsKept h (((inward h).closed, NotConnected) ∷ [])
-    (λ _. (reply.Ok (done_with what.Nothing), with_inward (λ c. record c { closed = true }) h)) kept (λ passed.
+kept-close h kept = tested-keeps IsKept h (((secondary_connection h).closed, NotConnected) ∷ [])
+    (λ _. (reply.Ok (done_with what.Nothing), with_secondary_connection (λ c. record c { closed = true }) h)) kept (λ passed.
     kept-change (λ c. record c { closed = true }) h kept (λ d block. refl)
-    (λ good. record { sound = sound-same (inward h) (record (inward h) { closed = true }) good.sound refl refl refl (λ c. refl); refused = λ r. refl }))
+    (λ good. record {
+      sound = sound-same (secondary_connection h) (record (secondary_connection h) { closed = true }) good.sound refl refl refl (λ c. refl);
+      refused = λ r. refl;
+    }))
 
 -- Every step keeps it, and so does every run.
 
 -- every step keeps it
 pub kept-after : (event : SecondaryEvent) (h : SecondaryHistory) → IsKept h → IsKept (secondary_after event h)
 kept-after (OpensToo unseen) h kept = kept-open unseen h kept
-kept-after (Receives frame starved) h kept = kept-receive frame starved h kept
+kept-after (Receives frame out_of_memory) h kept = kept-receive frame out_of_memory h kept
 kept-after (Applies place) h kept = kept-peer place h kept
 kept-after (FailsToApply place offsets) h kept = kept-fault place offsets h kept
-kept-after (Acknowledges room starved) h kept = kept-push room starved h kept
+kept-after (Acknowledges room out_of_memory) h kept = kept-push room out_of_memory h kept
 kept-after ClosesToo h kept = kept-close h kept
 
 -- every run keeps it

@@ -6,8 +6,8 @@ use Rattle.std.proofs.lemmas.Bool.{leb-true, or_cases, and_parts, and_from, and_
 use Rattle.std.proofs.lemmas.Bool.{cases_lt}
 use Rattle.std.proofs.lemmas.List.{take-append-drop, length-append}
 use Rattle.std.proofs.lemmas.Option.{slice_get_within}
-use Rattle.model.specs.Stream.{Item, Part, is_in, is_whole, contents_of, has_blocks, epoch_of, last_epoch, barriers_in}
-use Rattle.model.specs.Secondary.{Inward, items_taken, is_pending}
+use Rattle.model.specs.Stream.{StreamItem, Part, is_in, is_whole, contents_of, has_blocks, epoch_of, last_epoch, barriers_in}
+use Rattle.model.specs.Secondary.{SecondaryConnection, items_taken, is_pending}
 use Rattle.model.specs.SecondarySteps.{offsets_at, is_pending_at, has_earlier, failing}
 use Rattle.laws.proofs.Rules.DiskFaults.{failing-pending}
 use Rattle.laws.proofs.Rules.DiskTurns.{none-earlier}
@@ -17,24 +17,25 @@ use Rattle.laws.proofs.Lists.Elements.{get-left}
 
 -- The part applied is closed at `epoch` and names blocks of what was taken; once an item failed or was dropped the end is closed,
 -- and nothing of a later epoch is pending.
-pub record IsSound (d : Inward) : Type 0 where
+pub record IsSound (d : SecondaryConnection) : Type 0 where
   pub epoch : ℕ
   pub upto : epoch ≤ last_epoch (items_taken d)
-  pub before : (place offset : ℕ) (item : Item) → slice_get (items_taken d) place ≡ Some item → epoch_of (items_taken d) place < epoch
+  pub before : (place offset : ℕ) (item : StreamItem) → slice_get (items_taken d) place ≡ Some item → epoch_of (items_taken d) place < epoch
       → offset < length (contents_of item) → is_in d.applied place offset ≡ true
   pub after : (place offset : ℕ) → is_in d.applied place offset ≡ true → epoch_of (items_taken d) place ≤ epoch
   pub within : (place offset : ℕ) → is_in d.applied place offset ≡ true → place < length (items_taken d)
   pub named : (place offset : ℕ) → is_in d.applied place offset ≡ true
-      → (item : Item) × (slice_get (items_taken d) place ≡ Some item) × (offset < length (contents_of item))
-  pub stopped : (d.gone ≡ []) ⊎ ((d.closed ≡ true) × ((place : ℕ) (item : Item) → slice_get (items_taken d) place ≡ Some item
+      → (item : StreamItem) × (slice_get (items_taken d) place ≡ Some item) × (offset < length (contents_of item))
+  pub stopped : (d.gone ≡ []) ⊎ ((d.closed ≡ true) × ((place : ℕ) (item : StreamItem) → slice_get (items_taken d) place ≡ Some item
       → is_pending d (place, item) ≡ true → epoch_of (items_taken d) place ≤ epoch))
 
 -- It depends on what was taken, applied and given up, and on whether the end is closed. Taking more keeps it while the
 -- end is open.
-pub sound-taking : (d e : Inward) (more : List Item) → IsSound d → d.closed ≡ false → items_taken e ≡ items_taken d ++ more → e.applied ≡ d.applied
+pub sound-taking : (d e : SecondaryConnection) (more : List StreamItem) → IsSound d → d.closed ≡ false → items_taken e ≡ items_taken d ++ more
+    → e.applied ≡ d.applied
     → e.gone ≡ d.gone → IsSound e
 sound-taking d e more s standing items applied gone =
-    let old : List Item = items_taken d in
+    let old : List StreamItem = items_taken d in
     let stays : d.gone ≡ [] = elim s.stopped [ inl none ↦ none | inr shut ↦ absurd (let t = shut.0 in cc (standing, t)) ] in
     record {
       epoch = s.epoch;
@@ -65,7 +66,8 @@ sound-taking d e more s standing items applied gone =
     }
 
 -- what else changes does not matter, and closing keeps it
-pub sound-same : (d e : Inward) → IsSound d → items_taken e ≡ items_taken d → e.applied ≡ d.applied → e.gone ≡ d.gone → (d.closed ≡ true → e.closed ≡ true)
+pub sound-same : (d e : SecondaryConnection) → IsSound d → items_taken e ≡ items_taken d → e.applied ≡ d.applied → e.gone ≡ d.gone
+    → (d.closed ≡ true → e.closed ≡ true)
     → IsSound e
 sound-same d e s items applied gone closed = record {
   epoch = s.epoch;
@@ -86,8 +88,8 @@ sound-same d e s items applied gone closed = record {
 }
 
 -- Starting an item: what is known of its place and its epoch.
-pub record Started (d : Inward) (place : ℕ) (s : IsSound d) : Type 0 where
-  pub item : Item
+pub record Started (d : SecondaryConnection) (place : ℕ) (s : IsSound d) : Type 0 where
+  pub item : StreamItem
   pub there : slice_get (items_taken d) place ≡ Some item
   pub inside : place < length (items_taken d)
   pub waits : is_pending d (place, item) ≡ true
@@ -95,11 +97,12 @@ pub record Started (d : Inward) (place : ℕ) (s : IsSound d) : Type 0 where
   pub not_before : s.epoch ≤ epoch_of (items_taken d) place
   pub not_after : (d.gone ≡ []) ⊎ (epoch_of (items_taken d) place ≡ s.epoch)
   -- everything of earlier epochs is applied
-  pub earlier : (other offset : ℕ) (old : Item) → slice_get (items_taken d) other ≡ Some old → epoch_of (items_taken d) other < epoch_of (items_taken d) place
+  pub earlier : (other offset : ℕ) (old : StreamItem) → slice_get (items_taken d) other ≡ Some old
+      → epoch_of (items_taken d) other < epoch_of (items_taken d) place
       → offset < length (contents_of old) → is_in d.applied other offset ≡ true
 
 -- the parts of being pending
-waits-parts : (d : Inward) (place : ℕ) (item : Item) → is_pending d (place, item) ≡ true
+waits-parts : (d : SecondaryConnection) (place : ℕ) (item : StreamItem) → is_pending d (place, item) ≡ true
     → (has_blocks item ≡ true) × (is_whole d.applied place item ≡ false) × (list_any (λ (p : ℕ). p == place) d.gone ≡ false)
 waits-parts d place item h =
     let a = and_parts (has_blocks item && not (is_whole d.applied place item)) (not (list_any (λ (p : ℕ). p == place) d.gone)) h in
@@ -107,9 +110,9 @@ waits-parts d place item h =
     (b.0, not-true (is_whole d.applied place item) b.1, not-true (list_any (λ (p : ℕ). p == place) d.gone) a.1)
 
 -- a pending item whose epoch has its turn may be applied
-pub starting : (d : Inward) (place : ℕ) (s : IsSound d) → is_pending_at d place ≡ true → has_earlier d place ≡ false → Started d place s
+pub starting : (d : SecondaryConnection) (place : ℕ) (s : IsSound d) → is_pending_at d place ≡ true → has_earlier d place ≡ false → Started d place s
 starting d place s waiting none =
-    let items : List Item = items_taken d in
+    let items : List StreamItem = items_taken d in
     let found : At (is_pending d) 0 items place = some-at (is_pending d) 0 items place waiting in
     let is : found.offset ≡ place = omega (arith, found.is) in
     let there : slice_get items place ≡ Some found.item = subst (λ n. slice_get items n ≡ Some found.item) is found.there in
@@ -141,11 +144,11 @@ starting d place s waiting none =
     }
   where
     -- an item with an offset has blocks
-    some-blocks : (item : Item) (offset : ℕ) → offset < length (contents_of item) → has_blocks item ≡ true
+    some-blocks : (item : StreamItem) (offset : ℕ) → offset < length (contents_of item) → has_blocks item ≡ true
     some-blocks item offset less = lt-ltb 0 (length (contents_of item)) (omega arith)
 
     -- what is not pending, with nothing given up, is applied
-    applied-already : (d : Inward) (place : ℕ) (item : Item) → d.gone ≡ [] → is_pending d (place, item) ≡ false → has_blocks item ≡ true
+    applied-already : (d : SecondaryConnection) (place : ℕ) (item : StreamItem) → d.gone ≡ [] → is_pending d (place, item) ≡ false → has_blocks item ≡ true
         → is_whole d.applied place item ≡ true
     applied-already d place item free past blocks =
         let none : list_any (λ (p : ℕ). p == place) d.gone ≡ false = rw free refl in
@@ -158,7 +161,7 @@ starting d place s waiting none =
         ]
 
 -- what is pending after some blocks were applied was so before
-pub pending-before : (d e : Inward) (more : Part) (place : ℕ) (item : Item) → e.applied ≡ d.applied ++ more → e.gone ≡ d.gone
+pub pending-before : (d e : SecondaryConnection) (more : Part) (place : ℕ) (item : StreamItem) → e.applied ≡ d.applied ++ more → e.gone ≡ d.gone
     → is_pending e (place, item) ≡ true → is_pending d (place, item) ≡ true
 pending-before d e more place item applied gone waits =
     let parts = waits-parts e place item waits in
@@ -172,14 +175,14 @@ pending-before d e more place item applied gone waits =
     (not_from_false (list_any (λ (p : ℕ). p == place) d.gone) there)
 
 -- Applying some blocks of an item that may be started keeps the part closed, at that item's epoch.
-pub sound-applying : (d e : Inward) (place : ℕ) (offsets : List ℕ) (s : IsSound d) → (start : Started d place s)
+pub sound-applying : (d e : SecondaryConnection) (place : ℕ) (offsets : List ℕ) (s : IsSound d) → (start : Started d place s)
     → ((n offset : ℕ) → slice_get offsets n ≡ Some offset → offset < length (contents_of start.item))
     → items_taken e ≡ items_taken d → e.applied ≡ d.applied ++ offsets_at place offsets
-    → ((e.gone ≡ d.gone) × (e.closed ≡ d.closed)) ⊎ ((e.closed ≡ true) × ((other : ℕ) (item : Item) → slice_get (items_taken d) other ≡ Some item
+    → ((e.gone ≡ d.gone) × (e.closed ≡ d.closed)) ⊎ ((e.closed ≡ true) × ((other : ℕ) (item : StreamItem) → slice_get (items_taken d) other ≡ Some item
     → is_pending e (other, item) ≡ true → epoch_of (items_taken d) other ≤ epoch_of (items_taken d) place))
     → IsSound e
 sound-applying d e place offsets s start few items applied rest =
-    let old : List Item = items_taken d in
+    let old : List StreamItem = items_taken d in
     let here : ℕ = epoch_of old place in
     let is_new : (other offset : ℕ) → is_in e.applied other offset ≡ true → (is_in d.applied other offset ≡ true) ⊎ (place ≡ other) =
     λ other offset h. elim (or_cases (is_in d.applied other offset) (is_in (offsets_at place offsets) other offset)
@@ -191,7 +194,7 @@ sound-applying d e place offsets s start few items applied rest =
       epoch = here;
       upto = rw items (place-upto old place start.inside);
       before = λ other offset item at early less.
-          let same : epoch_of (items_taken e) other ≡ epoch_of old other = ap (λ (l : List Item). epoch_of l other) items in
+          let same : epoch_of (items_taken e) other ≡ epoch_of old other = ap (λ (l : List StreamItem). epoch_of l other) items in
           rw applied (in-grows d.applied (offsets_at place offsets) other offset (start.earlier other offset item (rw (← items) at) (omega arith) less));
       after = λ other offset h. rw items (elim (is_new other offset h) [
         | inl before ↦ let top = s.after other offset before in let low = start.not_before in omega arith
@@ -230,7 +233,7 @@ sound-applying d e place offsets s start few items applied rest =
     }
   where
     -- a place of a stream is in no later epoch than its last
-    place-upto : (items : List Item) (place : ℕ) → place < length items → epoch_of items place ≤ last_epoch items
+    place-upto : (items : List StreamItem) (place : ℕ) → place < length items → epoch_of items place ≤ last_epoch items
     place-upto items place inside =
         let whole : take place items ++ drop place items ≡ items = take-append-drop place items in
         let split = barriers-append (take place items) (drop place items) in
@@ -238,7 +241,7 @@ sound-applying d e place offsets s start few items applied rest =
         omega arith
 
 -- After a fault, what is still pending is of no later epoch than the item that failed: the others were dropped.
-pub dropped : (d : Inward) (place : ℕ) (offsets : List ℕ) (other : ℕ) (item : Item) → slice_get (items_taken d) other ≡ Some item
+pub dropped : (d : SecondaryConnection) (place : ℕ) (offsets : List ℕ) (other : ℕ) (item : StreamItem) → slice_get (items_taken d) other ≡ Some item
     → is_pending (failing place offsets d) (other, item) ≡ true
     → epoch_of (items_taken d) other ≤ epoch_of (items_taken d) place
 dropped d place offsets other item at waits = leb-true _ _ (and_parts (is_pending d (other, item) && not (other == place)) _

@@ -4,7 +4,7 @@ use Rattle.std.proofs.Common.{◌∙◌, arith, ◌==◌, sym}
 use Rattle.std.specs.List.{list_all}
 use Rattle.std.proofs.lemmas.Bool.{or_cases, or_left, and_parts, and_from, eqb-true, eq-eqb, cases_Bool, both_ways, false_from_ne_true}
 use Rattle.std.proofs.lemmas.List.Folds.{list_any-append, list_all-append}
-use Rattle.model.specs.Stream.{Item, Part, is_in, is_whole, below, contents_of}
+use Rattle.model.specs.Stream.{StreamItem, Part, is_in, is_whole, below, contents_of}
 use Rattle.model.specs.SecondarySteps.{offsets_at}
 
 -- what is in a joined part is in the one or the other
@@ -44,7 +44,7 @@ all-grows a b place (x ∷ offsets) h =
     (all-grows a b place offsets parts.1)
 
 -- an item that is whole stays whole
-pub whole-grows : (a b : Part) (place : ℕ) (item : Item) → is_whole a place item ≡ true → is_whole (a ++ b) place item ≡ true
+pub whole-grows : (a b : Part) (place : ℕ) (item : StreamItem) → is_whole a place item ≡ true → is_whole (a ++ b) place item ≡ true
 whole-grows a b place item h = all-grows a b place (below (length (contents_of item))) h
 
 -- what all numbers below a number pass, each of them does
@@ -58,7 +58,7 @@ all-below p (suc n) k h less =
     ]
 
 -- each block of an item that is whole is in the part
-pub whole-has : (part : Part) (place offset : ℕ) (item : Item) → is_whole part place item ≡ true → offset < length (contents_of item)
+pub whole-has : (part : Part) (place offset : ℕ) (item : StreamItem) → is_whole part place item ≡ true → offset < length (contents_of item)
     → is_in part place offset ≡ true
 whole-has part place offset item h less = all-below (λ o. is_in part place o) (length (contents_of item)) offset h less
 
@@ -70,12 +70,12 @@ all-from p (suc n) h =
     ∙ and_from (list_all p (below n)) (list_all p (n ∷ [])) (all-from p n (λ k less. h k (omega arith))) (and_from (p n) true (h n (omega arith)) refl)
 
 -- an item all of whose blocks are in the part is whole
-pub whole-from : (part : Part) (place : ℕ) (item : Item) → ((offset : ℕ) → offset < length (contents_of item) → is_in part place offset ≡ true)
+pub whole-from : (part : Part) (place : ℕ) (item : StreamItem) → ((offset : ℕ) → offset < length (contents_of item) → is_in part place offset ≡ true)
     → is_whole part place item ≡ true
 whole-from part place item h = all-from (λ o. is_in part place o) (length (contents_of item)) h
 
 -- a part more at one place leaves the other items as they were
-pub whole-elsewhere : (part : Part) (place : ℕ) (offsets : List ℕ) (other : ℕ) (item : Item) → (other == place) ≡ false
+pub whole-elsewhere : (part : Part) (place : ℕ) (offsets : List ℕ) (other : ℕ) (item : StreamItem) → (other == place) ≡ false
     → is_whole (part ++ offsets_at place offsets) other item ≡ is_whole part other item
 whole-elsewhere part place offsets other item apart = go (below (length (contents_of item)))
   where

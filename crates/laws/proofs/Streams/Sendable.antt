@@ -11,7 +11,8 @@ use Rattle.std.proofs.lemmas.Option.{slice_get_within}
 use Rattle.blocks.specs.declared.settings.Settings.{Settings}
 use Rattle.blocks.specs.declared.tuple.Tuple.{Tuple}
 use Rattle.model.specs.Contents.{is_range}
-use Rattle.model.specs.Stream.{Item, WriteItem, ResyncItem, BarrierItem, SyncUuidItem, UuidsItem, is_barrier, is_write, barriers_in, last_epoch, items_of_epoch}
+use Rattle.model.specs.Stream.{StreamItem, WriteItem, ResyncItem, BarrierItem, SyncUuidItem, UuidsItem, is_barrier, is_write, barriers_in, last_epoch}
+use Rattle.model.specs.Stream.{items_of_epoch}
 use Rattle.model.specs.Primary.{is_resync, is_sync_start, is_sync_end, in_resync}
 use Rattle.laws.proofs.Lists.Elements.{get-more}
 use Rattle.laws.proofs.Streams.Places.{barriers-append}
@@ -19,7 +20,7 @@ use Rattle.laws.proofs.Streams.Lawful.{epoch-items-grow, barrier-empties}
 
 -- What is asked of an item by what stands before it: its blocks are a range of the device; SYNC_UUID comes first and its word
 -- is not zero; resync blocks and closing UUIDS come in a resync.
-abbrev pub MayStand : Settings → List Item → Item → Type 0
+abbrev pub MayStand : Settings → List StreamItem → StreamItem → Type 0
 MayStand settings front (WriteItem write) = is_range settings write.first (length write.contents) ≡ true
 MayStand settings front (ResyncItem block contents) = (is_range settings block 1 ≡ true) × (in_resync front ≡ true)
 MayStand settings front (BarrierItem epoch) = Unit {0}
@@ -27,11 +28,11 @@ MayStand settings front (SyncUuidItem word) = (front ≡ []) × (0 < word)
 MayStand settings front (UuidsItem tuple) = in_resync front ≡ true
 
 -- a write or a block of a resync
-abbrev pub is_work : ℕ × Item → Bool
+abbrev pub is_work : ℕ × StreamItem → Bool
 is_work entry = is_write entry.1 || is_resync entry.1
 
 -- the last epoch has a write or a block of a resync, so a barrier may follow
-abbrev pub is_busy : List Item → Bool
+abbrev pub is_busy : List StreamItem → Bool
 is_busy items = list_any is_work (items_of_epoch items (last_epoch items))
 
 -- one where it holds, and none where not
@@ -41,13 +42,13 @@ one_if false = 0
 
 -- A stream in which each item may stand, where a barrier and the end of a resync still have places, and each epoch that ended
 -- has a write or a block of a resync.
-pub record IsSendable (settings : Settings) (items : List Item) : Type 0 where
-  pub stands : (place : ℕ) (item : Item) → slice_get items place ≡ Some item → MayStand settings (take place items) item
+pub record IsSendable (settings : Settings) (items : List StreamItem) : Type 0 where
+  pub stands : (place : ℕ) (item : StreamItem) → slice_get items place ≡ Some item → MayStand settings (take place items) item
   pub short : length items + one_if (is_busy items) + one_if (in_resync items) ≤ 4294967290
   pub filled : (epoch : ℕ) → 0 < epoch → epoch ≤ barriers_in items → list_any is_work (items_of_epoch items epoch) ≡ true
 
 -- what an epoch has, it has as the stream grows
-work-grows : (items : List Item) (item : Item) (epoch : ℕ) → list_any is_work (items_of_epoch items epoch) ≡ true
+work-grows : (items : List StreamItem) (item : StreamItem) (epoch : ℕ) → list_any is_work (items_of_epoch items epoch) ≡ true
     → list_any is_work (items_of_epoch (items ++ item ∷ []) epoch) ≡ true
 work-grows items item epoch some =
     ap (list_any is_work) (epoch-items-grow items item epoch)
@@ -55,16 +56,16 @@ work-grows items item epoch some =
     ∙ or_left (list_any is_work (items_of_epoch items epoch)) (list_any is_work (cond (last_epoch items == epoch) ((length items, item) ∷ []) [])) some)
 
 -- an item goes to its end that may stand there, and there is room
-sendable-append : (settings : Settings) (items : List Item) (item : Item) → IsSendable settings items → MayStand settings items item
+sendable-append : (settings : Settings) (items : List StreamItem) (item : StreamItem) → IsSendable settings items → MayStand settings items item
     → (is_barrier item ≡ true → is_busy items ≡ true)
     → length items + 1 + one_if (is_busy (items ++ item ∷ [])) + one_if (in_resync (items ++ item ∷ [])) ≤ 4294967290 → IsSendable settings (items ++ item ∷ [])
 sendable-append settings items item s may ends room = record {
   stands = λ place x at. elim (get-more items item place x at) [
-    | inl old ↦ subst (λ (l : List Item). MayStand settings l x)
+    | inl old ↦ subst (λ (l : List StreamItem). MayStand settings l x)
         (sym (take-append-le place items (item ∷ []) (let n = slice_get_within items place x old in omega arith))) (s.stands place x old)
     | inr new ↦
         let front : take place (items ++ item ∷ []) ≡ items = ap (λ n. take n (items ++ item ∷ [])) new.0 ∙ take-append_seam items (item ∷ []) in
-        subst (λ (l : List Item). MayStand settings l x) (sym front) (subst (MayStand settings items) (sym new.1) may)
+        subst (λ (l : List StreamItem). MayStand settings l x) (sym front) (subst (MayStand settings items) (sym new.1) may)
   ];
   short = let long : length (items ++ item ∷ []) ≡ length items + 1 = length-append items (item ∷ []) in omega arith;
   filled = λ epoch low within. work-grows items item epoch (elim (cases_lt (barriers_in items) epoch) [
@@ -92,7 +93,8 @@ at-most-one true = omega arith
 at-most-one false = omega arith
 
 -- a write or a resync block, where there are so few items
-pub sendable-work : (settings : Settings) (items : List Item) (item : Item) → IsSendable settings items → MayStand settings items item → is_barrier item ≡ false
+pub sendable-work : (settings : Settings) (items : List StreamItem) (item : StreamItem) → IsSendable settings items → MayStand settings items item
+    → is_barrier item ≡ false
     → length items < 4294967288 → IsSendable settings (items ++ item ∷ [])
 sendable-work settings items item s may plain few =
     let a = at-most-one (is_busy (items ++ item ∷ [])) in
@@ -100,7 +102,8 @@ sendable-work settings items item s may plain few =
     sendable-append settings items item s may (λ ends. absurd (both_ways (is_barrier item) plain ends)) (omega arith)
 
 -- an item that neither begins nor ends a resync leaves it
-resync-stays : (items : List Item) (item : Item) → is_sync_start item ≡ false → is_sync_end item ≡ false → in_resync (items ++ item ∷ []) ≡ in_resync items
+resync-stays : (items : List StreamItem) (item : StreamItem) → is_sync_start item ≡ false → is_sync_end item ≡ false
+    → in_resync (items ++ item ∷ []) ≡ in_resync items
 resync-stays items item start end = go (list_any is_sync_start items) (list_any is_sync_end items) (list_any-append is_sync_start items (item ∷ []))
     (list_any-append is_sync_end items (item ∷ []))
   where
@@ -112,10 +115,10 @@ resync-stays items item start end = go (list_any is_sync_start items) (list_any 
     go false b one two = rw (one, start) refl
 
 -- a barrier, behind a busy epoch
-pub sendable-barrier : (settings : Settings) (items : List Item) → IsSendable settings items → is_busy items ≡ true
+pub sendable-barrier : (settings : Settings) (items : List StreamItem) → IsSendable settings items → is_busy items ≡ true
     → IsSendable settings (items ++ BarrierItem (last_epoch items) ∷ [])
 sendable-barrier settings items s busy =
-    let item : Item = BarrierItem (last_epoch items) in
+    let item : StreamItem = BarrierItem (last_epoch items) in
     let idle : is_busy (items ++ item ∷ []) ≡ false = ap (list_any is_work) (barrier-empties items (last_epoch items)) in
     let same : in_resync (items ++ item ∷ []) ≡ in_resync items = resync-stays items item refl refl in
     let short = s.short in
@@ -125,9 +128,9 @@ sendable-barrier settings items s busy =
     sendable-append settings items item s tt (λ _. busy) (omega arith)
 
 -- the end of a resync leaves the last epoch as busy as it was
-busy-stays : (items : List Item) (tuple : Tuple) → is_busy (items ++ UuidsItem tuple ∷ []) ≡ is_busy items
+busy-stays : (items : List StreamItem) (tuple : Tuple) → is_busy (items ++ UuidsItem tuple ∷ []) ≡ is_busy items
 busy-stays items tuple =
-    let item : Item = UuidsItem tuple in
+    let item : StreamItem = UuidsItem tuple in
     let grown = barriers-append items (item ∷ []) in
     let same : last_epoch (items ++ item ∷ []) ≡ last_epoch items = omega arith in
     let rest : (b : Bool) → list_any is_work (cond b ((length items, item) ∷ []) []) ≡ false =
@@ -142,10 +145,10 @@ busy-stays items tuple =
     plain false = refl
 
 -- the end of a resync, where one runs
-pub sendable-end : (settings : Settings) (items : List Item) (tuple : Tuple) → IsSendable settings items → in_resync items ≡ true
+pub sendable-end : (settings : Settings) (items : List StreamItem) (tuple : Tuple) → IsSendable settings items → in_resync items ≡ true
     → IsSendable settings (items ++ UuidsItem tuple ∷ [])
 sendable-end settings items tuple s running =
-    let item : Item = UuidsItem tuple in
+    let item : StreamItem = UuidsItem tuple in
     let over : in_resync (items ++ item ∷ []) ≡ false = ended (list_any is_sync_start (items ++ item ∷ [])) (list_any is_sync_end items)
     (list_any-append is_sync_end items (item ∷ [])) in
     let short = s.short in

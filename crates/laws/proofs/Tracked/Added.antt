@@ -7,8 +7,9 @@ use Rattle.std.proofs.lemmas.List.{map_push}
 use Rattle.std.proofs.lemmas.Option.{slice_get_within}
 use Rattle.blocks.specs.Positions.{StreamPosition}
 use Rattle.model.specs.Contents.{Write, Layer, block_under, overlay, covers, extent_of}
-use Rattle.model.specs.Stream.{Item, WriteItem, ResyncItem, placed}
-use Rattle.model.specs.Primary.{Waiting, Accepted, Outward, PrimaryHistory, no_outward, outward, last_index, change_last, stands, is_completed}
+use Rattle.model.specs.Stream.{StreamItem, WriteItem, ResyncItem, placed}
+use Rattle.model.specs.Primary.{Waiting, Accepted, PrimaryConnection, PrimaryHistory, no_primary_connection, primary_connection, last_index, change_last}
+use Rattle.model.specs.Primary.{is_established, is_completed}
 use Rattle.model.specs.Primary.{is_on_disk, local_layer, local_map, is_resync, was_resynced, under_way, resync_runs, in_resync}
 use Rattle.model.specs.Primary.{free_block}
 use Rattle.model.specs.PrimarySteps.{appending, conflict, submission, submitted, submitted_with}
@@ -24,38 +25,41 @@ use Rattle.laws.proofs.Blocks.LatestMoves.{latest-appended}
 use Rattle.laws.proofs.Tracked.{IsUnderWay, IsCopy, IsTracked}
 use Rattle.laws.proofs.Lists.Picks.{pick-none, filtered-pick}
 use Rattle.laws.proofs.Blocks.Overlays.{overlay-append, overlay-some, under-outside, under-inside, settled-is-local}
-use Rattle.laws.proofs.Tracked.Moves.{some-connection, outward-change}
+use Rattle.laws.proofs.Tracked.Moves.{some-connection, primary-connection-change}
 use Rattle.laws.proofs.Tracked.Outcomes.{waiting-open}
 use Rattle.laws.proofs.Lists.Elements.{get-left, get-more, get-end}
 use Rattle.laws.proofs.Streams.Places.{placed-at}
 use Rattle.laws.proofs.Blocks.Ranges.{between-parts}
-use Rattle.laws.proofs.Primary.Ends.{stands-parts}
+use Rattle.laws.proofs.Primary.Ends.{established-parts}
 
 -- An item goes to the end of the stream.
 
 -- what touches a block last, with one item more
-appended : (h : PrimaryHistory) (item : Item) (block : ℕ) → (outward h).closed ≡ false
+appended : (h : PrimaryHistory) (item : StreamItem) (block : ℕ) → (primary_connection h).closed ≡ false
     → latest (change_last (λ c. record c { stream = c.stream ++ item ∷ [] }) h.connections) block
-    ≡ (if touches item block then Some (record { connection = last_index h.connections; place = length (outward h).stream; item = item })
+    ≡ (if touches item block then Some (record { connection = last_index h.connections; place = length (primary_connection h).stream; item = item })
     else latest h.connections block)
-appended h item block standing = latest-appended (no_outward h.tuple) (λ c. record c { stream = c.stream ++ item ∷ [] }) item h.connections block
+appended h item block standing = latest-appended (no_primary_connection h.tuple) (λ c. record c { stream = c.stream ++ item ∷ [] }) item h.connections block
     (some-connection h standing) refl
 
-appended-touching : (h : PrimaryHistory) (item : Item) (block : ℕ) → (outward h).closed ≡ false → touches item block ≡ true
+appended-touching : (h : PrimaryHistory) (item : StreamItem) (block : ℕ) → (primary_connection h).closed ≡ false → touches item block ≡ true
     → latest (change_last (λ c. record c { stream = c.stream ++ item ∷ [] }) h.connections) block ≡ Some
-    (record { connection = last_index h.connections; place = length (outward h).stream; item = item })
+    (record { connection = last_index h.connections; place = length (primary_connection h).stream; item = item })
 appended-touching h item block standing touched =
-    appended h item block standing ∙ ap (λ b. if b then Some (record { connection = last_index h.connections; place = length (outward h).stream; item = item })
+    appended h item block standing ∙ ap (λ b. if b
+    then Some (record { connection = last_index h.connections; place = length (primary_connection h).stream; item = item })
     else latest h.connections block) touched
 
-appended-apart : (h : PrimaryHistory) (item : Item) (block : ℕ) → (outward h).closed ≡ false → touches item block ≡ false
+appended-apart : (h : PrimaryHistory) (item : StreamItem) (block : ℕ) → (primary_connection h).closed ≡ false → touches item block ≡ false
     → latest (change_last (λ c. record c { stream = c.stream ++ item ∷ [] }) h.connections) block ≡ latest h.connections block
 appended-apart h item block standing apart =
-    appended h item block standing ∙ ap (λ b. if b then Some (record { connection = last_index h.connections; place = length (outward h).stream; item = item })
+    appended h item block standing ∙ ap (λ b. if b
+    then Some (record { connection = last_index h.connections; place = length (primary_connection h).stream; item = item })
     else latest h.connections block) apart
 
 -- what is under way then was so, or is the new item
-way-appended : (c : Outward) (item : Item) (place block : ℕ) (contents : List ℕ) → IsUnderWay (record c { stream = c.stream ++ item ∷ [] }) place block contents
+way-appended : (c : PrimaryConnection) (item : StreamItem) (place block : ℕ) (contents : List ℕ)
+    → IsUnderWay (record c { stream = c.stream ++ item ∷ [] }) place block contents
     → IsUnderWay c place block contents ⊎ ((place ≡ length c.stream) × (ResyncItem block contents ≡ item))
 way-appended c item place block contents way = elim (get-more c.stream item place (ResyncItem block contents) way.there) [
   | inl old ↦ inl (record { standing = way.standing; there = old; unanswered = way.unanswered })
@@ -63,7 +67,8 @@ way-appended c item place block contents way = elim (get-more c.stream item plac
 ]
 
 -- a copy on the longer stream was one before, and the new item is no write that has the block; or it is the new item
-copy-appended : (c : Outward) (item : Item) (place block : ℕ) (contents : List ℕ) → IsCopy (record c { stream = c.stream ++ item ∷ [] }) place block contents
+copy-appended : (c : PrimaryConnection) (item : StreamItem) (place block : ℕ) (contents : List ℕ)
+    → IsCopy (record c { stream = c.stream ++ item ∷ [] }) place block contents
     → (IsCopy c place block contents × ((write : Write) → item ≡ WriteItem write → covers write block ≡ false)) ⊎ (ResyncItem block contents ≡ item)
 copy-appended c item place block contents copy = elim (get-more c.stream item place (ResyncItem block contents) copy.there) [
   | inl old ↦ inl (
@@ -73,7 +78,7 @@ copy-appended c item place block contents copy = elim (get-more c.stream item pl
       last = λ next write after at. copy.last next write after (get-left c.stream (item ∷ []) next (WriteItem write) at);
     },
     λ write is. copy.last (length c.stream) write (let within = slice_get_within c.stream place (ResyncItem block contents) old in omega arith)
-        (get-end c.stream item ∙ ap (λ (x : Item). Some x) is),
+        (get-end c.stream item ∙ ap (λ (x : StreamItem). Some x) is),
   )
   | inr new ↦ inr new.1
 ]
@@ -93,10 +98,10 @@ settling-apart h added block apart = settling-more h added block ∙ under-outsi
 
 -- a new write has no block that is under way
 conflict-free : (h : PrimaryHistory) (write : Write) (place block : ℕ) (contents : List ℕ) → is_some (conflict h write) ≡ false
-    → IsUnderWay (outward h) place block contents → covers write block ≡ false
+    → IsUnderWay (primary_connection h) place block contents → covers write block ≡ false
 conflict-free h write place block contents free way =
-    let c : Outward = outward h in
-    let item : Item = ResyncItem block contents in
+    let c : PrimaryConnection = primary_connection h in
+    let item : StreamItem = ResyncItem block contents in
     let there = filtered-pick (λ entry. is_resync entry.1 && not (was_resynced c entry.0 entry.1)) (placed c.stream) place (place, item)
     (placed-at 0 c.stream place item way.there
     ∙ ap (λ (n : ℕ). Some (n, item)) (omega arith)) (not_from_false (was_resynced c place item) way.unanswered) in
@@ -106,7 +111,7 @@ conflict-free h write place block contents free way =
 pub tracked-submits : (h : PrimaryHistory) (first : ℕ) (contents : List (List ℕ)) → MaySubmit h first contents → is_completed h (suc (length h.writes)) ≡ false
     → IsTracked h
     → HasHomes (submitted h first contents) → IsTracked (submitted h first contents)
-tracked-submits h first contents may fresh t = go (stands (outward h)) refl
+tracked-submits h first contents may fresh t = go (is_established (primary_connection h)) refl
   where
     write : Write
     write = submission h first contents
@@ -137,7 +142,7 @@ tracked-submits h first contents may fresh t = go (stands (outward h)) refl
               (subst (λ (a : Accepted). is_completed h a.write.number ≡ true) new.1 completed))
         ]
 
-    go : (b : Bool) → stands (outward h) ≡ b → HasHomes (submitted_with b h first contents) → IsTracked (submitted_with b h first contents)
+    go : (b : Bool) → is_established (primary_connection h) ≡ b → HasHomes (submitted_with b h first contents) → IsTracked (submitted_with b h first contents)
     go false is homes =
         let added : Accepted = record { write = write; journal_length = length h.journal; home = None; outcome = Waiting } in
         record {
@@ -146,21 +151,21 @@ tracked-submits h first contents may fresh t = go (stands (outward h)) refl
           writes_inside = inside None;
           items_inside = t.items_inside;
           on_disk = done None;
-          under_way = λ place block contents way. absurd (both_ways (stands (outward h)) is way.standing);
-          copied = λ place block contents copy. absurd (both_ways (stands (outward h)) is copy.standing);
+          under_way = λ place block contents way. absurd (both_ways (is_established (primary_connection h)) is way.standing);
+          copied = λ place block contents copy. absurd (both_ways (is_established (primary_connection h)) is copy.standing);
           equal = λ block within unmarked.
               let parts = unmarked-by write h.marks block unmarked in
               t.equal block within parts.0 ∙ sym (settling-apart h added block parts.1);
         }
     go true is homes =
-        let c : Outward = outward h in
-        let standing : c.closed ≡ false = (stands-parts c is).0 in
+        let c : PrimaryConnection = primary_connection h in
+        let standing : c.closed ≡ false = (established-parts c is).0 in
         let home : Option StreamPosition = Some (record { index = last_index h.connections; place = length c.stream }) in
         let added : Accepted = record { write = write; journal_length = length h.journal; home = home; outcome = Waiting } in
-        let item : Item = WriteItem write in
-        let f : Outward → Outward = λ x. record x { stream = x.stream ++ item ∷ [] } in
+        let item : StreamItem = WriteItem write in
+        let f : PrimaryConnection → PrimaryConnection = λ x. record x { stream = x.stream ++ item ∷ [] } in
         let later : PrimaryHistory = appending item (record h { writes = h.writes ++ added ∷ [] }) in
-        let last : outward later ≡ f c = outward-change h (no_outward h.tuple) f standing in
+        let last : primary_connection later ≡ f c = primary-connection-change h (no_primary_connection h.tuple) f standing in
         record {
           homes = homes;
           sized = t.sized;
@@ -170,25 +175,28 @@ tracked-submits h first contents may fresh t = go (stands (outward h)) refl
             | inr apart ↦ t.items_inside block touch (sym (appended-apart h item block standing apart) ∙ latest_is)
           ];
           on_disk = done home;
-          under_way = λ place block inner way. elim (way-appended c item place block inner (subst (λ (x : Outward). IsUnderWay x place block inner) last way)) [
-            | inr new ↦ absurd (let e = new.1 in cc)
-            | inl old ↦
-                let index : last_index h.connections ≡ last_index (change_last f h.connections) = ap (λ (n : ℕ). n - 1) (sym (length-change f h.connections)) in
-                appended-apart h item block standing (conflict-free h write place block inner may.free old)
-                ∙ (t.under_way place block inner old ∙ ap (λ (n : ℕ). Some (record { connection = n; place = place; item = ResyncItem block inner })) index)
-          ];
-          copied = λ place block inner copy. elim (copy-appended c item place block inner (subst (λ (x : Outward). IsCopy x place block inner) last copy)) [
-            | inr new ↦ absurd (let e = new in cc)
-            | inl old ↦
-                let was = t.copied place block inner old.0 in
-                let apart : covers write block ≡ false = old.1 write refl in (
-                  settling-apart h added block apart ∙ was.0,
-                  λ i accepted at waits. elim (get-more h.writes added i accepted at) [
-                    | inl before ↦ was.1 i accepted before waits
-                    | inr new ↦ subst (λ (a : Accepted). covers a.write block ≡ false) (sym new.1) apart
-                  ],
-                )
-          ];
+          under_way = λ place block inner way. elim
+              (way-appended c item place block inner (subst (λ (x : PrimaryConnection). IsUnderWay x place block inner) last way)) [
+                | inr new ↦ absurd (let e = new.1 in cc)
+                | inl old ↦
+                    let index : last_index h.connections ≡ last_index (change_last f h.connections) = ap (λ (n : ℕ). n - 1)
+                    (sym (length-change f h.connections)) in
+                    appended-apart h item block standing (conflict-free h write place block inner may.free old)
+                    ∙ (t.under_way place block inner old ∙ ap (λ (n : ℕ). Some (record { connection = n; place = place; item = ResyncItem block inner })) index)
+              ];
+          copied = λ place block inner copy. elim
+              (copy-appended c item place block inner (subst (λ (x : PrimaryConnection). IsCopy x place block inner) last copy)) [
+                | inr new ↦ absurd (let e = new in cc)
+                | inl old ↦
+                    let was = t.copied place block inner old.0 in
+                    let apart : covers write block ≡ false = old.1 write refl in (
+                      settling-apart h added block apart ∙ was.0,
+                      λ i accepted at waits. elim (get-more h.writes added i accepted at) [
+                        | inl before ↦ was.1 i accepted before waits
+                        | inr new ↦ subst (λ (a : Accepted). covers a.write block ≡ false) (sym new.1) apart
+                      ],
+                    )
+              ];
           equal = λ block within unmarked. elim (cases_Bool (touches item block)) [
             | inl touched ↦
                 ap (content_of (h.opening_map block) block) (appended-touching h item block standing touched)
@@ -205,11 +213,11 @@ some-unwrap None some = absurd (cc)
 some-unwrap (Some bytes) some = refl
 
 -- nothing is under way where that list is empty
-none-under-way : (h : PrimaryHistory) (place block : ℕ) (contents : List ℕ) → nat_lt 0 (length (under_way (outward h))) ≡ false
-    → IsUnderWay (outward h) place block contents → ⊥
+none-under-way : (h : PrimaryHistory) (place block : ℕ) (contents : List ℕ) → nat_lt 0 (length (under_way (primary_connection h))) ≡ false
+    → IsUnderWay (primary_connection h) place block contents → ⊥
 none-under-way h place block contents none way =
-    let c : Outward = outward h in
-    let item : Item = ResyncItem block contents in
+    let c : PrimaryConnection = primary_connection h in
+    let item : StreamItem = ResyncItem block contents in
     let there = filtered-pick (λ entry. is_resync entry.1 && not (was_resynced c entry.0 entry.1)) (placed c.stream) place (place, item)
     (placed-at 0 c.stream place item way.there
     ∙ ap (λ (n : ℕ). Some (n, item)) (omega arith)) (not_from_false (was_resynced c place item) way.unanswered) in
@@ -217,16 +225,17 @@ none-under-way h place block contents none way =
     both_ways (nat_lt 0 (length (under_way c))) none (lt-ltb 0 (length (under_way c)) (omega arith))
 
 -- The block is appended with what the local disk has, which no waiting write will change.
-pub tracked-resyncs : (h : PrimaryHistory) (block : ℕ) → resync_runs (outward h) ≡ true → nat_lt 0 (length (under_way (outward h))) ≡ false
+pub tracked-resyncs : (h : PrimaryHistory) (block : ℕ) → resync_runs (primary_connection h) ≡ true
+    → nat_lt 0 (length (under_way (primary_connection h))) ≡ false
     → free_block h ≡ Some block → IsTracked h
     → HasHomes (appending (ResyncItem block (unwrap_or (local_map h block) [])) h)
     → IsTracked (appending (ResyncItem block (unwrap_or (local_map h block) [])) h)
 tracked-resyncs h block runs none is t homes =
-    let c : Outward = outward h in
-    let standing : c.closed ≡ false = (stands-parts c (and_parts (stands c) (in_resync c.stream) runs).0).0 in
+    let c : PrimaryConnection = primary_connection h in
+    let standing : c.closed ≡ false = (established-parts c (and_parts (is_established c) (in_resync c.stream) runs).0).0 in
     let contents : List ℕ = unwrap_or (local_map h block) [] in
-    let item : Item = ResyncItem block contents in
-    let f : Outward → Outward = λ x. record x { stream = x.stream ++ item ∷ [] } in
+    let item : StreamItem = ResyncItem block contents in
+    let f : PrimaryConnection → PrimaryConnection = λ x. record x { stream = x.stream ++ item ∷ [] } in
     let later : PrimaryHistory = appending item h in
     let next : IsFree h block = free-found h block is in
     let local : local_map h block ≡ Some contents =
@@ -239,7 +248,7 @@ tracked-resyncs h block runs none is t homes =
     (lt-ltb block (block + 1) (omega arith)) in
     let last : latest (change_last f h.connections) block ≡ Some (record { connection = last_index h.connections; place = length c.stream; item = item }) =
     appended-touching h item block standing touched in
-    let end : outward later ≡ f c = outward-change h (no_outward h.tuple) f standing in
+    let end : primary_connection later ≡ f c = primary-connection-change h (no_primary_connection h.tuple) f standing in
     record {
       homes = homes;
       sized = t.sized;
@@ -249,27 +258,29 @@ tracked-resyncs h block runs none is t homes =
         | inr apart ↦ t.items_inside other touch (sym (appended-apart h item other standing apart) ∙ latest_is)
       ];
       on_disk = t.on_disk;
-      under_way = λ place other inner way. elim (way-appended c item place other inner (subst (λ (x : Outward). IsUnderWay x place other inner) end way)) [
-        | inl old ↦ absurd (none-under-way h place other inner none old)
-        | inr new ↦
-            let same : other ≡ block = let e = new.1 in cc in
-            let index : last_index h.connections ≡ last_index (change_last f h.connections) = ap (λ (n : ℕ). n - 1) (sym (length-change f h.connections)) in
-            ap (latest (change_last f h.connections)) same
-            ∙ (last
-            ∙ (ap (λ (n : ℕ). Some (record { connection = n; place = length c.stream; item = item })) index
-            ∙ (ap (λ (n : ℕ). Some (record { connection = last_index (change_last f h.connections); place = n; item = item })) (sym new.0)
-            ∙ ap (λ (x : Item). Some (record { connection = last_index (change_last f h.connections); place = place; item = x })) (sym new.1))))
-      ];
-      copied = λ place other inner copy. elim (copy-appended c item place other inner (subst (λ (x : Outward). IsCopy x place other inner) end copy)) [
-        | inl old ↦ t.copied place other inner old.0
-        | inr new ↦
-            let same : other ≡ block = cc in
-            let bytes : inner ≡ contents = cc in (
-              ap (settling_map h) same ∙ (settled ∙ ap (λ (l : List ℕ). Some l) (sym bytes)),
-              λ i accepted at waits. subst (λ (n : ℕ). covers accepted.write n ≡ false) (sym same)
-                  (next.free i accepted at (waiting-open h i accepted t at waits)),
-            )
-      ];
+      under_way = λ place other inner way. elim
+          (way-appended c item place other inner (subst (λ (x : PrimaryConnection). IsUnderWay x place other inner) end way)) [
+            | inl old ↦ absurd (none-under-way h place other inner none old)
+            | inr new ↦
+                let same : other ≡ block = let e = new.1 in cc in
+                let index : last_index h.connections ≡ last_index (change_last f h.connections) = ap (λ (n : ℕ). n - 1) (sym (length-change f h.connections)) in
+                ap (latest (change_last f h.connections)) same
+                ∙ (last
+                ∙ (ap (λ (n : ℕ). Some (record { connection = n; place = length c.stream; item = item })) index
+                ∙ (ap (λ (n : ℕ). Some (record { connection = last_index (change_last f h.connections); place = n; item = item })) (sym new.0)
+                ∙ ap (λ (x : StreamItem). Some (record { connection = last_index (change_last f h.connections); place = place; item = x })) (sym new.1))))
+          ];
+      copied = λ place other inner copy. elim (copy-appended c item place other inner
+          (subst (λ (x : PrimaryConnection). IsCopy x place other inner) end copy)) [
+            | inl old ↦ t.copied place other inner old.0
+            | inr new ↦
+                let same : other ≡ block = cc in
+                let bytes : inner ≡ contents = cc in (
+                  ap (settling_map h) same ∙ (settled ∙ ap (λ (l : List ℕ). Some l) (sym bytes)),
+                  λ i accepted at waits. subst (λ (n : ℕ). covers accepted.write n ≡ false) (sym same)
+                      (next.free i accepted at (waiting-open h i accepted t at waits)),
+                )
+          ];
       equal = λ other within unmarked. elim (cases_Bool (touches item other)) [
         | inl here ↦ absurd (both_ways (h.marks block) (subst (λ (n : ℕ). h.marks n ≡ false) (only other here) unmarked) next.marked)
         | inr apart ↦ ap (content_of (h.opening_map other) other) (appended-apart h item other standing apart) ∙ t.equal other within unmarked

@@ -12,8 +12,9 @@ use Rattle.blocks.specs.declared.outcome.Decision.TheVariants.{NoSync, BitmapSyn
 use Rattle.model.specs.Contents.{BlockMap}
 use Rattle.model.specs.Stream.{BarrierItem, last_epoch, within}
 use Rattle.model.specs.Frames.{UuidsFrame}
-use Rattle.model.specs.Primary.{LocalOutcome, Waiting, OnDisk, Failed, Accepted, Completion, PrimaryHistory, primary_opening, outward, last_index, with_outward}
-use Rattle.model.specs.Primary.{stands, is_open, completes, is_completed, is_failed, is_waiting, is_on_disk}
+use Rattle.model.specs.Primary.{LocalOutcome, Waiting, OnDisk, Failed, Accepted, Completion, PrimaryHistory, primary_opening, primary_connection, last_index}
+use Rattle.model.specs.Primary.{with_primary_connection}
+use Rattle.model.specs.Primary.{is_established, is_open, completes, is_completed, is_failed, is_waiting, is_on_disk}
 use Rattle.model.specs.PrimarySteps.{newly_completed, completion_of, with_completions, epoch_is_over, resync_is_over, ending_resync, follows, submission}
 use Rattle.model.specs.PrimarySteps.{submitted, appending, set_outcome, accepted_at, faulted, submitted_with, faulted_by}
 use Rattle.model.specs.Acknowledgements.{begun_with}
@@ -110,7 +111,7 @@ pub known-completions : (h : PrimaryHistory) → IsKnown h → IsKnown (with_com
 known-completions h known = record { tracked = tracked-completions h known.tracked; numbers = numbers-completions h known.tracked.homes known.numbers }
 
 -- a barrier goes to the end of the stream
-pub known-parting : (g : PrimaryHistory) → epoch_is_over g ≡ true → IsKnown g → IsKnown (appending (BarrierItem (last_epoch (outward g).stream)) g)
+pub known-parting : (g : PrimaryHistory) → epoch_is_over g ≡ true → IsKnown g → IsKnown (appending (BarrierItem (last_epoch (primary_connection g).stream)) g)
 known-parting g over known = record { tracked = tracked-parting g over known.tracked; numbers = known.numbers }
 
 -- a resync ends
@@ -124,7 +125,7 @@ known-following = following-from IsKnown IsKnown IsKnown known-completions known
 
 -- an accepted write is in no entry of the journal
 pub numbers-submitted : (h : PrimaryHistory) (first : ℕ) (contents : List (List ℕ)) → HasNumbers h → HasNumbers (submitted h first contents)
-numbers-submitted h first contents numbers = go (stands (outward h))
+numbers-submitted h first contents numbers = go (is_established (primary_connection h))
   where
     more : (added : Accepted) (n : ℕ) (entry : Completion) → slice_get h.journal n ≡ Some entry → entry.write.number ≤ length (h.writes ++ added ∷ [])
     more added n entry at = let low = numbers.0 n entry at in let long = length-append h.writes (added ∷ []) in omega arith
@@ -134,7 +135,7 @@ numbers-submitted h first contents numbers = go (stands (outward h))
       more (record {
         write = submission h first contents;
         journal_length = length h.journal;
-        home = Some (record { index = last_index h.connections; place = length (outward h).stream });
+        home = Some (record { index = last_index h.connections; place = length (primary_connection h).stream });
         outcome = Waiting;
       }),
       numbers.1,
@@ -191,7 +192,7 @@ known-kept = record {
   };
   begins = λ h peer decided standing new late is fresh known. record {
     tracked = tracked-begins h peer decided standing new known.tracked (homes-kept.begins h peer decided standing new late is fresh known.tracked.homes);
-    numbers = numbers-begun (record (with_outward (with_frame (Ok (UuidsFrame peer))) h) { peer = Some peer }) decided known.numbers;
+    numbers = numbers-begun (record (with_primary_connection (with_frame (Ok (UuidsFrame peer))) h) { peer = Some peer }) decided known.numbers;
   };
   receives = λ h ack standing begun may known.
       record { tracked = tracked-takes h _ standing known.tracked (homes-kept.receives h ack standing begun may known.tracked.homes); numbers = known.numbers };

@@ -8,10 +8,11 @@ use Rattle.std.proofs.lemmas.List.Folds.{list_any-append}
 use Rattle.blocks.specs.declared.settings.Settings.{Settings}
 use Rattle.blocks.specs.declared.tuple.Tuple.{Tuple}
 use Rattle.model.specs.Contents.{BlockMap, Write}
-use Rattle.model.specs.Stream.{Item, WriteItem, ResyncItem, first_of, contents_of, IsBeginning}
+use Rattle.model.specs.Stream.{StreamItem, WriteItem, ResyncItem, first_of, contents_of, IsBeginning}
 use Rattle.model.specs.Frames.{Received, naming}
 use Rattle.model.specs.Marks.{Marks}
-use Rattle.model.specs.Primary.{Outward, PrimaryHistory, primary_opening, no_outward, last_of, outward, last_index, change_last, stands, accepted_frames}
+use Rattle.model.specs.Primary.{PrimaryConnection, PrimaryHistory, primary_opening, no_primary_connection, last_of, primary_connection, last_index, change_last}
+use Rattle.model.specs.Primary.{is_established, accepted_frames}
 use Rattle.model.specs.Primary.{is_rs_write_ack, was_resynced, local_layer, local_map}
 use Rattle.laws.specs.Reflections.{touches}
 use Rattle.laws.proofs.Lists.Last.{last-change, length-change}
@@ -56,30 +57,33 @@ beyond-the-end h block t past = (
 -- The last connection of an open end.
 
 -- an open end has a connection
-pub some-connection : (h : PrimaryHistory) → (outward h).closed ≡ false → h.connections ≡ [] → ⊥
-some-connection h standing none = both_ways (outward h).closed standing (ap (λ (l : List Outward). (last_of (no_outward h.tuple) l).closed) none)
+pub some-connection : (h : PrimaryHistory) → (primary_connection h).closed ≡ false → h.connections ≡ [] → ⊥
+some-connection h standing none = both_ways (primary_connection h).closed standing
+    (ap (λ (l : List PrimaryConnection). (last_of (no_primary_connection h.tuple) l).closed) none)
 
 -- after a change of an open end's connection the last one is the changed one
-pub outward-change : (h : PrimaryHistory) (none : Outward) (f : Outward → Outward) → (outward h).closed ≡ false
-    → last_of none (change_last f h.connections) ≡ f (outward h)
-outward-change h none f standing =
-    elim (last-change f (no_outward h.tuple) none h.connections) [ inl empty ↦ absurd (some-connection h standing empty) | inr changed ↦ changed ]
+pub primary-connection-change : (h : PrimaryHistory) (none : PrimaryConnection) (f : PrimaryConnection → PrimaryConnection)
+    → (primary_connection h).closed ≡ false
+    → last_of none (change_last f h.connections) ≡ f (primary_connection h)
+primary-connection-change h none f standing =
+    elim (last-change f (no_primary_connection h.tuple) none h.connections) [ inl empty ↦ absurd (some-connection h standing empty) | inr changed ↦ changed ]
 
 -- A block of a resync on a stream that stands after a change of its connection: it stood there before, acknowledged if it is
 -- not under way any more, and so did each write that stands there.
-pub record KeepsBlock (c d : Outward) (place block : ℕ) (contents : List ℕ) : Type 0 where
-  pub standing : stands c ≡ true
+pub record KeepsBlock (c d : PrimaryConnection) (place block : ℕ) (contents : List ℕ) : Type 0 where
+  pub standing : is_established c ≡ true
   pub there : slice_get c.stream place ≡ Some (ResyncItem block contents)
   pub unanswered : was_resynced d place (ResyncItem block contents) ≡ false → was_resynced c place (ResyncItem block contents) ≡ false
   pub writes : (next : ℕ) (write : Write) → slice_get c.stream next ≡ Some (WriteItem write) → slice_get d.stream next ≡ Some (WriteItem write)
 
 -- a change that adds no block of a resync to a stream
-abbrev pub KeepsBlocks : Outward → Outward → Type 0
-KeepsBlocks c d = (place block : ℕ) (contents : List ℕ) → stands d ≡ true → slice_get d.stream place ≡ Some (ResyncItem block contents)
+abbrev pub KeepsBlocks : PrimaryConnection → PrimaryConnection → Type 0
+KeepsBlocks c d = (place block : ℕ) (contents : List ℕ) → is_established d ≡ true → slice_get d.stream place ≡ Some (ResyncItem block contents)
     → KeepsBlock c d place block contents
 
 -- what is under way then was so before
-pub way-before : (c d : Outward) (place block : ℕ) (contents : List ℕ) → KeepsBlocks c d → IsUnderWay d place block contents → IsUnderWay c place block contents
+pub way-before : (c d : PrimaryConnection) (place block : ℕ) (contents : List ℕ) → KeepsBlocks c d → IsUnderWay d place block contents
+    → IsUnderWay c place block contents
 way-before c d place block contents keeps way = let old = keeps place block contents way.standing way.there in record {
   standing = old.standing;
   there = old.there;
@@ -87,13 +91,15 @@ way-before c d place block contents keeps way = let old = keeps place block cont
 }
 
 -- and what no later write has
-pub copy-before : (c d : Outward) (place block : ℕ) (contents : List ℕ) → KeepsBlocks c d → IsCopy d place block contents → IsCopy c place block contents
+pub copy-before : (c d : PrimaryConnection) (place block : ℕ) (contents : List ℕ) → KeepsBlocks c d → IsCopy d place block contents
+    → IsCopy c place block contents
 copy-before c d place block contents keeps copy =
     let old = keeps place block contents copy.standing copy.there in
     record { standing = old.standing; there = old.there; last = λ next write after at. copy.last next write after (old.writes next write at) }
 
 -- what was acknowledged stays so as frames are taken
-pub unanswered-before : (c d : Outward) (place : ℕ) (item : Item) → IsBeginning (accepted_frames c) (accepted_frames d) → was_resynced d place item ≡ false
+pub unanswered-before : (c d : PrimaryConnection) (place : ℕ) (item : StreamItem) → IsBeginning (accepted_frames c) (accepted_frames d)
+    → was_resynced d place item ≡ false
     → was_resynced c place item ≡ false
 unanswered-before c d place item grows not_so =
     let p : Received → Bool = is_rs_write_ack (naming place item) in
@@ -104,15 +110,16 @@ unanswered-before c d place item grows not_so =
 -- Quiet moves.
 
 -- a history with other connections, marks, tuples and receipts
-abbrev pub changed : PrimaryHistory → List Outward → Marks → Tuple → Option Tuple → List ℕ → PrimaryHistory
+abbrev pub changed : PrimaryHistory → List PrimaryConnection → Marks → Tuple → Option Tuple → List ℕ → PrimaryHistory
 changed h connections marks tuple peer receipts = record h { connections = connections; marks = marks; tuple = tuple; peer = peer; receipts = receipts }
 
 -- The same items touch blocks last, what is under way was so, and what was sent is the same where no mark is.
-pub tracked-quiet : (h : PrimaryHistory) (connections : List Outward) (marks : Marks) (tuple : Tuple) (peer : Option Tuple) (receipts : List ℕ) → IsTracked h
+pub tracked-quiet : (h : PrimaryHistory) (connections : List PrimaryConnection) (marks : Marks) (tuple : Tuple) (peer : Option Tuple) (receipts : List ℕ)
+    → IsTracked h
     → HasHomes (changed h connections marks tuple peer receipts)
     → ((block : ℕ) → latest connections block ≡ latest h.connections block)
-    → (stands (outward (changed h connections marks tuple peer receipts)) ≡ true → last_index connections ≡ last_index h.connections)
-    → KeepsBlocks (outward h) (outward (changed h connections marks tuple peer receipts))
+    → (is_established (primary_connection (changed h connections marks tuple peer receipts)) ≡ true → last_index connections ≡ last_index h.connections)
+    → KeepsBlocks (primary_connection h) (primary_connection (changed h connections marks tuple peer receipts))
     → ((block : ℕ) → block < h.settings.blocks → marks block ≡ false → sent_map h block ≡ settling_map h block)
     → IsTracked (changed h connections marks tuple peer receipts)
 tracked-quiet h connections marks tuple peer receipts t homes same index keeps equal = record {
@@ -122,9 +129,10 @@ tracked-quiet h connections marks tuple peer receipts t homes same index keeps e
   items_inside = λ block touch is. t.items_inside block touch (sym (same block) ∙ is);
   on_disk = t.on_disk;
   under_way = λ place block contents way.
-      let was = t.under_way place block contents (way-before (outward h) (outward later) place block contents keeps way) in
+      let was = t.under_way place block contents (way-before (primary_connection h) (primary_connection later) place block contents keeps way) in
       same block ∙ (was ∙ ap (λ (n : ℕ). Some (record { connection = n; place = place; item = ResyncItem block contents })) (sym (index way.standing)));
-  copied = λ place block contents copy. t.copied place block contents (copy-before (outward h) (outward later) place block contents keeps copy);
+  copied = λ place block contents copy. t.copied place block contents
+      (copy-before (primary_connection h) (primary_connection later) place block contents keeps copy);
   equal = λ block within unmarked. ap (content_of (h.opening_map block) block) (same block) ∙ equal block within unmarked;
 }
   where
@@ -132,34 +140,35 @@ tracked-quiet h connections marks tuple peer receipts t homes same index keeps e
     later = changed h connections marks tuple peer receipts
 
 -- The last connection of an open end changes.
-pub tracked-turn : (h : PrimaryHistory) (f : Outward → Outward) (marks : Marks) (tuple : Tuple) (peer : Option Tuple) (receipts : List ℕ)
-    → (outward h).closed ≡ false → IsTracked h
+pub tracked-turn : (h : PrimaryHistory) (f : PrimaryConnection → PrimaryConnection) (marks : Marks) (tuple : Tuple) (peer : Option Tuple) (receipts : List ℕ)
+    → (primary_connection h).closed ≡ false → IsTracked h
     → HasHomes (changed h (change_last f h.connections) marks tuple peer receipts)
     → ((block : ℕ) → latest (change_last f h.connections) block ≡ latest h.connections block)
-    → KeepsBlocks (outward h) (f (outward h))
+    → KeepsBlocks (primary_connection h) (f (primary_connection h))
     → ((block : ℕ) → block < h.settings.blocks → marks block ≡ false → sent_map h block ≡ settling_map h block)
     → IsTracked (changed h (change_last f h.connections) marks tuple peer receipts)
 tracked-turn h f marks tuple peer receipts standing t homes same keeps equal =
     tracked-quiet h (change_last f h.connections) marks tuple peer receipts t homes same (λ stood. ap (λ (n : ℕ). n - 1) (length-change f h.connections))
-    (subst (KeepsBlocks (outward h)) (sym (outward-change h (no_outward tuple) f standing)) keeps) equal
+    (subst (KeepsBlocks (primary_connection h)) (sym (primary-connection-change h (no_primary_connection tuple) f standing)) keeps) equal
 
 -- an item without blocks touches none
-pub untouched : (item : Item) (block : ℕ) → contents_of item ≡ [] → first_of item ≡ 0 → touches item block ≡ false
+pub untouched : (item : StreamItem) (block : ℕ) → contents_of item ≡ [] → first_of item ≡ 0 → touches item block ≡ false
 untouched item block none first =
     let size : length (contents_of item) ≡ 0 = ap length none in
     and_right (nat_le (first_of item) block) (nat_lt block (first_of item + length (contents_of item)))
     (le-ltb block (first_of item + length (contents_of item)) (omega arith))
 
 -- An item without blocks goes to the end of the stream.
-pub tracked-appending : (h : PrimaryHistory) (item : Item) (tuple : Tuple) → (outward h).closed ≡ false → contents_of item ≡ [] → first_of item ≡ 0
+pub tracked-appending : (h : PrimaryHistory) (item : StreamItem) (tuple : Tuple) → (primary_connection h).closed ≡ false → contents_of item ≡ []
+    → first_of item ≡ 0
     → IsTracked h
     → HasHomes (changed h (change_last (λ c. record c { stream = c.stream ++ item ∷ [] }) h.connections) h.marks tuple h.peer h.receipts)
     → IsTracked (changed h (change_last (λ c. record c { stream = c.stream ++ item ∷ [] }) h.connections) h.marks tuple h.peer h.receipts)
 tracked-appending h item tuple standing none first t homes =
-    let f : Outward → Outward = λ c. record c { stream = c.stream ++ item ∷ [] } in
-    let c : Outward = outward h in
+    let f : PrimaryConnection → PrimaryConnection = λ c. record c { stream = c.stream ++ item ∷ [] } in
+    let c : PrimaryConnection = primary_connection h in
     tracked-turn h f h.marks tuple h.peer h.receipts standing t homes
-    (λ block. latest-appended (no_outward h.tuple) f item h.connections block (some-connection h standing) refl
+    (λ block. latest-appended (no_primary_connection h.tuple) f item h.connections block (some-connection h standing) refl
     ∙ ap (λ b. if b then Some (record { connection = last_index h.connections; place = length c.stream; item = item })
     else latest h.connections block) (untouched item block none first))
     (λ place block contents stood there. record {

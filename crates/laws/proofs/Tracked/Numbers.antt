@@ -5,7 +5,7 @@ use Rattle.blocks.specs.declared.tuple.Tuple.{Tuple}
 use Rattle.model.specs.Contents.{BlockMap}
 use Rattle.model.specs.Frames.{UuidsFrame}
 use Rattle.model.specs.LocalRuns.{PrimaryEvent, primary_run}
-use Rattle.model.specs.Primary.{OnDisk, PrimaryHistory, primary_opening, with_outward}
+use Rattle.model.specs.Primary.{OnDisk, PrimaryHistory, primary_opening, with_primary_connection}
 use Rattle.model.specs.PrimarySteps.{follows}
 use Rattle.laws.proofs.Primary.Homes.{HasHomes}
 use Rattle.laws.proofs.Primary.HomesFollowing.{homes-completions, homes-ending, homes-parting}
@@ -45,7 +45,7 @@ numbered-kept = record {
   greets = λ h frame standing new met known. record { homes = homes-kept.greets h frame standing new met known.homes; numbers = known.numbers };
   begins = λ h peer decided standing new late is fresh known. record {
     homes = homes-kept.begins h peer decided standing new late is fresh known.homes;
-    numbers = numbers-begun (record (with_outward (with_frame (Ok (UuidsFrame peer))) h) { peer = Some peer }) decided known.numbers;
+    numbers = numbers-begun (record (with_primary_connection (with_frame (Ok (UuidsFrame peer))) h) { peer = Some peer }) decided known.numbers;
   };
   receives = λ h ack standing begun may known. record { homes = homes-kept.receives h ack standing begun may known.homes; numbers = known.numbers };
   applies = λ h ack standing begun may known. record { homes = homes-kept.applies h ack standing begun may known.homes; numbers = known.numbers };

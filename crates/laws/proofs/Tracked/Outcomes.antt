@@ -6,7 +6,8 @@ use Rattle.std.proofs.lemmas.Bool.{cases_Bool, both_ways, and_parts, and_from, n
 use Rattle.std.proofs.lemmas.Simd.{map-map}
 use Rattle.model.specs.Contents.{Write, Layer, block_under, overlay, covers}
 use Rattle.model.specs.Marks.{Marks, marking}
-use Rattle.model.specs.Primary.{LocalOutcome, Waiting, OnDisk, Failed, Accepted, PrimaryHistory, outward, is_on_disk, is_failed, is_waiting, is_completed}
+use Rattle.model.specs.Primary.{LocalOutcome, Waiting, OnDisk, Failed, Accepted, PrimaryHistory, primary_connection, is_on_disk, is_failed, is_waiting}
+use Rattle.model.specs.Primary.{is_completed}
 use Rattle.model.specs.Primary.{is_open, offset_reached}
 use Rattle.model.specs.PrimarySteps.{is_unfinished, set_outcome, with_outcome, accepted_at, faulted, faulted_by}
 use Rattle.laws.proofs.Rules.Marking.{unmarked-by}
@@ -79,7 +80,7 @@ concluded h number outcome marks = record h { writes = map (set_outcome number o
 -- An outcome is put down with a waiting write.
 tracked-outcome : (h : PrimaryHistory) (number : ℕ) (outcome : LocalOutcome) (marks : Marks) → is_unfinished h number ≡ true → IsTracked h
     → HasHomes (concluded h number outcome marks)
-    → is_waiting outcome ≡ false → ((place block : ℕ) (contents : List ℕ) → IsCopy (outward h) place block contents
+    → is_waiting outcome ≡ false → ((place block : ℕ) (contents : List ℕ) → IsCopy (primary_connection h) place block contents
     → settling_map (concluded h number outcome marks) block ≡ settling_map h block)
     → ((block : ℕ) → marks block ≡ false → (h.marks block ≡ false) × (settling_map (concluded h number outcome marks) block ≡ settling_map h block))
     → IsTracked (concluded h number outcome marks)

@@ -9,18 +9,19 @@ use Rattle.blocks.specs.declared.tuple.Tuple.{Tuple}
 use Rattle.blocks.specs.declared.outcome.Decision.{Decision}
 use Rattle.blocks.specs.declared.outcome.Decision.TheVariants.{NoSync, BitmapSync, FullSync}
 use Rattle.model.specs.Contents.{covers}
-use Rattle.model.specs.Stream.{Item, WriteItem, ResyncItem, BarrierItem, SyncUuidItem, UuidsItem, last_epoch}
+use Rattle.model.specs.Stream.{StreamItem, WriteItem, ResyncItem, BarrierItem, SyncUuidItem, UuidsItem, last_epoch}
 use Rattle.model.specs.Frames.{Received, UuidsFrame, RsWriteAckFrame, Acknowledged, naming}
 use Rattle.model.specs.Identifiers.{are_fresh, sync_start, sync_end, lost}
 use Rattle.model.specs.Marks.{Marks, clearing, marking_all, marking_unreleased}
-use Rattle.model.specs.Primary.{Accepted, Completion, Outward, PrimaryHistory, no_outward, last_of, outward, last_index, change_last, with_outward, stands}
-use Rattle.model.specs.Primary.{is_on_disk, is_completed, is_open, completes, new_outward}
+use Rattle.model.specs.Primary.{Accepted, Completion, PrimaryConnection, PrimaryHistory, no_primary_connection, last_of, primary_connection, last_index}
+use Rattle.model.specs.Primary.{change_last, with_primary_connection, is_established}
+use Rattle.model.specs.Primary.{is_on_disk, is_completed, is_open, completes, new_primary_connection}
 use Rattle.model.specs.Primary.{is_resync, was_resynced, same_naming, items_sent}
 use Rattle.model.specs.PrimarySteps.{known_tuples, newly_completed, completion_of, with_completions, epoch_is_over, appending, resync_is_over, ending_resync}
 use Rattle.model.specs.PrimarySteps.{opened, closing, receipted}
 use Rattle.model.specs.Acknowledgements.{begun_with}
 use Rattle.laws.proofs.Rules.Completions.{completes-parts}
-use Rattle.laws.proofs.Rules.ResyncEnds.{over-stands}
+use Rattle.laws.proofs.Rules.ResyncEnds.{over-established}
 use Rattle.laws.proofs.Rules.CloseMarks.{close-keeps}
 use Rattle.laws.proofs.Rules.EpochEnds.{over-standing}
 use Rattle.laws.specs.Reflections.{content_at}
@@ -34,7 +35,7 @@ use Rattle.laws.proofs.Blocks.LatestMoves.{latest-same, latest-appended, latest-
 use Rattle.laws.proofs.Tracked.{IsUnderWay, IsCopy, IsTracked}
 use Rattle.laws.proofs.Lists.Picks.{pick-any, pick-filtered, pick-image}
 use Rattle.laws.proofs.Tracked.Moves.{some-connection, unanswered-before, untouched, changed, tracked-quiet, tracked-turn, tracked-appending}
-use Rattle.laws.proofs.Primary.Ends.{stands-parts, not-refused, frames-taking}
+use Rattle.laws.proofs.Primary.Ends.{established-parts, not-refused, frames-taking}
 use Rattle.laws.proofs.Primary.HomesFollowing.{homes-completions, homes-ending, homes-parting}
 use Rattle.laws.proofs.Rules.RefusedFrames.{refusing, refused_by}
 
@@ -82,27 +83,30 @@ tracked-completions h t = record {
     has accepted entry = entry.write.number == accepted.write.number
 
 -- A barrier ends an epoch.
-pub tracked-parting : (g : PrimaryHistory) → epoch_is_over g ≡ true → IsTracked g → IsTracked (appending (BarrierItem (last_epoch (outward g).stream)) g)
-tracked-parting g over t = tracked-appending g (BarrierItem (last_epoch (outward g).stream)) g.tuple (stands-parts (outward g) (over-standing g over)).0 refl
+pub tracked-parting : (g : PrimaryHistory) → epoch_is_over g ≡ true → IsTracked g
+    → IsTracked (appending (BarrierItem (last_epoch (primary_connection g).stream)) g)
+tracked-parting g over t = tracked-appending g (BarrierItem (last_epoch (primary_connection g).stream)) g.tuple
+    (established-parts (primary_connection g) (over-standing g over)).0 refl
     refl t (homes-parting g over t.homes)
 
 -- A resync ends.
 pub tracked-ending : (g : PrimaryHistory) → resync_is_over g ≡ true → IsTracked g → IsTracked (ending_resync g)
-tracked-ending g over t = tracked-appending g (UuidsItem (sync_end g.tuple)) (sync_end g.tuple) (stands-parts
-    (outward g) (over-stands g over)).0 refl refl t (homes-ending g over t.homes)
+tracked-ending g over t = tracked-appending g (UuidsItem (sync_end g.tuple)) (sync_end g.tuple) (established-parts
+    (primary_connection g) (over-established g over)).0 refl refl t (homes-ending g over t.homes)
 
 -- Connections open, begin and close.
 
 -- A new connection has not begun.
-pub tracked-opens : (h : PrimaryHistory) (sync loss : ℕ) → (outward h).closed ≡ true → are_fresh sync loss (known_tuples h) ≡ true → IsTracked h
+pub tracked-opens : (h : PrimaryHistory) (sync loss : ℕ) → (primary_connection h).closed ≡ true → are_fresh sync loss (known_tuples h) ≡ true → IsTracked h
     → IsTracked (opened h sync loss)
 tracked-opens h sync loss closed fresh t =
-    let new : Outward = new_outward sync loss h.tuple in
-    let none : stands (outward (opened h sync loss)) ≡ false = ap stands (last-more (no_outward h.tuple) new h.connections) in
+    let new : PrimaryConnection = new_primary_connection sync loss h.tuple in
+    let none : is_established (primary_connection (opened h sync loss)) ≡ false =
+    ap is_established (last-more (no_primary_connection h.tuple) new h.connections) in
     tracked-quiet h (h.connections ++ new ∷ []) h.marks h.tuple h.peer h.receipts t (homes-kept.opens h sync loss closed fresh t.homes)
     (λ block. latest-opened h.connections new block refl)
-    (λ stood. absurd (both_ways (stands (outward (opened h sync loss))) none stood))
-    (λ place block contents stood there. absurd (both_ways (stands (outward (opened h sync loss))) none stood)) t.equal
+    (λ stood. absurd (both_ways (is_established (primary_connection (opened h sync loss))) none stood))
+    (λ place block contents stood there. absurd (both_ways (is_established (primary_connection (opened h sync loss))) none stood)) t.equal
 
 -- a stream without items has no block of a resync, nor has one that only begins a resync
 no-block : (place block : ℕ) (contents : List ℕ) → slice_get [] place ≡ Some (ResyncItem block contents) → ⊥
@@ -113,70 +117,78 @@ no-block-begun word zero block contents at = cc
 no-block-begun word (suc place) block contents at = cc
 
 -- The stream begins: nothing is under way on it, and a full resync marks every block.
-pub tracked-begins : (h : PrimaryHistory) (peer : Tuple) (decided : Decision) → (outward h).closed ≡ false → (outward h).begun ≡ false → IsTracked h
-    → HasHomes (begun_with decided (record (with_outward (with_frame (Ok (UuidsFrame peer))) h) { peer = Some peer }))
-    → IsTracked (begun_with decided (record (with_outward (with_frame (Ok (UuidsFrame peer))) h) { peer = Some peer }))
+pub tracked-begins : (h : PrimaryHistory) (peer : Tuple) (decided : Decision) → (primary_connection h).closed ≡ false → (primary_connection h).begun ≡ false
+    → IsTracked h
+    → HasHomes (begun_with decided (record (with_primary_connection (with_frame (Ok (UuidsFrame peer))) h) { peer = Some peer }))
+    → IsTracked (begun_with decided (record (with_primary_connection (with_frame (Ok (UuidsFrame peer))) h) { peer = Some peer }))
 tracked-begins h peer decided standing new t = go decided
   where
     seen : PrimaryHistory
-    seen = record (with_outward (with_frame (Ok (UuidsFrame peer))) h) { peer = Some peer }
+    seen = record (with_primary_connection (with_frame (Ok (UuidsFrame peer))) h) { peer = Some peer }
 
-    empty : (outward h).stream ≡ []
-    empty = t.homes.empty (length h.connections - 1) (outward h) (open-at h standing) new
+    empty : (primary_connection h).stream ≡ []
+    empty = t.homes.empty (length h.connections - 1) (primary_connection h) (open-at h standing) new
 
-    beginning : (g : Outward → Outward) (marks : Marks) (tuple : Tuple)
+    beginning : (g : PrimaryConnection → PrimaryConnection) (marks : Marks) (tuple : Tuple)
         → HasHomes (changed h (change_last g (change_last (with_frame (Ok (UuidsFrame peer))) h.connections)) marks tuple (Some peer) h.receipts)
         → ((block : ℕ) → latest (change_last (λ c. g (with_frame (Ok (UuidsFrame peer)) c)) h.connections) block ≡ latest h.connections block)
-        → ((place block : ℕ) (contents : List ℕ) → slice_get (g (with_frame (Ok (UuidsFrame peer)) (outward h))).stream place ≡ Some (ResyncItem block contents)
+        → ((place block : ℕ) (contents : List ℕ)
+        → slice_get (g (with_frame (Ok (UuidsFrame peer)) (primary_connection h))).stream place ≡ Some (ResyncItem block contents)
         → ⊥)
         → ((block : ℕ) → block < h.settings.blocks → marks block ≡ false → sent_map h block ≡ settling_map h block)
         → IsTracked (changed h (change_last g (change_last (with_frame (Ok (UuidsFrame peer))) h.connections)) marks tuple (Some peer) h.receipts)
     beginning g marks tuple homes same none equal =
-        let f : Outward → Outward = λ c. g (with_frame (Ok (UuidsFrame peer)) c) in
+        let f : PrimaryConnection → PrimaryConnection = λ c. g (with_frame (Ok (UuidsFrame peer)) c) in
         let twice : change_last g (change_last (with_frame (Ok (UuidsFrame peer))) h.connections) ≡ change_last f h.connections =
         change-twice (with_frame (Ok (UuidsFrame peer))) g h.connections in
-        subst (λ (cs : List Outward). IsTracked (changed h cs marks tuple (Some peer) h.receipts)) (sym twice)
+        subst (λ (cs : List PrimaryConnection). IsTracked (changed h cs marks tuple (Some peer) h.receipts)) (sym twice)
         (tracked-turn h f marks tuple (Some peer) h.receipts standing t
-        (subst (λ (cs : List Outward). HasHomes (changed h cs marks tuple (Some peer) h.receipts)) twice homes) same
+        (subst (λ (cs : List PrimaryConnection). HasHomes (changed h cs marks tuple (Some peer) h.receipts)) twice homes) same
         (λ place block contents stood there. absurd (none place block contents there)) equal)
 
     started : (word : ℕ) (block : ℕ)
-        → latest (change_last (λ (c : Outward). record c { taken = c.taken ++ Ok (UuidsFrame peer) ∷ []; begun = true; stream = SyncUuidItem word ∷ [] })
+        → latest (change_last (λ (c : PrimaryConnection). record c {
+          taken = c.taken ++ Ok (UuidsFrame peer) ∷ [];
+          begun = true;
+          stream = SyncUuidItem word ∷ [];
+        })
         h.connections) block ≡ latest h.connections block
     started word block =
-        let item : Item = SyncUuidItem word in
-        latest-appended (no_outward h.tuple)
-        (λ (c : Outward). record c { taken = c.taken ++ Ok (UuidsFrame peer) ∷ []; begun = true; stream = SyncUuidItem word ∷ [] }) item h.connections block
+        let item : StreamItem = SyncUuidItem word in
+        latest-appended (no_primary_connection h.tuple)
+        (λ (c : PrimaryConnection). record c { taken = c.taken ++ Ok (UuidsFrame peer) ∷ []; begun = true; stream = SyncUuidItem word ∷ [] }) item h.connections
+        block
         (some-connection h standing)
-        (ap (λ (l : List Item). l ++ item ∷ []) (sym empty))
-        ∙ ap (λ b. if b then Some (record { connection = last_index h.connections; place = length (outward h).stream; item = item })
+        (ap (λ (l : List StreamItem). l ++ item ∷ []) (sym empty))
+        ∙ ap (λ b. if b then Some (record { connection = last_index h.connections; place = length (primary_connection h).stream; item = item })
         else latest h.connections block) (untouched item block refl refl)
 
     go : (v : Decision) → HasHomes (begun_with v seen) → IsTracked (begun_with v seen)
     go NoSync homes =
         beginning (λ c. record c { begun = true }) h.marks h.tuple homes (λ block. latest-same _ h.connections block (λ c. refl))
         (λ place block contents there. no-block place block contents
-        (subst (λ (l : List Item). slice_get l place ≡ Some (ResyncItem block contents)) empty there)) t.equal
+        (subst (λ (l : List StreamItem). slice_get l place ≡ Some (ResyncItem block contents)) empty there)) t.equal
     go BitmapSync homes =
-        let word : ℕ = (outward seen).sync in
+        let word : ℕ = (primary_connection seen).sync in
         beginning (λ c. record c { begun = true; stream = SyncUuidItem word ∷ [] }) h.marks (sync_start word h.tuple) homes (started word)
         (no-block-begun word) t.equal
     go FullSync homes =
-        let word : ℕ = (outward seen).sync in
+        let word : ℕ = (primary_connection seen).sync in
         beginning (λ c. record c { begun = true; stream = SyncUuidItem word ∷ [] }) (marking_all h.settings.blocks) (sync_start word h.tuple) homes
         (started word) (no-block-begun word)
         (λ block within unmarked. absurd (both_ways (nat_lt block h.settings.blocks) unmarked (lt-ltb block h.settings.blocks within)))
 
 -- a closed end has nothing under way
-closed-last : (none : Outward) (connections : List Outward) → none.closed ≡ true
-    → (last_of none (change_last (λ (c : Outward). record c { closed = true }) connections)).closed ≡ true
-closed-last none connections closed = elim (last-change (λ (c : Outward). record c { closed = true }) none none connections) [
-  | inl empty ↦ ap (λ (l : List Outward). (last_of none (change_last (λ (c : Outward). record c { closed = true }) l)).closed) empty ∙ closed
-  | inr changed ↦ ap (λ (c : Outward). c.closed) changed
+closed-last : (none : PrimaryConnection) (connections : List PrimaryConnection) → none.closed ≡ true
+    → (last_of none (change_last (λ (c : PrimaryConnection). record c { closed = true }) connections)).closed ≡ true
+closed-last none connections closed = elim (last-change (λ (c : PrimaryConnection). record c { closed = true }) none none connections) [
+  | inl empty ↦ ap (λ (l : List PrimaryConnection). (last_of none (change_last (λ (c : PrimaryConnection). record c { closed = true }) l)).closed) empty
+      ∙ closed
+  | inr changed ↦ ap (λ (c : PrimaryConnection). c.closed) changed
 ]
 
 -- The end closes: marks are only set.
-tracked-closed : (h : PrimaryHistory) (connections : List Outward) (marks : Marks) (tuple : Tuple) (peer : Option Tuple) → IsTracked h
+tracked-closed : (h : PrimaryHistory) (connections : List PrimaryConnection) (marks : Marks) (tuple : Tuple) (peer : Option Tuple) → IsTracked h
     → HasHomes (changed h (change_last (λ c. record c { closed = true }) connections) marks tuple peer h.receipts)
     → ((block : ℕ) → latest connections block ≡ latest h.connections block)
     → ((block : ℕ) → marks block ≡ false → h.marks block ≡ false)
@@ -187,39 +199,40 @@ tracked-closed h connections marks tuple peer t homes same grow =
     (λ stood. absurd (shut stood)) (λ place block contents stood there. absurd (shut stood))
     (λ block within unmarked. t.equal block within (grow block unmarked))
   where
-    last : Outward
-    last = last_of (no_outward tuple) (change_last (λ (c : Outward). record c { closed = true }) connections)
+    last : PrimaryConnection
+    last = last_of (no_primary_connection tuple) (change_last (λ (c : PrimaryConnection). record c { closed = true }) connections)
 
-    shut : stands last ≡ true → ⊥
-    shut stood = both_ways last.closed (stands-parts last stood).0 (closed-last (no_outward tuple) connections refl)
+    shut : is_established last ≡ true → ⊥
+    shut stood = both_ways last.closed (established-parts last stood).0 (closed-last (no_primary_connection tuple) connections refl)
 
 -- The primary closes its end.
-pub tracked-closes : (h : PrimaryHistory) → (outward h).closed ≡ false → IsTracked h → IsTracked (closing h)
+pub tracked-closes : (h : PrimaryHistory) → (primary_connection h).closed ≡ false → IsTracked h → IsTracked (closing h)
 tracked-closes h standing t =
-    tracked-closed h h.connections (marking_unreleased h) (if (outward h).begun then lost (outward h).loss h.tuple
+    tracked-closed h h.connections (marking_unreleased h) (if (primary_connection h).begun then lost (primary_connection h).loss h.tuple
     else h.tuple) h.peer t (homes-kept.closes h standing t.homes) (λ block. refl) (λ block unmarked. close-keeps h block unmarked)
 
 -- A frame is refused, and the end closes.
-pub tracked-refuses : (h : PrimaryHistory) (frame : Received) (peer : Option Tuple) → (outward h).closed ≡ false → IsTracked h
+pub tracked-refuses : (h : PrimaryHistory) (frame : Received) (peer : Option Tuple) → (primary_connection h).closed ≡ false → IsTracked h
     → IsTracked (closing (refused_by frame peer h))
 tracked-refuses h frame peer standing t =
     let g : PrimaryHistory = refused_by frame peer h in
-    tracked-closed h (change_last refusing (change_last (with_frame frame) h.connections)) (marking_unreleased g) (if (outward g).begun
-    then lost (outward g).loss h.tuple else h.tuple) peer t (homes-kept.refuses h frame peer standing t.homes)
+    tracked-closed h (change_last refusing (change_last (with_frame frame) h.connections)) (marking_unreleased g) (if (primary_connection g).begun
+    then lost (primary_connection g).loss h.tuple else h.tuple) peer t (homes-kept.refuses h frame peer standing t.homes)
     (λ block. latest-same refusing (change_last (with_frame frame) h.connections) block (λ c. refl)
     ∙ latest-same (with_frame frame) h.connections block (λ c. refl)) (λ block unmarked. close-keeps g block unmarked)
 
 -- Frames go out and come in.
 
 -- A frame is sent.
-pub tracked-sends : (h : PrimaryHistory) → (outward h).closed ≡ false → IsTracked h → HasHomes (with_outward pushing h) → IsTracked (with_outward pushing h)
+pub tracked-sends : (h : PrimaryHistory) → (primary_connection h).closed ≡ false → IsTracked h → HasHomes (with_primary_connection pushing h)
+    → IsTracked (with_primary_connection pushing h)
 tracked-sends h standing t homes = tracked-turn h pushing h.marks h.tuple h.peer h.receipts standing t homes
     (λ block. latest-same pushing h.connections block (λ c. refl))
     (λ place block contents stood there. record { standing = stood; there = there; unanswered = λ unanswered. unanswered; writes = λ next write at. at })
     t.equal
 
 -- A frame is taken, and marks may change where what was sent is the same.
-tracked-taking : (h : PrimaryHistory) (frame : Received) (marks : Marks) → (outward h).closed ≡ false → IsTracked h
+tracked-taking : (h : PrimaryHistory) (frame : Received) (marks : Marks) → (primary_connection h).closed ≡ false → IsTracked h
     → HasHomes (changed h (change_last (with_frame frame) h.connections) marks h.tuple h.peer h.receipts)
     → ((block : ℕ) → block < h.settings.blocks → marks block ≡ false → sent_map h block ≡ settling_map h block)
     → IsTracked (changed h (change_last (with_frame frame) h.connections) marks h.tuple h.peer h.receipts)
@@ -228,14 +241,15 @@ tracked-taking h frame marks standing t homes equal = tracked-turn h (with_frame
     (λ place block contents stood there. record {
       standing = stood;
       there = there;
-      unanswered = unanswered-before (outward h) (with_frame frame (outward h)) place (ResyncItem block contents)
-          (frames-taking (outward h) frame (not-refused h t.homes standing (length h.connections - 1) (open-at h standing)));
+      unanswered = unanswered-before (primary_connection h) (with_frame frame (primary_connection h)) place (ResyncItem block contents)
+          (frames-taking (primary_connection h) frame (not-refused h t.homes standing (length h.connections - 1) (open-at h standing)));
       writes = λ next write at. at;
     }) equal
 
 -- A frame is taken.
-pub tracked-takes : (h : PrimaryHistory) (frame : Received) → (outward h).closed ≡ false → IsTracked h → HasHomes (with_outward (with_frame frame) h)
-    → IsTracked (with_outward (with_frame frame) h)
+pub tracked-takes : (h : PrimaryHistory) (frame : Received) → (primary_connection h).closed ≡ false → IsTracked h
+    → HasHomes (with_primary_connection (with_frame frame) h)
+    → IsTracked (with_primary_connection (with_frame frame) h)
 tracked-takes h frame standing t homes = tracked-taking h frame h.marks standing t homes t.equal
 
 -- A receipt is taken.
@@ -246,15 +260,16 @@ tracked-receipts h number t = tracked-quiet h h.connections h.marks h.tuple h.pe
     t.equal
 
 -- no write behind a block that is under way has it
-pub under-way-copied : (h : PrimaryHistory) (place block : ℕ) (contents : List ℕ) → IsTracked h → IsUnderWay (outward h) place block contents
-    → IsCopy (outward h) place block contents
+pub under-way-copied : (h : PrimaryHistory) (place block : ℕ) (contents : List ℕ) → IsTracked h → IsUnderWay (primary_connection h) place block contents
+    → IsCopy (primary_connection h) place block contents
 under-way-copied h place block contents t way = record {
   standing = way.standing;
   there = way.there;
   last = λ next write after at. elim (cases_Bool (covers write block)) [
     | inr apart ↦ apart
-    | inl covered ↦ absurd (elim (latest-last h.connections block _ (t.under_way place block contents way) (last_index h.connections) next (outward h)
-        (WriteItem write) (open-at h (stands-parts (outward h) way.standing).0) at covered) [
+    | inl covered ↦ absurd (elim (latest-last h.connections block _ (t.under_way place block contents way) (last_index h.connections) next
+        (primary_connection h)
+        (WriteItem write) (open-at h (established-parts (primary_connection h) way.standing).0) at covered) [
           | inl before ↦ omega arith
           | inr here ↦ let low = here.1 in omega arith
         ])
@@ -266,29 +281,30 @@ pub copy-content : (block : ℕ) (contents : List ℕ) → content_at (ResyncIte
 copy-content block contents = let none : block - block ≡ 0 = omega arith in ap (λ (n : ℕ). slice_get (contents ∷ []) n) none
 
 -- on a block that is under way what was sent is what the local disk comes to hold
-under-way-equal : (h : PrimaryHistory) (place block : ℕ) (contents : List ℕ) → IsTracked h → IsUnderWay (outward h) place block contents
+under-way-equal : (h : PrimaryHistory) (place block : ℕ) (contents : List ℕ) → IsTracked h → IsUnderWay (primary_connection h) place block contents
     → sent_map h block ≡ settling_map h block
 under-way-equal h place block contents t way =
     ap (content_of (h.opening_map block) block) (t.under_way place block contents way)
     ∙ (copy-content block contents ∙ sym (t.copied place block contents (under-way-copied h place block contents t way)).0)
 
 -- A block's acknowledgement clears its mark: it was under way.
-pub tracked-clears : (h : PrimaryHistory) (ack : Acknowledged) → (outward h).closed ≡ false → (outward h).begun ≡ true
+pub tracked-clears : (h : PrimaryHistory) (ack : Acknowledged) → (primary_connection h).closed ≡ false → (primary_connection h).begun ≡ true
     → MayAcknowledge h is_resync was_resynced ack → IsTracked h
-    → IsTracked (record (with_outward (with_frame (Ok (RsWriteAckFrame ack))) h) { marks = clearing ack.first h.marks })
+    → IsTracked (record (with_primary_connection (with_frame (Ok (RsWriteAckFrame ack))) h) { marks = clearing ack.first h.marks })
 tracked-clears h ack standing begun may t =
     tracked-taking h (Ok (RsWriteAckFrame ack)) (clearing ack.first h.marks) standing t (homes-kept.clears h ack standing begun may t.homes)
     (λ block within unmarked. elim (and_cases (h.marks block) (not (block == ack.first)) unmarked) [
       | inl before ↦ t.equal block within before
       | inr cleared ↦ let is : block ≡ ack.first = eqb-true block ack.first (not-false (block == ack.first) cleared) in subst
-          (λ (b : ℕ). sent_map h b ≡ settling_map h b) (sym is) (there (slice_get (outward h).stream ack.place) refl may.names may.first)
+          (λ (b : ℕ). sent_map h b ≡ settling_map h b) (sym is) (there (slice_get (primary_connection h).stream ack.place) refl may.names may.first)
     ])
   where
-    stood : stands (outward h) ≡ true
-    stood = and_from (not (outward h).closed) (outward h).begun (not_from_false (outward h).closed standing) begun
+    stood : is_established (primary_connection h) ≡ true
+    stood = and_from (not (primary_connection h).closed) (primary_connection h).begun (not_from_false (primary_connection h).closed standing) begun
 
-    block-of : (item : Item) → slice_get (outward h).stream ack.place ≡ Some item → is_resync item ≡ true → same_naming (naming ack.place item) ack ≡ true
-        → was_resynced (outward h) ack.place item ≡ false → sent_map h ack.first ≡ settling_map h ack.first
+    block-of : (item : StreamItem) → slice_get (primary_connection h).stream ack.place ≡ Some item → is_resync item ≡ true
+        → same_naming (naming ack.place item) ack ≡ true
+        → was_resynced (primary_connection h) ack.place item ≡ false → sent_map h ack.first ≡ settling_map h ack.first
     block-of (WriteItem write) is resync same open_yet = absurd (cc)
     block-of (ResyncItem block contents) is resync same open_yet =
         let parts = and_parts ((block == ack.first) && (0 == ack.number)) ((1 == ack.count) && (ack.place == ack.place)) same in
@@ -299,15 +315,16 @@ tracked-clears h ack standing begun may t =
     block-of (SyncUuidItem word) is resync same open_yet = absurd (cc)
     block-of (UuidsItem tuple) is resync same open_yet = absurd (cc)
 
-    there : (v : Option Item) → slice_get (outward h).stream ack.place ≡ v
+    there : (v : Option StreamItem) → slice_get (primary_connection h).stream ack.place ≡ v
         → elim v as (λ _. Bool) [
           | None ↦ false
           | Some item ↦ (is_resync item && same_naming (naming ack.place item) ack)
-              && nat_lt ack.place (items_sent (outward h))
+              && nat_lt ack.place (items_sent (primary_connection h))
         ] ≡ true
-        → elim v as (λ _. Bool) [ None ↦ false | Some item ↦ was_resynced (outward h) ack.place item ] ≡ false → sent_map h ack.first ≡ settling_map h ack.first
+        → elim v as (λ _. Bool) [ None ↦ false | Some item ↦ was_resynced (primary_connection h) ack.place item ] ≡ false
+        → sent_map h ack.first ≡ settling_map h ack.first
     there None is names first = absurd (cc)
     there (Some item) is names first =
         let parts = and_parts (is_resync item) (same_naming (naming ack.place item) ack)
-        (and_parts (is_resync item && same_naming (naming ack.place item) ack) (nat_lt ack.place (items_sent (outward h))) names).0 in
+        (and_parts (is_resync item && same_naming (naming ack.place item) ack) (nat_lt ack.place (items_sent (primary_connection h))) names).0 in
         block-of item is parts.0 parts.1 first

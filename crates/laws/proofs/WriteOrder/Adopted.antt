@@ -7,9 +7,9 @@ use Rattle.std.proofs.lemmas.Bool.{cases_Bool, cases_lt, both_ways, or_from, and
 use Rattle.std.proofs.lemmas.Option.{slice_get_within}
 use Rattle.blocks.specs.declared.tuple.Tuple.{Tuple}
 use Rattle.model.specs.Contents.{BlockMap, covers}
-use Rattle.model.specs.Stream.{Item, SyncUuidItem, UuidsItem, IsBeginning, is_in, first_of, contents_of}
-use Rattle.model.specs.Primary.{Accepted, Outward, PrimaryHistory, is_sync_start, is_sync_end, local_layer, local_map, is_released, unreleased}
-use Rattle.model.specs.Secondary.{Inward, SecondaryHistory, items_taken, map_of, secondary_map}
+use Rattle.model.specs.Stream.{StreamItem, SyncUuidItem, UuidsItem, IsBeginning, is_in, first_of, contents_of}
+use Rattle.model.specs.Primary.{Accepted, PrimaryConnection, PrimaryHistory, is_sync_start, is_sync_end, local_layer, local_map, is_released, unreleased}
+use Rattle.model.specs.Secondary.{SecondaryConnection, SecondaryHistory, items_taken, map_of, secondary_map}
 use Rattle.model.specs.LocalRuns.{PrimaryEvent, primary_run, SecondaryEvent, secondary_run}
 use Rattle.model.specs.Headline.{IsJoined, HoldsEarlierEpochs, IsGrounded, is_marked}
 use Rattle.model.specs.Theorems.{Opening, IsSoundOpening, primary_at, secondary_at}
@@ -40,7 +40,8 @@ use Rattle.laws.proofs.WriteOrder.SpanMoves.{HasSpans}
 use Rattle.laws.proofs.WriteOrder.Generations.{TakesOnly, IsLeft}
 use Rattle.laws.proofs.WriteOrder.GenerationMoves.{HasLeft}
 use Rattle.laws.proofs.WriteOrder.Consistent.{IsAdopted}
-use Rattle.laws.proofs.WriteOrder.Ends.{none-in, first-in, brings-nothing, base-from-opening, base-from-end, rises, peer-hello, outward-of, behind-of}
+use Rattle.laws.proofs.WriteOrder.Ends.{none-in, first-in, brings-nothing, base-from-opening, base-from-end, rises, peer-hello, primary-connection-of}
+use Rattle.laws.proofs.WriteOrder.Ends.{behind-of}
 use Rattle.laws.proofs.WriteOrder.Ends.{none-failed}
 
 module _ (o : Opening) (here : List PrimaryEvent) (there : List SecondaryEvent) (sound : IsSoundOpening o)
@@ -58,18 +59,18 @@ module _ (o : Opening) (here : List PrimaryEvent) (there : List SecondaryEvent) 
   abbrev j : ℕ
   j = a.index
 
-  abbrev d : Inward
+  abbrev d : SecondaryConnection
   d = a.end
 
   -- the primary's end of the connection
-  adopted-on : (k : ℕ) × (c : Outward) × AreEnds (primary_run here (primary_at o)) (secondary_run there (secondary_at o)) k a.index c a.end
+  adopted-on : (k : ℕ) × (c : PrimaryConnection) × AreEnds (primary_run here (primary_at o)) (secondary_run there (secondary_at o)) k a.index c a.end
       × IsBeginning (items_taken a.end) c.stream
-  adopted-on = outward-of o here there joined a.index a.place a.end (UuidsItem s.tuple) a.at a.there
+  adopted-on = primary-connection-of o here there joined a.index a.place a.end (UuidsItem s.tuple) a.at a.there
 
   abbrev k : ℕ
   k = adopted-on.0
 
-  abbrev c : Outward
+  abbrev c : PrimaryConnection
   c = adopted-on.1
 
   -- the resync ended there
@@ -80,19 +81,21 @@ module _ (o : Opening) (here : List PrimaryEvent) (there : List SecondaryEvent) 
   begun-there = elim (cases_Bool c.begun) [
     | inl is ↦ is
     | inr new ↦ absurd (let nothing : slice_get [] a.place ≡ Some (UuidsItem s.tuple) =
-        subst (λ (l : List Item). slice_get l a.place ≡ Some (UuidsItem s.tuple)) (homes.empty k c adopted-on.2.outward new) ended-there in cc (nothing))
+        subst (λ (l : List StreamItem). slice_get l a.place ≡ Some (UuidsItem s.tuple)) (homes.empty k c adopted-on.2.primary_connection new) ended-there in cc
+        (nothing))
   ]
 
   -- it adopted a tuple
   adopted : has_adopted s ≡ true
-  adopted = any-pick (λ (e : Inward). list_any is_sync_end (items_taken e)) s.connections j d a.at
+  adopted = any-pick (λ (e : SecondaryConnection). list_any is_sync_end (items_taken e)) s.connections j d a.at
       (any-pick is_sync_end (items_taken d) a.place (UuidsItem s.tuple) a.there refl)
 
   base-same : (block : ℕ) → base_of p s block ≡ p.opening_map block
   base-same block = ap (λ b. elim b as (λ _. Option (List ℕ)) [ true ↦ p.opening_map block | false ↦ s.opening_map block ]) adopted
 
   -- of two connections the one with the lower number comes first
-  comes-first : (m : ℕ) (e : Inward) (i : ℕ) (f : Inward) → slice_get s.connections m ≡ Some e → slice_get s.connections i ≡ Some f → e.number < f.number
+  comes-first : (m : ℕ) (e : SecondaryConnection) (i : ℕ) (f : SecondaryConnection) → slice_get s.connections m ≡ Some e → slice_get s.connections i ≡ Some f
+      → e.number < f.number
       → m < i
   comes-first m e i f ate atf less = elim (cases_lt m i) [
     | inl is ↦ is
@@ -101,7 +104,7 @@ module _ (o : Opening) (here : List PrimaryEvent) (there : List SecondaryEvent) 
       | inr not_early ↦
           let index : m ≡ i = omega arith in
           let same : e ≡ f = same-at s.connections i e f (subst (λ (x : ℕ). slice_get s.connections x ≡ Some e) index ate) atf in
-          let number : e.number ≡ f.number = ap (λ (x : Inward). x.number) same in
+          let number : e.number ≡ f.number = ap (λ (x : SecondaryConnection). x.number) same in
           omega arith
     ])
   ]
@@ -112,29 +115,29 @@ module _ (o : Opening) (here : List PrimaryEvent) (there : List SecondaryEvent) 
       let hello = peer-hello o here there joined i n e peer at taken in
       let one = hello.2.number in
       let two = adopted-on.2.number in
-      let less = comes-first j d hello.0 hello.1 a.at hello.2.inward (omega arith) in
-      ap (λ (t : Tuple). t.current) (hello.3 ∙ (a.later hello.0 hello.1 less hello.2.inward).hello)
+      let less = comes-first j d hello.0 hello.1 a.at hello.2.secondary_connection (omega arith) in
+      ap (λ (t : Tuple). t.current) (hello.3 ∙ (a.later hello.0 hello.1 less hello.2.secondary_connection).hello)
 
   left-then : IsLeft s.tuple.current (suc k) p
-  left-then = left.ended k a.place c s.tuple adopted-on.2.outward ended-there only-adopted
+  left-then = left.ended k a.place c s.tuple adopted-on.2.primary_connection ended-there only-adopted
 
   -- so it took nothing since
-  later-empty : (m : ℕ) (e : Inward) → j < m → slice_get s.connections m ≡ Some e → items_taken e ≡ []
+  later-empty : (m : ℕ) (e : SecondaryConnection) → j < m → slice_get s.connections m ≡ Some e → items_taken e ≡ []
   later-empty m e less at = elim (cases_Bool (nat_lt 0 (length (items_taken e)))) [
     | inr none ↦ none-in (items_taken e) none
     | inl some ↦ absurd (
         let head = first-in (items_taken e) some in
-        let of = outward-of o here there joined m 0 e head.0 at head.1 in
+        let of = primary-connection-of o here there joined m 0 e head.0 at head.1 in
         let low = (rises o here there joined).rise j m d e less a.at at in
         let one = of.2.number in
         let two = adopted-on.2.number in
-        let within = slice_get_within p.connections of.0 of.1 of.2.outward in
+        let within = slice_get_within p.connections of.0 of.1 of.2.primary_connection in
         let there_too = get-beginning (items_taken e) of.1.stream 0 head.0 of.3 head.1 in
         elim left-then [
           | inl standing ↦ let last = standing.last in omega arith
-          | inr gone ↦ elim (gone.resyncs of.0 of.1 (omega arith) of.2.outward) [
-            | inl new ↦ let nothing : slice_get [] 0 ≡ Some head.0 = subst (λ (l : List Item). slice_get l 0 ≡ Some head.0)
-                (homes.empty of.0 of.1 of.2.outward new) there_too in cc (nothing)
+          | inr gone ↦ elim (gone.resyncs of.0 of.1 (omega arith) of.2.primary_connection) [
+            | inl new ↦ let nothing : slice_get [] 0 ≡ Some head.0 = subst (λ (l : List StreamItem). slice_get l 0 ≡ Some head.0)
+                (homes.empty of.0 of.1 of.2.primary_connection new) there_too in cc (nothing)
             | inr resync ↦
                 let same : head.0 ≡ SyncUuidItem resync.0 = same-at of.1.stream 0 head.0 (SyncUuidItem resync.0) there_too resync.1 in
                 both_ways (is_sync_start head.0) ((a.later m e less at).items 0 head.0 head.1).0 (ap is_sync_start same)
@@ -146,14 +149,14 @@ module _ (o : Opening) (here : List PrimaryEvent) (there : List SecondaryEvent) 
   fine = none-failed o here there joined unharmed
 
   span : (older : ℕ) × (newer : ℕ) × IsSpan (primary_run here (primary_at o)) adopted-on.0 adopted-on.1 older newer
-  span = spans.spans k c adopted-on.2.outward begun-there
+  span = spans.spans k c adopted-on.2.primary_connection begun-there
 
   grounded : IsGrounded p s
-  grounded = inl (any-pick (λ (x : Outward). x.begun) p.connections k c adopted-on.2.outward begun-there)
+  grounded = inl (any-pick (λ (x : PrimaryConnection). x.begun) p.connections k c adopted-on.2.primary_connection begun-there)
 
   -- nothing of the connection is applied on a block
   abbrev IsBare : ℕ → Type 0
-  IsBare block = (n : ℕ) (i : Item) → slice_get (items_taken d) n ≡ Some i → touches i block ≡ true → is_in d.applied n (block - first_of i) ≡ false
+  IsBare block = (n : ℕ) (i : StreamItem) → slice_get (items_taken d) n ≡ Some i → touches i block ≡ true → is_in d.applied n (block - first_of i) ≡ false
 
   -- What the connection opened on, on such a block.
 
@@ -163,7 +166,7 @@ module _ (o : Opening) (here : List PrimaryEvent) (there : List SecondaryEvent) 
       let v = left_by p older block in
       let frame = sure-taken from.end from.place from.item from.sure in
       let end = secondary-end p s joined from.connection frame.0 from.end frame.1 from.at frame.2 in
-      let e : Inward = end.1 in
+      let e : SecondaryConnection = end.1 in
       let applied = sure-is-applied o here there joined from.connection end.0 from.place from.end e from.item end.2 from.there from.sure in
       let begins = taken-begins p s (rises o here there joined) joined from.connection end.0 from.end e end.2 in
       let holds : map_of e block ≡ v = map-settles e block v from.place from.item applied.0 from.touched applied.1 from.content (λ n i less at touched.
@@ -171,13 +174,13 @@ module _ (o : Opening) (here : List PrimaryEvent) (there : List SecondaryEvent) 
       let one = end.2.number in
       let two = adopted-on.2.number in
       let below_it = from.less in
-      base-from-end s epochs block v end.0 e end.2.inward holds j d (comes-first end.0 e j d end.2.inward a.at (omega arith)) a.at
+      base-from-end s epochs block v end.0 e end.2.secondary_connection holds j d (comes-first end.0 e j d end.2.secondary_connection a.at (omega arith)) a.at
       (λ m f low high at n i taken touched.
-      let of = outward-of o here there joined m n f i at taken in
+      let of = primary-connection-of o here there joined m n f i at taken in
       let number = of.2.number in
-      let after = (rises o here there joined).rise end.0 m e f low end.2.inward at in
+      let after = (rises o here there joined).rise end.0 m e f low end.2.secondary_connection at in
       let before = (rises o here there joined).rise m j f d high at a.at in
-      from.later of.0 n of.1 i (omega arith) of.2.outward (get-beginning (items_taken f) of.1.stream n i of.3 taken) touched (inl (omega arith)))
+      from.later of.0 n of.1 i (omega arith) of.2.primary_connection (get-beginning (items_taken f) of.1.stream n i of.3 taken) touched (inl (omega arith)))
 
   -- where it stands as at the opening
   opened-as-opening : (older block : ℕ) → OpeningBelow p k older block → d.base block ≡ left_by p older block
@@ -189,11 +192,11 @@ module _ (o : Opening) (here : List PrimaryEvent) (there : List SecondaryEvent) 
       let was : s.opening_map block ≡ v = ap (λ (m : BlockMap). m block) theirs.disk
       ∙ (sym same ∙ (ap (λ (m : BlockMap). m block) (sym mine.disk) ∙ below.content)) in
       base-from-opening s epochs block v was j d a.at (λ m f high at n i taken touched.
-      let of = outward-of o here there joined m n f i at taken in
+      let of = primary-connection-of o here there joined m n f i at taken in
       let number = of.2.number in
       let two = adopted-on.2.number in
       let before = (rises o here there joined).rise m j f d high at a.at in
-      below.items of.0 n of.1 i (omega arith) of.2.outward (get-beginning (items_taken f) of.1.stream n i of.3 taken) touched)
+      below.items of.0 n of.1 i (omega arith) of.2.primary_connection (get-beginning (items_taken f) of.1.stream n i of.3 taken) touched)
 
   -- what is bare stays as the connection opened
   bare-map : (block : ℕ) → IsBare block → map_of d block ≡ d.base block

@@ -12,11 +12,12 @@ use Rattle.blocks.specs.declared.settings.Settings.{Settings}
 use Rattle.blocks.specs.declared.settings.Protocol.{Protocol}
 use Rattle.blocks.specs.declared.tuple.Tuple.{Tuple}
 use Rattle.model.specs.Contents.{BlockMap}
-use Rattle.model.specs.Stream.{Item, WriteItem, UuidsItem, IsBeginning}
+use Rattle.model.specs.Stream.{StreamItem, WriteItem, UuidsItem, IsBeginning}
 use Rattle.model.specs.Frames.{Received, UuidsFrame}
 use Rattle.model.specs.Primary.{change_last, is_sync_start, is_sync_end, is_resync}
-use Rattle.model.specs.Secondary.{Inward, SecondaryHistory, secondary_opening, no_inward, inward, with_inward, accepted_of, received_item, items_taken}
-use Rattle.model.specs.Secondary.{is_in_resync, secondary_map, new_inward}
+use Rattle.model.specs.Secondary.{SecondaryConnection, SecondaryHistory, secondary_opening, no_secondary_connection, secondary_connection}
+use Rattle.model.specs.Secondary.{with_secondary_connection, accepted_of, received_item, items_taken}
+use Rattle.model.specs.Secondary.{is_in_resync, secondary_map, new_secondary_connection}
 use Rattle.model.specs.SecondarySteps.{answering, barrier_answer, barriers_to_answer, opened_secondary, next_number, applying}
 use Rattle.model.specs.SecondarySteps.{failing, adopting, applied_with}
 use Rattle.model.specs.LocalRuns.{SecondaryEvent, secondary_after, secondary_run}
@@ -30,50 +31,51 @@ use Rattle.laws.proofs.Secondary.Tuples.{open-there, taken-item}
 use Rattle.laws.proofs.Rules.RefusedFrames.{refused_in, refused_by_too, refused-last-too}
 
 -- An end whose hello has this tuple, and whose items neither begin nor end a resync, nor are blocks of one.
-pub record IsPlainEnd (tuple : Tuple) (d : Inward) : Type 0 where
+pub record IsPlainEnd (tuple : Tuple) (d : SecondaryConnection) : Type 0 where
   pub hello : d.hello ≡ tuple
-  pub items : (n : ℕ) (i : Item) → slice_get (items_taken d) n ≡ Some i → (is_sync_start i ≡ false) × ((is_sync_end i ≡ false) × (is_resync i ≡ false))
+  pub items : (n : ℕ) (i : StreamItem) → slice_get (items_taken d) n ≡ Some i → (is_sync_start i ≡ false) × ((is_sync_end i ≡ false) × (is_resync i ≡ false))
 
 -- it never took a SYNC_UUID
 pub record IsNever (h : SecondaryHistory) : Type 0 where
   pub tuple : h.tuple ≡ h.opening_tuple
   pub known : h.opening_tuple.current ≡ 0 → ⊥
-  pub ends : (j : ℕ) (d : Inward) → slice_get h.connections j ≡ Some d → IsPlainEnd h.opening_tuple d
+  pub ends : (j : ℕ) (d : SecondaryConnection) → slice_get h.connections j ≡ Some d → IsPlainEnd h.opening_tuple d
 
 -- it adopted its tuple on this connection, and took no SYNC_UUID on a later one
 pub record IsAdopted (h : SecondaryHistory) : Type 0 where
   pub index : ℕ
   pub place : ℕ
-  pub end : Inward
+  pub end : SecondaryConnection
   pub at : slice_get h.connections index ≡ Some end
   pub there : slice_get (items_taken end) place ≡ Some (UuidsItem h.tuple)
-  pub later : (j : ℕ) (d : Inward) → index < j → slice_get h.connections j ≡ Some d → IsPlainEnd h.tuple d
+  pub later : (j : ℕ) (d : SecondaryConnection) → index < j → slice_get h.connections j ≡ Some d → IsPlainEnd h.tuple d
 
 -- One of the two, where it is consistent; and an end that refused a frame is closed.
 pub record HasSynced (h : SecondaryHistory) : Type 0 where
-  pub refused : (j : ℕ) (d : Inward) → slice_get h.connections j ≡ Some d → d.refused ≡ true → d.closed ≡ true
+  pub refused : (j : ℕ) (d : SecondaryConnection) → slice_get h.connections j ≡ Some d → d.refused ≡ true → d.closed ≡ true
   pub synced : h.consistent ≡ true → IsNever h ⊎ IsAdopted h
 
 -- A change of an end that keeps its hello, and adds items of the plain kinds alone.
-record KeepsPlain (d e : Inward) : Type 0 where
+record KeepsPlain (d e : SecondaryConnection) : Type 0 where
   hello : e.hello ≡ d.hello
   grows : IsBeginning (items_taken d) (items_taken e)
-  items : (n : ℕ) (i : Item) → slice_get (items_taken e) n ≡ Some i
+  items : (n : ℕ) (i : StreamItem) → slice_get (items_taken e) n ≡ Some i
       → (slice_get (items_taken d) n ≡ Some i) ⊎ ((is_sync_start i ≡ false) × ((is_sync_end i ≡ false) × (is_resync i ≡ true → is_in_resync d ≡ true)))
   refused : (d.refused ≡ true → d.closed ≡ true) → e.refused ≡ true → e.closed ≡ true
 
 -- one that keeps the items
-same-items : (d e : Inward) → e.hello ≡ d.hello → items_taken e ≡ items_taken d → ((d.refused ≡ true → d.closed ≡ true) → e.refused ≡ true → e.closed ≡ true)
+same-items : (d e : SecondaryConnection) → e.hello ≡ d.hello → items_taken e ≡ items_taken d
+    → ((d.refused ≡ true → d.closed ≡ true) → e.refused ≡ true → e.closed ≡ true)
     → KeepsPlain d e
 same-items d e hello items refused = record {
   hello = hello;
-  grows = subst (λ (l : List Item). IsBeginning (items_taken d) l) (sym items) (begins-self (items_taken d));
-  items = λ n i at. inl (subst (λ (l : List Item). slice_get l n ≡ Some i) items at);
+  grows = subst (λ (l : List StreamItem). IsBeginning (items_taken d) l) (sym items) (begins-self (items_taken d));
+  items = λ n i at. inl (subst (λ (l : List StreamItem). slice_get l n ≡ Some i) items at);
   refused = refused;
 }
 
 -- a plain end stays plain
-plain-keeps : (tuple : Tuple) (d e : Inward) → KeepsPlain d e → IsPlainEnd tuple d → IsPlainEnd tuple e
+plain-keeps : (tuple : Tuple) (d e : SecondaryConnection) → KeepsPlain d e → IsPlainEnd tuple d → IsPlainEnd tuple e
 plain-keeps tuple d e k p = record {
   hello = k.hello ∙ p.hello;
   items = λ n i at. elim (k.items n i at) [
@@ -92,14 +94,15 @@ plain-keeps tuple d e k p = record {
 }
 
 -- The last connection changes so, and no tuple is adopted.
-synced-change : (h later : SecondaryHistory) (f : Inward → Inward) → later.connections ≡ change_last f h.connections → later.tuple ≡ h.tuple
-    → later.opening_tuple ≡ h.opening_tuple → later.consistent ≡ h.consistent → KeepsPlain (inward h) (f (inward h))
+synced-change : (h later : SecondaryHistory) (f : SecondaryConnection → SecondaryConnection) → later.connections ≡ change_last f h.connections
+    → later.tuple ≡ h.tuple
+    → later.opening_tuple ≡ h.opening_tuple → later.consistent ≡ h.consistent → KeepsPlain (secondary_connection h) (f (secondary_connection h))
     → HasSynced h → HasSynced later
 synced-change h later f connections tuple opening consistent k t = record {
   refused = λ j d at was. elim (back j d at) [
     | inl same ↦ t.refused j d same was
-    | inr changed ↦ subst (λ (x : Inward). x.closed ≡ true) (sym changed.0)
-        (k.refused (t.refused j (inward h) changed.1) (subst (λ (x : Inward). x.refused ≡ true) changed.0 was))
+    | inr changed ↦ subst (λ (x : SecondaryConnection). x.closed ≡ true) (sym changed.0)
+        (k.refused (t.refused j (secondary_connection h) changed.1) (subst (λ (x : SecondaryConnection). x.refused ≡ true) changed.0 was))
   ];
   synced = λ is. elim (t.synced (sym consistent ∙ is)) [
     | inl never ↦ inl (record {
@@ -121,47 +124,50 @@ synced-change h later f connections tuple opening consistent k t = record {
   ];
 }
   where
-    back : (j : ℕ) (d : Inward) → slice_get later.connections j ≡ Some d
-        → (slice_get h.connections j ≡ Some d) ⊎ ((d ≡ f (inward h)) × (slice_get h.connections j ≡ Some (inward h)) × (suc j ≡ length h.connections))
-    back j d at = get-change-back f (no_inward h) h.connections j d (subst (λ (l : List Inward). slice_get l j ≡ Some d) connections at)
+    back : (j : ℕ) (d : SecondaryConnection) → slice_get later.connections j ≡ Some d
+        → (slice_get h.connections j ≡ Some d)
+        ⊎ ((d ≡ f (secondary_connection h)) × (slice_get h.connections j ≡ Some (secondary_connection h)) × (suc j ≡ length h.connections))
+    back j d at = get-change-back f (no_secondary_connection h) h.connections j d
+        (subst (λ (l : List SecondaryConnection). slice_get l j ≡ Some d) connections at)
 
-    plain : (j : ℕ) (d : Inward) → slice_get later.connections j ≡ Some d → (tuple : Tuple)
-        → ((e : Inward) → slice_get h.connections j ≡ Some e → IsPlainEnd tuple e) → IsPlainEnd tuple d
+    plain : (j : ℕ) (d : SecondaryConnection) → slice_get later.connections j ≡ Some d → (tuple : Tuple)
+        → ((e : SecondaryConnection) → slice_get h.connections j ≡ Some e → IsPlainEnd tuple e) → IsPlainEnd tuple d
     plain j d at tuple was = elim (back j d at) [
       | inl same ↦ was d same
       | inr changed ↦ subst (IsPlainEnd tuple) (sym changed.0)
-          (plain-keeps tuple (inward h) (f (inward h)) k (was (inward h) changed.1))
+          (plain-keeps tuple (secondary_connection h) (f (secondary_connection h)) k (was (secondary_connection h) changed.1))
     ]
 
-    forward : (j : ℕ) (d : Inward) → slice_get h.connections j ≡ Some d
-        → (e : Inward) × (slice_get later.connections j ≡ Some e) × IsBeginning (items_taken d) (items_taken e)
-    forward j d at = elim (get-change f (no_inward h) h.connections j d at) [
-      | inl same ↦ (d, subst (λ (l : List Inward). slice_get l j ≡ Some d) (sym connections) same, begins-self (items_taken d))
+    forward : (j : ℕ) (d : SecondaryConnection) → slice_get h.connections j ≡ Some d
+        → (e : SecondaryConnection) × (slice_get later.connections j ≡ Some e) × IsBeginning (items_taken d) (items_taken e)
+    forward j d at = elim (get-change f (no_secondary_connection h) h.connections j d at) [
+      | inl same ↦ (d, subst (λ (l : List SecondaryConnection). slice_get l j ≡ Some d) (sym connections) same, begins-self (items_taken d))
       | inr changed ↦ (
         f d,
-        subst (λ (l : List Inward). slice_get l j ≡ Some (f d)) (sym connections) changed.0,
-        subst (λ (x : Inward). IsBeginning (items_taken x) (items_taken (f x))) (sym changed.1) k.grows,
+        subst (λ (l : List SecondaryConnection). slice_get l j ≡ Some (f d)) (sym connections) changed.0,
+        subst (λ (x : SecondaryConnection). IsBeginning (items_taken x) (items_taken (f x))) (sym changed.1) k.grows,
       )
     ]
 
 -- Changes of an end.
 
-plain-answering : (d : Inward) → KeepsPlain d (answering d)
+plain-answering : (d : SecondaryConnection) → KeepsPlain d (answering d)
 plain-answering d = go d.closed
   where
-    go : (b : Bool) → KeepsPlain d (elim b as (λ _. Inward) [ true ↦ d | false ↦ record d { due = d.due ++ map (barrier_answer d) (barriers_to_answer d) } ])
+    go : (b : Bool) → KeepsPlain d (elim b as
+        (λ _. SecondaryConnection) [ true ↦ d | false ↦ record d { due = d.due ++ map (barrier_answer d) (barriers_to_answer d) } ])
     go true = same-items d d refl refl (λ was. was)
     go false = same-items d _ refl refl (λ was. was)
 
-plain-applying : (asked : Protocol) (place : ℕ) (d : Inward) → KeepsPlain d (applying asked place d)
+plain-applying : (asked : Protocol) (place : ℕ) (d : SecondaryConnection) → KeepsPlain d (applying asked place d)
 plain-applying asked place d = go (slice_get (items_taken d) place)
   where
-    go : (v : Option Item) → KeepsPlain d (applied_with v asked place d)
+    go : (v : Option StreamItem) → KeepsPlain d (applied_with v asked place d)
     go None = same-items d d refl refl (λ was. was)
     go (Some item) = same-items d _ refl refl (λ was. was)
 
 -- the items of an end that is still in its hello
-items-early : (frame : Received) (d : Inward) → d.refused ≡ false → nat_lt (length d.taken) 3 ≡ true → items_taken (framed frame d) ≡ []
+items-early : (frame : Received) (d : SecondaryConnection) → d.refused ≡ false → nat_lt (length d.taken) 3 ≡ true → items_taken (framed frame d) ≡ []
 items-early frame d plain early =
     ap (λ b. filter_map received_item (drop 3 (if b then take (length (d.taken ++ frame ∷ []) - 1) (d.taken ++ frame ∷ []) else (d.taken ++ frame ∷ [])))) plain
     ∙ ap (filter_map received_item) (short d.taken (ltb-true (length d.taken) 3 early))
@@ -173,7 +179,7 @@ items-early frame d plain early =
     short (a ∷ b ∷ c ∷ l) less = absurd (omega arith)
 
 -- a frame behind the hello that brings no item adds none
-items-none : (frame : Received) (d : Inward) → d.refused ≡ false → nat_lt (length d.taken) 3 ≡ false → received_item frame ≡ None
+items-none : (frame : Received) (d : SecondaryConnection) → d.refused ≡ false → nat_lt (length d.taken) 3 ≡ false → received_item frame ≡ None
     → items_taken (framed frame d) ≡ items_taken d
 items-none frame d plain late is =
     let old : accepted_of d ≡ drop 3 d.taken = ap (λ b. drop 3 (if b then take (length d.taken - 1) d.taken else d.taken)) plain in
@@ -186,28 +192,31 @@ items-none frame d plain late is =
     ∙ (append-nil (filter_map received_item (drop 3 d.taken)) ∙ ap (filter_map received_item) (sym old))))
 
 -- a plain frame
-plain-taking : (h : SecondaryHistory) (frame : Received) → (inward h).refused ≡ false → IsPlain h frame → KeepsPlain (inward h) (framed frame (inward h))
+plain-taking : (h : SecondaryHistory) (frame : Received) → (secondary_connection h).refused ≡ false → IsPlain h frame
+    → KeepsPlain (secondary_connection h) (framed frame (secondary_connection h))
 plain-taking h frame plain (inl early) =
-    let none = items-early frame (inward h) plain early in
-    let more = taking-more frame (inward h) plain in
+    let none = items-early frame (secondary_connection h) plain early in
+    let more = taking-more frame (secondary_connection h) plain in
     record {
       hello = refl;
       grows = (more.0, sym more.1);
-      items = λ n i at. absurd (let there : slice_get [] n ≡ Some i = subst (λ (l : List Item). slice_get l n ≡ Some i) none at in cc (there));
+      items = λ n i at. absurd (let there : slice_get [] n ≡ Some i = subst (λ (l : List StreamItem). slice_get l n ≡ Some i) none at in cc (there));
       refused = λ was. was;
     }
 plain-taking h frame plain (inr late) = go (received_item frame) refl
   where
-    go : (v : Option Item) → received_item frame ≡ v → KeepsPlain (inward h) (framed frame (inward h))
-    go None is = same-items (inward h) (framed frame (inward h)) refl (items-none frame (inward h) plain late.0 is) (λ was. was)
+    go : (v : Option StreamItem) → received_item frame ≡ v → KeepsPlain (secondary_connection h) (framed frame (secondary_connection h))
+    go None is = same-items (secondary_connection h) (framed frame (secondary_connection h)) refl (items-none frame (secondary_connection h) plain late.0 is)
+        (λ was. was)
     go (Some item) is =
-        let same = taken-item frame item (inward h) plain late.0 is in
+        let same = taken-item frame item (secondary_connection h) plain late.0 is in
         record {
           hello = refl;
           grows = (item ∷ [], sym same);
-          items = λ n i at. elim (get-more (items_taken (inward h)) item n i (subst (λ (l : List Item). slice_get l n ≡ Some i) same at)) [
+          items = λ n i at. elim (get-more (items_taken (secondary_connection h)) item n i (subst (λ (l : List StreamItem). slice_get l n ≡ Some i) same at)) [
             | inl old ↦ inl old
-            | inr new ↦ inr (subst (λ (x : Item). (is_sync_start x ≡ false) × ((is_sync_end x ≡ false) × (is_resync x ≡ true → is_in_resync (inward h) ≡ true)))
+            | inr new ↦ inr (subst (λ (x : StreamItem). (is_sync_start x ≡ false)
+                × ((is_sync_end x ≡ false) × (is_resync x ≡ true → is_in_resync (secondary_connection h) ≡ true)))
                 (sym new.1) (late.1 item is))
           ];
           refused = λ was. was;
@@ -215,19 +224,20 @@ plain-taking h frame plain (inr late) = go (received_item frame) refl
 
 -- Steps.
 
-not-refused-yet : (h : SecondaryHistory) → HasSynced h → (inward h).closed ≡ false → (inward h).refused ≡ false
-not-refused-yet h t standing = elim (cases_Bool (inward h).refused) [
-  | inl was ↦ absurd (both_ways (inward h).closed standing (t.refused (length h.connections - 1) (inward h) (open-there h standing) was))
+not-refused-yet : (h : SecondaryHistory) → HasSynced h → (secondary_connection h).closed ≡ false → (secondary_connection h).refused ≡ false
+not-refused-yet h t standing = elim (cases_Bool (secondary_connection h).refused) [
+  | inl was ↦ absurd (both_ways (secondary_connection h).closed standing
+      (t.refused (length h.connections - 1) (secondary_connection h) (open-there h standing) was))
   | inr not_so ↦ not_so
 ]
 
-then-answering : (h : SecondaryHistory) → HasSynced h → HasSynced (with_inward answering h)
-then-answering h t = synced-change h (with_inward answering h) answering refl refl refl refl (plain-answering (inward h)) t
+then-answering : (h : SecondaryHistory) → HasSynced h → HasSynced (with_secondary_connection answering h)
+then-answering h t = synced-change h (with_secondary_connection answering h) answering refl refl refl refl (plain-answering (secondary_connection h)) t
 
 synced-opens : (unseen : ℕ) (h : SecondaryHistory) → HasSynced h → HasSynced (opened_secondary unseen h)
 synced-opens unseen h t = record {
   refused = λ j d at was. elim (get-more h.connections new j d at)
-      [ inl old ↦ t.refused j d old was | inr added ↦ absurd (both_ways d.refused (ap (λ (x : Inward). x.refused) added.1) was) ];
+      [ inl old ↦ t.refused j d old was | inr added ↦ absurd (both_ways d.refused (ap (λ (x : SecondaryConnection). x.refused) added.1) was) ];
   synced = λ is. elim (t.synced is) [
     | inl never ↦ inl (record {
       tuple = never.tuple;
@@ -253,39 +263,41 @@ synced-opens unseen h t = record {
   ];
 }
   where
-    new : Inward
-    new = new_inward (next_number unseen h) (secondary_map h) h.tuple
+    new : SecondaryConnection
+    new = new_secondary_connection (next_number unseen h) (secondary_map h) h.tuple
 
 -- a resync starts
-synced-starts : (h : SecondaryHistory) (frame : Received) (tuple : Tuple) → HasSynced h → HasSynced (adopting tuple false (with_inward (framed frame) h))
+synced-starts : (h : SecondaryHistory) (frame : Received) (tuple : Tuple) → HasSynced h
+    → HasSynced (adopting tuple false (with_secondary_connection (framed frame) h))
 synced-starts h frame tuple t = record {
-  refused = λ j d at was. elim (get-change-back (framed frame) (no_inward h) h.connections j d at) [
+  refused = λ j d at was. elim (get-change-back (framed frame) (no_secondary_connection h) h.connections j d at) [
     | inl same ↦ t.refused j d same was
-    | inr changed ↦ subst (λ (x : Inward). x.closed ≡ true) (sym changed.0)
-        (t.refused j (inward h) changed.1 (subst (λ (x : Inward). x.refused ≡ true) changed.0 was))
+    | inr changed ↦ subst (λ (x : SecondaryConnection). x.closed ≡ true) (sym changed.0)
+        (t.refused j (secondary_connection h) changed.1 (subst (λ (x : SecondaryConnection). x.refused ≡ true) changed.0 was))
   ];
   synced = λ is. absurd (cc);
 }
 
 -- it ends, and its tuple is adopted
-synced-ends : (h : SecondaryHistory) (tuple : Tuple) → (inward h).closed ≡ false → nat_lt (length (inward h).taken) 3 ≡ false → HasSynced h
-    → HasSynced (adopting tuple true (with_inward (framed (Ok (UuidsFrame tuple))) h))
+synced-ends : (h : SecondaryHistory) (tuple : Tuple) → (secondary_connection h).closed ≡ false → nat_lt (length (secondary_connection h).taken) 3 ≡ false
+    → HasSynced h
+    → HasSynced (adopting tuple true (with_secondary_connection (framed (Ok (UuidsFrame tuple))) h))
 synced-ends h tuple standing late t = record {
-  refused = λ j d at was. elim (get-change-back (framed frame) (no_inward h) h.connections j d at) [
+  refused = λ j d at was. elim (get-change-back (framed frame) (no_secondary_connection h) h.connections j d at) [
     | inl same ↦ t.refused j d same was
-    | inr changed ↦ subst (λ (x : Inward). x.closed ≡ true) (sym changed.0)
-        (t.refused j (inward h) changed.1 (subst (λ (x : Inward). x.refused ≡ true) changed.0 was))
+    | inr changed ↦ subst (λ (x : SecondaryConnection). x.closed ≡ true) (sym changed.0)
+        (t.refused j (secondary_connection h) changed.1 (subst (λ (x : SecondaryConnection). x.refused ≡ true) changed.0 was))
   ];
   synced = λ is. inr (
       let there = open-there h standing in
-      let items = taken-item frame (UuidsItem tuple) (inward h) (not-refused-yet h t standing) late refl in
+      let items = taken-item frame (UuidsItem tuple) (secondary_connection h) (not-refused-yet h t standing) late refl in
       record {
         index = length h.connections - 1;
-        place = length (items_taken (inward h));
-        end = framed frame (inward h);
-        at = get-last-changed (framed frame) (no_inward h) h.connections (inward h) there refl;
-        there = subst (λ (l : List Item). slice_get l (length (items_taken (inward h))) ≡ Some (UuidsItem tuple)) (sym items)
-            (get-end (items_taken (inward h)) (UuidsItem tuple));
+        place = length (items_taken (secondary_connection h));
+        end = framed frame (secondary_connection h);
+        at = get-last-changed (framed frame) (no_secondary_connection h) h.connections (secondary_connection h) there refl;
+        there = subst (λ (l : List StreamItem). slice_get l (length (items_taken (secondary_connection h))) ≡ Some (UuidsItem tuple)) (sym items)
+            (get-end (items_taken (secondary_connection h)) (UuidsItem tuple));
         later = λ j d less at. absurd (let within = slice_get_within (change_last (framed frame) h.connections) j d at in let size =
             length-change (framed frame) h.connections in omega arith);
       });
@@ -301,8 +313,8 @@ synced-after event h t = after-kinds HasSynced h event (record {
   takes = λ frame standing.
       let plain = not-refused-yet h t standing in
       record {
-        accepts = λ kind. then-answering (with_inward (framed frame) h)
-            (synced-change h (with_inward (framed frame) h) (framed frame) refl refl refl refl (plain-taking h frame plain kind) t);
+        accepts = λ kind. then-answering (with_secondary_connection (framed frame) h)
+            (synced-change h (with_secondary_connection (framed frame) h) (framed frame) refl refl refl refl (plain-taking h frame plain kind) t);
         receipts = λ write at is late.
             let kind : IsPlain h frame = inr (
               late,
@@ -310,28 +322,31 @@ synced-after event h t = after-kinds HasSynced h event (record {
                   let same : WriteItem write ≡ item = let e : Some (WriteItem write) ≡ Some item = ap received_item (sym is) ∙ brings in cc in
                   (ap is_sync_start (sym same), (ap is_sync_end (sym same), λ block. absurd (both_ways (is_resync item) (ap is_resync (sym same)) block))),
             ) in
-            let taken = synced-change h (with_inward (framed frame) h) (framed frame) refl refl refl refl (plain-taking h frame plain kind) t in
-            let answer : Inward → Inward = receipting (length (items_taken (inward h))) write in
-            then-answering (with_inward answer (with_inward (framed frame) h))
-            (synced-change (with_inward (framed frame) h) (with_inward answer (with_inward (framed frame) h)) answer refl refl refl refl
+            let taken = synced-change h (with_secondary_connection (framed frame) h) (framed frame) refl refl refl refl (plain-taking h frame plain kind) t in
+            let answer : SecondaryConnection → SecondaryConnection = receipting (length (items_taken (secondary_connection h))) write in
+            then-answering (with_secondary_connection answer (with_secondary_connection (framed frame) h))
+            (synced-change (with_secondary_connection (framed frame) h) (with_secondary_connection answer (with_secondary_connection (framed frame) h)) answer
+            refl refl refl refl
             (same-items _ _ refl refl (λ was. was)) taken);
-        starts = λ word is late. then-answering (adopting (record h.tuple { current = word }) false (with_inward (framed frame) h))
+        starts = λ word is late. then-answering (adopting (record h.tuple { current = word }) false (with_secondary_connection (framed frame) h))
             (synced-starts h frame (record h.tuple { current = word }) t);
-        ends = λ tuple is late. subst (λ (x : Received). HasSynced (with_inward answering (adopting tuple true (with_inward (framed x) h)))) (sym is)
-            (then-answering (adopting tuple true (with_inward (framed (Ok (UuidsFrame tuple))) h)) (synced-ends h tuple standing late t));
+        ends = λ tuple is late. subst (λ (x : Received). HasSynced
+            (with_secondary_connection answering (adopting tuple true (with_secondary_connection (framed x) h)))) (sym is)
+            (then-answering (adopting tuple true (with_secondary_connection (framed (Ok (UuidsFrame tuple))) h)) (synced-ends h tuple standing late t));
         refuses = synced-change h (refused_by_too frame h) (refused_in frame)
             (refused-last-too frame h) refl refl refl
-            (same-items (inward h) (refused_in frame (inward h)) refl (items-refusing frame (inward h) plain) (λ was r. refl)) t;
+            (same-items (secondary_connection h) (refused_in frame (secondary_connection h)) refl (items-refusing frame (secondary_connection h) plain)
+            (λ was r. refl)) t;
       };
-  applies = λ place. then-answering (with_inward (applying h.settings.protocol place) h)
-      (synced-change h (with_inward (applying h.settings.protocol place) h) (applying h.settings.protocol place) refl refl refl refl
-      (plain-applying h.settings.protocol place (inward h)) t);
-  fails = λ place offsets. synced-change h (with_inward (failing place offsets) h) (failing place offsets) refl refl refl refl
-      (same-items (inward h) (failing place offsets (inward h)) refl refl (λ was r. refl)) t;
-  pushes = λ standing. synced-change h (with_inward pushed_one h) pushed_one refl refl refl refl
-      (same-items (inward h) (pushed_one (inward h)) refl refl (λ was. was)) t;
-  closes = λ standing. synced-change h (with_inward closed_end h) closed_end refl refl refl refl
-      (same-items (inward h) (closed_end (inward h)) refl refl (λ was r. refl)) t;
+  applies = λ place. then-answering (with_secondary_connection (applying h.settings.protocol place) h)
+      (synced-change h (with_secondary_connection (applying h.settings.protocol place) h) (applying h.settings.protocol place) refl refl refl refl
+      (plain-applying h.settings.protocol place (secondary_connection h)) t);
+  fails = λ place offsets. synced-change h (with_secondary_connection (failing place offsets) h) (failing place offsets) refl refl refl refl
+      (same-items (secondary_connection h) (failing place offsets (secondary_connection h)) refl refl (λ was r. refl)) t;
+  pushes = λ standing. synced-change h (with_secondary_connection pushed_one h) pushed_one refl refl refl refl
+      (same-items (secondary_connection h) (pushed_one (secondary_connection h)) refl refl (λ was. was)) t;
+  closes = λ standing. synced-change h (with_secondary_connection closed_end h) closed_end refl refl refl refl
+      (same-items (secondary_connection h) (closed_end (secondary_connection h)) refl refl (λ was r. refl)) t;
 })
 
 synced-from : (events : List SecondaryEvent) (h : SecondaryHistory) → HasSynced h → HasSynced (secondary_run events h)

@@ -5,10 +5,10 @@ use Rattle.std.proofs.Common.{slice_get, Ok, refl, ◌∙◌, ap, subst, arith}
 use Rattle.std.proofs.lemmas.Bool.{cases_lt, both_ways, lt-ltb, ltb-true, false_from_ne_true}
 use Rattle.std.proofs.lemmas.Option.{slice_get_within}
 use Rattle.blocks.specs.declared.tuple.Tuple.{Tuple}
-use Rattle.model.specs.Stream.{Item, ResyncItem, IsBeginning, is_in, first_of}
+use Rattle.model.specs.Stream.{StreamItem, ResyncItem, IsBeginning, is_in, first_of}
 use Rattle.model.specs.Frames.{UuidsFrame}
-use Rattle.model.specs.Primary.{Accepted, Outward, PrimaryHistory, is_failed}
-use Rattle.model.specs.Secondary.{Inward, SecondaryHistory, no_inward, inward, items_taken, map_of, answers_due, whole}
+use Rattle.model.specs.Primary.{Accepted, PrimaryConnection, PrimaryHistory, is_failed}
+use Rattle.model.specs.Secondary.{SecondaryConnection, SecondaryHistory, no_secondary_connection, secondary_connection, items_taken, map_of, answers_due, whole}
 use Rattle.model.specs.LocalRuns.{PrimaryEvent, primary_run, SecondaryEvent, secondary_run}
 use Rattle.model.specs.Headline.{IsJoined, HoldsEarlierEpochs, pushed_back_by}
 use Rattle.model.specs.Theorems.{Opening, primary_at, secondary_at}
@@ -42,18 +42,19 @@ first-in [] some = absurd (both_ways (nat_lt 0 0) (false_from_ne_true (nat_lt 0 
 first-in (x ∷ xs) some = (x, refl)
 
 -- every item taken on a connection that touches the block has this there
-abbrev pub BringsOnly : ℕ → Option (List ℕ) → Inward → Type 0
-BringsOnly block v d = (n : ℕ) (i : Item) → slice_get (items_taken d) n ≡ Some i → touches i block ≡ true → content_at i block ≡ v
+abbrev pub BringsOnly : ℕ → Option (List ℕ) → SecondaryConnection → Type 0
+BringsOnly block v d = (n : ℕ) (i : StreamItem) → slice_get (items_taken d) n ≡ Some i → touches i block ≡ true → content_at i block ≡ v
 
 -- an end that took no item brings nothing
-pub brings-nothing : (block : ℕ) (v : Option (List ℕ)) (d : Inward) → items_taken d ≡ [] → BringsOnly block v d
+pub brings-nothing : (block : ℕ) (v : Option (List ℕ)) (d : SecondaryConnection) → items_taken d ≡ [] → BringsOnly block v d
 brings-nothing block v d none n i at touched =
-    absurd (let there : slice_get [] n ≡ Some i = subst (λ (l : List Item). slice_get l n ≡ Some i) none at in cc (there))
+    absurd (let there : slice_get [] n ≡ Some i = subst (λ (l : List StreamItem). slice_get l n ≡ Some i) none at in cc (there))
 
 -- A connection opened on what the opening disk had, where those before it brought nothing else.
-pub base-from-opening : (s : SecondaryHistory) → HoldsEarlierEpochs s → (block : ℕ) (v : Option (List ℕ)) → s.opening_map block ≡ v → (j : ℕ) (d : Inward)
+pub base-from-opening : (s : SecondaryHistory) → HoldsEarlierEpochs s → (block : ℕ) (v : Option (List ℕ)) → s.opening_map block ≡ v
+    → (j : ℕ) (d : SecondaryConnection)
     → slice_get s.connections j ≡ Some d
-    → ((m : ℕ) (e : Inward) → m < j → slice_get s.connections m ≡ Some e → BringsOnly block v e) → d.base block ≡ v
+    → ((m : ℕ) (e : SecondaryConnection) → m < j → slice_get s.connections m ≡ Some e → BringsOnly block v e) → d.base block ≡ v
 base-from-opening s epochs block v was zero d at only = epochs.begins block d at ∙ was
 base-from-opening s epochs block v was (suc j) d at only =
     let within = slice_get_within s.connections (suc j) d at in
@@ -63,9 +64,10 @@ base-from-opening s epochs block v was (suc j) d at only =
     (only j before.0 (omega arith) before.1)
 
 -- Or on what an earlier connection left.
-pub base-from-end : (s : SecondaryHistory) → HoldsEarlierEpochs s → (block : ℕ) (v : Option (List ℕ)) (i : ℕ) (e : Inward) → slice_get s.connections i ≡ Some e
-    → map_of e block ≡ v → (j : ℕ) (d : Inward) → i < j → slice_get s.connections j ≡ Some d
-    → ((m : ℕ) (f : Inward) → i < m → m < j → slice_get s.connections m ≡ Some f → BringsOnly block v f) → d.base block ≡ v
+pub base-from-end : (s : SecondaryHistory) → HoldsEarlierEpochs s → (block : ℕ) (v : Option (List ℕ)) (i : ℕ) (e : SecondaryConnection)
+    → slice_get s.connections i ≡ Some e
+    → map_of e block ≡ v → (j : ℕ) (d : SecondaryConnection) → i < j → slice_get s.connections j ≡ Some d
+    → ((m : ℕ) (f : SecondaryConnection) → i < m → m < j → slice_get s.connections m ≡ Some f → BringsOnly block v f) → d.base block ≡ v
 base-from-end s epochs block v i e there held zero d less at only = absurd (omega arith)
 base-from-end s epochs block v i e there held (suc j) d less at only =
     let within = slice_get_within s.connections (suc j) d at in
@@ -77,7 +79,7 @@ base-from-end s epochs block v i e there held (suc j) d less at only =
       | inr late ↦
           let index : i ≡ j = omega arith in
           let same : e ≡ before.0 = same-at s.connections j e before.0 (subst (λ (n : ℕ). slice_get s.connections n ≡ Some e) index there) before.1 in
-          subst (λ (x : Inward). map_of x block ≡ v) same held
+          subst (λ (x : SecondaryConnection). map_of x block ≡ v) same held
     ]
 
 module _ (o : Opening) (here : List PrimaryEvent) (there : List SecondaryEvent)
@@ -92,30 +94,37 @@ module _ (o : Opening) (here : List PrimaryEvent) (there : List SecondaryEvent)
   rises = numbers-rise there (secondary_at o) refl
 
   -- a tuple that the primary took is that of the peer's hello
-  pub peer-hello : (k n : ℕ) (c : Outward) (peer : Tuple) → slice_get p.connections k ≡ Some c → slice_get c.taken n ≡ Some (Ok (UuidsFrame peer))
-      → (j : ℕ) × (d : Inward) × AreEnds p s k j c d × (peer ≡ d.hello)
+  pub peer-hello : (k n : ℕ) (c : PrimaryConnection) (peer : Tuple) → slice_get p.connections k ≡ Some c → slice_get c.taken n ≡ Some (Ok (UuidsFrame peer))
+      → (j : ℕ) × (d : SecondaryConnection) × AreEnds p s k j c d × (peer ≡ d.hello)
   peer-hello k n c peer at taken =
       let end = secondary-end p s joined k n c (Ok (UuidsFrame peer)) at taken in
-      let d : Inward = end.1 in
+      let d : SecondaryConnection = end.1 in
       let pushed = get-beginning c.taken (pushed_back_by s d) n (Ok (UuidsFrame peer)) (joined-back p s rises joined k end.0 c d end.2) taken in
       let owed = get-beginning (take d.pushed (answers_due s.settings d)) (answers_due s.settings d) n (UuidsFrame peer)
-      (begins-take d.pushed (answers_due s.settings d)) (read-back (take d.pushed (answers_due s.settings d)) n (UuidsFrame peer) pushed) in
-      (end.0, d, end.2, named s.settings d n peer owed (λ m due. due_is_no_tuple o.peer_settings o.peer o.peer_tuple there end.0 m d peer end.2.inward due))
+      (begins-take d.pushed (answers_due s.settings d)) (read-back (take d.pushed (answers_due s.settings d)) n (UuidsFrame peer) pushed) in (
+        end.0,
+        d,
+        end.2,
+        named s.settings d n peer owed
+            (λ m due. due_is_no_tuple o.peer_settings o.peer o.peer_tuple there end.0 m d peer end.2.secondary_connection due),
+      )
 
   -- an item that was taken came on a connection of the primary, whose stream goes on from there
-  pub outward-of : (j n : ℕ) (d : Inward) (i : Item) → slice_get s.connections j ≡ Some d → slice_get (items_taken d) n ≡ Some i
-      → (k : ℕ) × (c : Outward) × AreEnds p s k j c d × IsBeginning (items_taken d) c.stream
-  outward-of j n d i at taken =
+  pub primary-connection-of : (j n : ℕ) (d : SecondaryConnection) (i : StreamItem) → slice_get s.connections j ≡ Some d → slice_get (items_taken d) n ≡ Some i
+      → (k : ℕ) × (c : PrimaryConnection) × AreEnds p s k j c d × IsBeginning (items_taken d) c.stream
+  primary-connection-of j n d i at taken =
       let frame = item-taken d n i taken in
       let end = primary-end p s rises joined j frame.0 d frame.1 at frame.2 in
       (end.0, end.1, end.2, taken-begins p s rises joined end.0 j end.1 d end.2)
 
   -- Where the secondary took nothing after a connection, all is behind that one.
-  pub behind-of : (k j older newer : ℕ) (c : Outward) (d : Inward) → AreEnds p s k j c d → IsBeginning (items_taken d) c.stream → HoldsEarlierEpochs s
+  pub behind-of : (k j older newer : ℕ) (c : PrimaryConnection) (d : SecondaryConnection) → AreEnds p s k j c d → IsBeginning (items_taken d) c.stream
+      → HoldsEarlierEpochs s
       → NoneFailed p → IsSpan p k c older newer
-      → ((m : ℕ) (e : Inward) → j < m → slice_get s.connections m ≡ Some e → items_taken e ≡ [])
+      → ((m : ℕ) (e : SecondaryConnection) → j < m → slice_get s.connections m ≡ Some e → items_taken e ≡ [])
       → ((place block : ℕ) (contents : List ℕ) → slice_get (items_taken d) place ≡ Some (ResyncItem block contents) → base_of p s block ≡ p.opening_map block)
-      → ((block : ℕ) → ((n : ℕ) (i : Item) → slice_get (items_taken d) n ≡ Some i → touches i block ≡ true → is_in d.applied n (block - first_of i) ≡ false)
+      → ((block : ℕ) → ((n : ℕ) (i : StreamItem) → slice_get (items_taken d) n ≡ Some i → touches i block ≡ true
+      → is_in d.applied n (block - first_of i) ≡ false)
       → d.base block ≡ writes_over (base_of p s) older p.writes block)
       → IsBehind p s
   behind-of k j older newer c d ends taken epochs fine span later opening base = record {
@@ -133,24 +142,25 @@ module _ (o : Opening) (here : List PrimaryEvent) (there : List SecondaryEvent)
     ];
     reads = λ place block contents at. span.reads fine place block contents (get-beginning (items_taken d) c.stream place (ResyncItem block contents) taken at);
     opening = opening;
-    disk = λ block. reaches-disk s epochs block (map_of d block) j d ends.inward refl
+    disk = λ block. reaches-disk s epochs block (map_of d block) j d ends.secondary_connection refl
         (λ m e less at. brings-nothing block (map_of d block) e (later m e less at));
     newest = newest;
     base = base;
   }
     where
       within : j < length s.connections
-      within = slice_get_within s.connections j d ends.inward
+      within = slice_get_within s.connections j d ends.secondary_connection
 
-      newest : (inward s ≡ d) ⊎ (whole s ≡ 0)
-      newest = elim (last-at (no_inward s) s.connections) [
+      newest : (secondary_connection s ≡ d) ⊎ (whole s ≡ 0)
+      newest = elim (last-at (no_secondary_connection s) s.connections) [
         | inl none ↦ absurd (let size : length s.connections ≡ 0 = ap length none in let w = within in omega arith)
         | inr last ↦ elim (cases_lt j (length s.connections - 1)) [
-          | inl early ↦ inr (whole-none s (later (length s.connections - 1) (inward s) early last))
+          | inl early ↦ inr (whole-none s (later (length s.connections - 1) (secondary_connection s) early last))
           | inr late ↦ inl (
               let w = within in
               let index : length s.connections - 1 ≡ j = omega arith in
-              same-at s.connections j (inward s) d (subst (λ (n : ℕ). slice_get s.connections n ≡ Some (inward s)) index last) ends.inward)
+              same-at s.connections j (secondary_connection s) d (subst (λ (n : ℕ). slice_get s.connections n ≡ Some (secondary_connection s)) index last)
+              ends.secondary_connection)
         ]
       ]
 

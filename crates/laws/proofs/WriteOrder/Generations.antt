@@ -9,7 +9,7 @@ use Rattle.blocks.specs.declared.outcome.Decision.TheVariants.{NoSync, BitmapSyn
 use Rattle.model.specs.Stream.{SyncUuidItem, IsBeginning}
 use Rattle.model.specs.Frames.{UuidsFrame}
 use Rattle.model.specs.Identifiers.{are_fresh, stands_in, decision, lost, into_history, sync_start, sync_end}
-use Rattle.model.specs.Primary.{Outward, PrimaryHistory, no_outward, last_of, outward, change_last}
+use Rattle.model.specs.Primary.{PrimaryConnection, PrimaryHistory, no_primary_connection, last_of, primary_connection, change_last}
 use Rattle.model.specs.PrimarySteps.{known_tuples}
 use Rattle.laws.proofs.Rules.FreshWords.{loss-not-own}
 use Rattle.laws.proofs.Rules.Decisions.{decided-by}
@@ -18,99 +18,105 @@ use Rattle.laws.proofs.Lists.Last.{get-change, get-change-back, last-change, len
 
 -- every tuple that the primary took on these connections, from this one on, has the word for its current identifier
 abbrev pub TakesOnly : ℕ → ℕ → PrimaryHistory → Type 0
-TakesOnly word from h = (j n : ℕ) (c : Outward) (peer : Tuple) → from ≤ j → slice_get h.connections j ≡ Some c
+TakesOnly word from h = (j n : ℕ) (c : PrimaryConnection) (peer : Tuple) → from ≤ j → slice_get h.connections j ≡ Some c
     → slice_get c.taken n ≡ Some (Ok (UuidsFrame peer)) → peer.current ≡ word
 
 -- a stream that has not begun, or began with a resync
-abbrev pub IsResync : Outward → Type 0
+abbrev pub IsResync : PrimaryConnection → Type 0
 IsResync c = (c.begun ≡ false) ⊎ ((word : ℕ) × (slice_get c.stream 0 ≡ Some (SyncUuidItem word)))
 
 -- The connection before this number is the last one, and stands, with this word for the current identifier and no bitmap's.
 pub record IsStanding (word from : ℕ) (h : PrimaryHistory) : Type 0 where
   pub last : length h.connections ≡ from
-  pub unshut : (outward h).closed ≡ false
-  pub begun : (outward h).begun ≡ true
+  pub unshut : (primary_connection h).closed ≡ false
+  pub begun : (primary_connection h).begun ≡ true
   pub current : h.tuple.current ≡ word
   pub bitmap : h.tuple.bitmap ≡ 0
-  pub loss : (outward h).loss ≡ word → ⊥
+  pub loss : (primary_connection h).loss ≡ word → ⊥
 
 -- Or the word is current no more, and each stream from this number on is a resync.
 pub record IsGone (word from : ℕ) (h : PrimaryHistory) : Type 0 where
   pub few : from ≤ length h.connections
-  pub past : (outward h).closed ≡ false → from < length h.connections
+  pub past : (primary_connection h).closed ≡ false → from < length h.connections
   pub current : h.tuple.current ≡ word → ⊥
-  pub resyncs : (j : ℕ) (c : Outward) → from ≤ j → slice_get h.connections j ≡ Some c → IsResync c
+  pub resyncs : (j : ℕ) (c : PrimaryConnection) → from ≤ j → slice_get h.connections j ≡ Some c → IsResync c
 
 -- one of the two
 abbrev pub IsLeft : ℕ → ℕ → PrimaryHistory → Type 0
 IsLeft word from h = IsStanding word from h ⊎ IsGone word from h
 
 -- the last end after a change of it
-pub outward-change : (h later : PrimaryHistory) (f : Outward → Outward) → later.connections ≡ change_last f h.connections
-    → (h.connections ≡ []) ⊎ (outward later ≡ f (outward h))
-outward-change h later f connections = elim (last-change f (no_outward h.tuple) (no_outward later.tuple) h.connections) [
+pub primary-connection-change : (h later : PrimaryHistory) (f : PrimaryConnection → PrimaryConnection) → later.connections ≡ change_last f h.connections
+    → (h.connections ≡ []) ⊎ (primary_connection later ≡ f (primary_connection h))
+primary-connection-change h later f connections = elim (last-change f (no_primary_connection h.tuple) (no_primary_connection later.tuple) h.connections) [
   | inl none ↦ inl none
-  | inr last ↦ inr (ap (last_of (no_outward later.tuple)) connections ∙ last)
+  | inr last ↦ inr (ap (last_of (no_primary_connection later.tuple)) connections ∙ last)
 ]
 
 -- the last end where there is none
-pub outward-none : (h later : PrimaryHistory) (f : Outward → Outward) → later.connections ≡ change_last f h.connections → h.connections ≡ []
-    → (outward later).closed ≡ true
-outward-none h later f connections none = ap (λ (l : List Outward). (last_of (no_outward later.tuple) l).closed) (connections ∙ ap (change_last f) none)
+pub primary-connection-none : (h later : PrimaryHistory) (f : PrimaryConnection → PrimaryConnection) → later.connections ≡ change_last f h.connections
+    → h.connections ≡ []
+    → (primary_connection later).closed ≡ true
+primary-connection-none h later f connections none = ap (λ (l : List PrimaryConnection). (last_of (no_primary_connection later.tuple) l).closed) (connections
+    ∙ ap (change_last f) none)
 
 -- What a change of the last connection keeps of it.
-pub record KeepsLeft (h later : PrimaryHistory) (f : Outward → Outward) : Type 0 where
+pub record KeepsLeft (h later : PrimaryHistory) (f : PrimaryConnection → PrimaryConnection) : Type 0 where
   pub connections : later.connections ≡ change_last f h.connections
   pub current : later.tuple.current ≡ h.tuple.current
   pub bitmap : h.tuple.bitmap ≡ 0 → later.tuple.bitmap ≡ 0
-  pub closed : (f (outward h)).closed ≡ (outward h).closed
-  pub begun : (f (outward h)).begun ≡ (outward h).begun
-  pub loss : (f (outward h)).loss ≡ (outward h).loss
-  pub hello : (f (outward h)).hello ≡ (outward h).hello
-  pub stream : IsBeginning (outward h).stream (f (outward h)).stream
-  pub taken : IsBeginning (outward h).taken (f (outward h)).taken
+  pub closed : (f (primary_connection h)).closed ≡ (primary_connection h).closed
+  pub begun : (f (primary_connection h)).begun ≡ (primary_connection h).begun
+  pub loss : (f (primary_connection h)).loss ≡ (primary_connection h).loss
+  pub hello : (f (primary_connection h)).hello ≡ (primary_connection h).hello
+  pub stream : IsBeginning (primary_connection h).stream (f (primary_connection h)).stream
+  pub taken : IsBeginning (primary_connection h).taken (f (primary_connection h)).taken
 
 -- a resync stays one as its stream goes on
-pub resync-grows : (c d : Outward) → d.begun ≡ c.begun → IsBeginning c.stream d.stream → IsResync c → IsResync d
+pub resync-grows : (c d : PrimaryConnection) → d.begun ≡ c.begun → IsBeginning c.stream d.stream → IsResync c → IsResync d
 resync-grows c d begun grows (inl new) = inl (begun ∙ new)
 resync-grows c d begun grows (inr old) = inr (old.0, get-beginning c.stream d.stream 0 (SyncUuidItem old.0) grows old.1)
 
 -- Such a change keeps that the word was left.
-pub left-change : (h later : PrimaryHistory) (f : Outward → Outward) (word from : ℕ) → KeepsLeft h later f → IsLeft word from h → IsLeft word from later
-left-change h later f word from k (inl s) = elim (outward-change h later f k.connections) [
-  | inl none ↦ absurd (both_ways (outward h).closed s.unshut (ap (λ (l : List Outward). (last_of (no_outward h.tuple) l).closed) none))
+pub left-change : (h later : PrimaryHistory) (f : PrimaryConnection → PrimaryConnection) (word from : ℕ) → KeepsLeft h later f → IsLeft word from h
+    → IsLeft word from later
+left-change h later f word from k (inl s) = elim (primary-connection-change h later f k.connections) [
+  | inl none ↦ absurd (both_ways (primary_connection h).closed s.unshut
+      (ap (λ (l : List PrimaryConnection). (last_of (no_primary_connection h.tuple) l).closed) none))
   | inr end ↦ inl (record {
     last = ap length k.connections ∙ (length-change f h.connections ∙ s.last);
-    unshut = ap (λ (c : Outward). c.closed) end ∙ (k.closed ∙ s.unshut);
-    begun = ap (λ (c : Outward). c.begun) end ∙ (k.begun ∙ s.begun);
+    unshut = ap (λ (c : PrimaryConnection). c.closed) end ∙ (k.closed ∙ s.unshut);
+    begun = ap (λ (c : PrimaryConnection). c.begun) end ∙ (k.begun ∙ s.begun);
     current = k.current ∙ s.current;
     bitmap = k.bitmap s.bitmap;
-    loss = λ is. s.loss (sym k.loss ∙ (ap (λ (c : Outward). c.loss) (sym end) ∙ is));
+    loss = λ is. s.loss (sym k.loss ∙ (ap (λ (c : PrimaryConnection). c.loss) (sym end) ∙ is));
   })
 ]
 left-change h later f word from k (inr g) =
     let size : length later.connections ≡ length h.connections = ap length k.connections ∙ length-change f h.connections in
     inr (record {
       few = let few = g.few in omega arith;
-      past = λ unshut. elim (outward-change h later f k.connections) [
-        | inl none ↦ absurd (both_ways (outward later).closed unshut (outward-none h later f k.connections none))
-        | inr end ↦ let past = g.past (sym k.closed ∙ (ap (λ (c : Outward). c.closed) (sym end) ∙ unshut)) in omega arith
+      past = λ unshut. elim (primary-connection-change h later f k.connections) [
+        | inl none ↦ absurd (both_ways (primary_connection later).closed unshut (primary-connection-none h later f k.connections none))
+        | inr end ↦ let past = g.past (sym k.closed ∙ (ap (λ (c : PrimaryConnection). c.closed) (sym end) ∙ unshut)) in omega arith
       ];
       current = λ is. g.current (sym k.current ∙ is);
-      resyncs = λ j c more at. elim (get-change-back f (no_outward h.tuple) h.connections j c
-          (subst (λ (l : List Outward). slice_get l j ≡ Some c) k.connections at)) [
+      resyncs = λ j c more at. elim (get-change-back f (no_primary_connection h.tuple) h.connections j c
+          (subst (λ (l : List PrimaryConnection). slice_get l j ≡ Some c) k.connections at)) [
             | inl same ↦ g.resyncs j c more same
-            | inr changed ↦ subst IsResync (sym changed.0) (resync-grows (outward h) (f (outward h)) k.begun k.stream (g.resyncs j (outward h) more changed.1))
+            | inr changed ↦ subst IsResync (sym changed.0)
+                (resync-grows (primary_connection h) (f (primary_connection h)) k.begun k.stream (g.resyncs j (primary_connection h) more changed.1))
           ];
     })
 
 -- what was taken stays taken
-pub takes-back : (h later : PrimaryHistory) (f : Outward → Outward) (word from : ℕ) → later.connections ≡ change_last f h.connections
-    → IsBeginning (outward h).taken (f (outward h)).taken → TakesOnly word from later → TakesOnly word from h
-takes-back h later f word from connections grows only j n c peer more at there = elim (get-change f (no_outward h.tuple) h.connections j c at) [
-  | inl same ↦ only j n c peer more (subst (λ (l : List Outward). slice_get l j ≡ Some c) (sym connections) same) there
-  | inr changed ↦ only j n (f c) peer more (subst (λ (l : List Outward). slice_get l j ≡ Some (f c)) (sym connections) changed.0)
-      (get-beginning c.taken (f c).taken n (Ok (UuidsFrame peer)) (subst (λ (x : Outward). IsBeginning x.taken (f x).taken) (sym changed.1) grows) there)
+pub takes-back : (h later : PrimaryHistory) (f : PrimaryConnection → PrimaryConnection) (word from : ℕ) → later.connections ≡ change_last f h.connections
+    → IsBeginning (primary_connection h).taken (f (primary_connection h)).taken → TakesOnly word from later → TakesOnly word from h
+takes-back h later f word from connections grows only j n c peer more at there = elim (get-change f (no_primary_connection h.tuple) h.connections j c at) [
+  | inl same ↦ only j n c peer more (subst (λ (l : List PrimaryConnection). slice_get l j ≡ Some c) (sym connections) same) there
+  | inr changed ↦ only j n (f c) peer more (subst (λ (l : List PrimaryConnection). slice_get l j ≡ Some (f c)) (sym connections) changed.0)
+      (get-beginning c.taken (f c).taken n (Ok (UuidsFrame peer)) (subst (λ (x : PrimaryConnection). IsBeginning x.taken (f x).taken) (sym changed.1) grows)
+      there)
 ]
 
 -- Tuples as they turn.

@@ -4,7 +4,7 @@ use Rattle.std.proofs.Common.{slice_get, refl, ◌∙◌, ap, subst, arith}
 use Rattle.std.specs.Prelude.{if◌then◌else◌}
 use Rattle.std.proofs.lemmas.Bool.{cases_Bool}
 use Rattle.model.specs.Contents.{BlockMap, Layer, is_between, block_under, overlay}
-use Rattle.model.specs.Stream.{Item, Part, is_in, first_of, contents_of, layers_from}
+use Rattle.model.specs.Stream.{StreamItem, Part, is_in, first_of, contents_of, layers_from}
 use Rattle.model.specs.Primary.{Accepted}
 use Rattle.laws.specs.Reflections.{touches, content_at}
 use Rattle.laws.proofs.Blocks.Overlays.{overlay-same, overlay-none, under-outside, under-inside}
@@ -73,12 +73,12 @@ last-passing {X} p (x ∷ xs) = elim (last-passing (λ n. p (suc n)) xs) [
     neither not_here none (suc n) y at = none n y at
 
 -- what an item of a part lays
-abbrev item_layer : Part → ℕ → Item → Layer
+abbrev item_layer : Part → ℕ → StreamItem → Layer
 item_layer part place item = record { first = first_of item; contents = contents_of item; laid = λ offset. is_in part place offset }
 
 -- Items of which none is laid in a block leave it.
-pub layers-bare : (base : BlockMap) (start : ℕ) (items : List Item) (part : Part) (block : ℕ)
-    → ((n : ℕ) (i : Item) → slice_get items n ≡ Some i → touches i block ≡ true → is_in part (start + n) (block - first_of i) ≡ false)
+pub layers-bare : (base : BlockMap) (start : ℕ) (items : List StreamItem) (part : Part) (block : ℕ)
+    → ((n : ℕ) (i : StreamItem) → slice_get items n ≡ Some i → touches i block ≡ true → is_in part (start + n) (block - first_of i) ≡ false)
     → overlay base (layers_from start items part) block ≡ base block
 layers-bare base start [] part block bare = refl
 layers-bare base start (x ∷ items) part block bare =
@@ -90,10 +90,11 @@ layers-bare base start (x ∷ items) part block bare =
     subst (λ m. is_in part m (block - first_of x) ≡ false) here (bare 0 x refl inside))
 
 -- The last one that is laid in a block is what it holds.
-pub layers-last : (base : BlockMap) (start : ℕ) (items : List Item) (part : Part) (block place : ℕ) (item : Item) → slice_get items place ≡ Some item
+pub layers-last : (base : BlockMap) (start : ℕ) (items : List StreamItem) (part : Part) (block place : ℕ) (item : StreamItem)
+    → slice_get items place ≡ Some item
     → touches item block ≡ true
     → is_in part (start + place) (block - first_of item) ≡ true
-    → ((n : ℕ) (i : Item) → place < n → slice_get items n ≡ Some i → touches i block ≡ true → is_in part (start + n) (block - first_of i) ≡ false)
+    → ((n : ℕ) (i : StreamItem) → place < n → slice_get items n ≡ Some i → touches i block ≡ true → is_in part (start + n) (block - first_of i) ≡ false)
     → overlay base (layers_from start items part) block ≡ content_at item block
 layers-last base start [] part block place item at touched laid bare = absurd (cc)
 layers-last base start (x ∷ items) part block zero item at touched laid bare =
@@ -102,9 +103,9 @@ layers-last base start (x ∷ items) part block zero item at touched laid bare =
     layers-bare (λ b. block_under (item_layer part start x) b (base b)) (suc start) items part block (λ n i there hit.
     let index : start + suc n ≡ suc start + n = omega arith in
     subst (λ m. is_in part m (block - first_of i) ≡ false) index (bare (suc n) i (omega arith) there hit))
-    ∙ (under-inside (item_layer part start x) block (base block) (subst (λ (i : Item). touches i block ≡ true) same touched)
-    (subst (λ (i : Item). is_in part start (block - first_of i) ≡ true) same (subst (λ n. is_in part n (block - first_of item) ≡ true) here laid))
-    ∙ ap (λ (i : Item). content_at i block) (let e : x ≡ item = cc in e))
+    ∙ (under-inside (item_layer part start x) block (base block) (subst (λ (i : StreamItem). touches i block ≡ true) same touched)
+    (subst (λ (i : StreamItem). is_in part start (block - first_of i) ≡ true) same (subst (λ n. is_in part n (block - first_of item) ≡ true) here laid))
+    ∙ ap (λ (i : StreamItem). content_at i block) (let e : x ≡ item = cc in e))
 layers-last base start (x ∷ items) part block (suc place) item at touched laid bare =
     let here : start + suc place ≡ suc start + place = omega arith in
     layers-last (λ b. block_under (item_layer part start x) b (base b)) (suc start) items part block place item at touched

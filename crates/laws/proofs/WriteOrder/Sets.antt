@@ -7,10 +7,10 @@ use Rattle.std.proofs.lemmas.Bool.{lt-ltb, ltb-true, le-ltb, false_from_ne_true,
 use Rattle.std.proofs.lemmas.Option.{slice_get_within}
 use Rattle.blocks.specs.Positions.{StreamPosition}
 use Rattle.model.specs.Contents.{BlockMap, Write, covers, block_under, overlay}
-use Rattle.model.specs.Stream.{Item, WriteItem, ResyncItem, BarrierItem, SyncUuidItem, UuidsItem, Part, IsBeginning, is_in, first_of, contents_of}
+use Rattle.model.specs.Stream.{StreamItem, WriteItem, ResyncItem, BarrierItem, SyncUuidItem, UuidsItem, Part, IsBeginning, is_in, first_of, contents_of}
 use Rattle.model.specs.Stream.{epoch_of}
-use Rattle.model.specs.Primary.{Accepted, Outward, PrimaryHistory, outward_at}
-use Rattle.model.specs.Secondary.{Inward, SecondaryHistory, inward, items_taken, map_of, secondary_map, whole}
+use Rattle.model.specs.Primary.{Accepted, PrimaryConnection, PrimaryHistory, primary_connection_at}
+use Rattle.model.specs.Secondary.{SecondaryConnection, SecondaryHistory, secondary_connection, items_taken, map_of, secondary_map, whole}
 use Rattle.model.specs.Headline.{HoldsEarlierEpochs}
 use Rattle.model.specs.WriteOrder.{Blocks, comes_before, IsOrdered, layer_of, base_of, HasWholeEpochs, IsOnDisk}
 use Rattle.laws.specs.Reflections.{touches, content_at}
@@ -21,7 +21,7 @@ use Rattle.laws.proofs.Lists.Elements.{same-at}
 use Rattle.laws.proofs.Rules.Usage.{IsWholeTo, whole-to}
 use Rattle.laws.proofs.Streams.Places.{epoch-grows, epoch-behind, get-grows}
 use Rattle.laws.proofs.Streams.Parts.{whole-has}
-use Rattle.laws.proofs.Joining.Ends.{AreEnds, outward-there}
+use Rattle.laws.proofs.Joining.Ends.{AreEnds, primary-connection-there}
 use Rattle.laws.proofs.Primary.Homes.{HasHomes}
 use Rattle.laws.proofs.Releases.InOrder.{IsInOrder}
 use Rattle.laws.proofs.WriteOrder.Layers.{full_layer, writes_over, under-bare, overlay-front, LastPassing, last-passing, layers-bare, layers-last}
@@ -30,13 +30,14 @@ use Rattle.laws.proofs.WriteOrder.Layers.{full_layer, writes_over, under-bare, o
 -- earlier epoch.
 pub record AreInTurn (p : PrimaryHistory) : Type 0 where
   pub earlier : (m n : ℕ) (a b : Accepted) → slice_get p.writes m ≡ Some a → slice_get p.writes n ≡ Some b → comes_before p a b ≡ true → m < n
-  pub apart : (m n k place later : ℕ) (a b : Accepted) (c : Outward) → slice_get p.writes m ≡ Some a → slice_get p.writes n ≡ Some b → comes_before p a b ≡ true
+  pub apart : (m n k place later : ℕ) (a b : Accepted) (c : PrimaryConnection) → slice_get p.writes m ≡ Some a → slice_get p.writes n ≡ Some b
+      → comes_before p a b ≡ true
       → a.home ≡ Some (record { index = k; place = place }) → b.home ≡ Some (record { index = k; place = later }) → slice_get p.connections k ≡ Some c
       → epoch_of c.stream place < epoch_of c.stream later
 
 -- A block of a resync has what the first so many writes leave over the opening disk; those of its connection that have the
 -- block stand in earlier epochs, and every later one of its connection stands behind it.
-pub record IsRead (p : PrimaryHistory) (k : ℕ) (c : Outward) (older place block : ℕ) (contents : List ℕ) : Type 0 where
+pub record IsRead (p : PrimaryHistory) (k : ℕ) (c : PrimaryConnection) (older place block : ℕ) (contents : List ℕ) : Type 0 where
   pub count : ℕ
   pub more : older ≤ count
   pub bound : count ≤ length p.writes
@@ -50,8 +51,8 @@ pub record IsRead (p : PrimaryHistory) (k : ℕ) (c : Outward) (older place bloc
 pub record IsBehind (p : PrimaryHistory) (s : SecondaryHistory) : Type 0 where
   pub index : ℕ
   pub other : ℕ
-  pub end : Outward
-  pub inner : Inward
+  pub end : PrimaryConnection
+  pub inner : SecondaryConnection
   pub ends : AreEnds p s index other end inner
   pub taken : IsBeginning (items_taken inner) end.stream
   pub older : ℕ
@@ -64,8 +65,8 @@ pub record IsBehind (p : PrimaryHistory) (s : SecondaryHistory) : Type 0 where
   pub opening : (place block : ℕ) (contents : List ℕ) → slice_get (items_taken inner) place ≡ Some (ResyncItem block contents)
       → base_of p s block ≡ p.opening_map block
   pub disk : (block : ℕ) → secondary_map s block ≡ map_of inner block
-  pub newest : (inward s ≡ inner) ⊎ (whole s ≡ 0)
-  pub base : (block : ℕ) → ((n : ℕ) (i : Item) → slice_get (items_taken inner) n ≡ Some i → touches i block ≡ true
+  pub newest : (secondary_connection s ≡ inner) ⊎ (whole s ≡ 0)
+  pub base : (block : ℕ) → ((n : ℕ) (i : StreamItem) → slice_get (items_taken inner) n ≡ Some i → touches i block ≡ true
       → is_in inner.applied n (block - first_of i) ≡ false)
       → inner.base block ≡ writes_over (base_of p s) older p.writes block
 
@@ -112,30 +113,30 @@ module _ (p : PrimaryHistory) (s : SecondaryHistory) (homes : HasHomes p) (order
   abbrev pub the_set : Blocks
   the_set = set_of p b.older b.index b.inner.applied
 
-  abbrev items : List Item
+  abbrev items : List StreamItem
   items = items_taken b.inner
 
   -- a place of the part was taken, and its item stands at the primary's end
   applied-item : (place offset : ℕ) → is_in b.inner.applied place offset ≡ true
-      → (i : Item) × (slice_get items place ≡ Some i) × (slice_get b.end.stream place ≡ Some i) × (offset < length (contents_of i))
+      → (i : StreamItem) × (slice_get items place ≡ Some i) × (slice_get b.end.stream place ≡ Some i) × (offset < length (contents_of i))
   applied-item place offset has =
-      let found = epochs.taken b.other place offset b.inner b.ends.inward has in
+      let found = epochs.taken b.other place offset b.inner b.ends.secondary_connection has in
       (found.0, found.1, get-beginning items b.end.stream place found.0 b.taken found.1, found.2)
 
   -- a place that was taken has the epoch there that it has at the primary's end
   epoch-taken : (place : ℕ) → place ≤ length items → epoch_of b.end.stream place ≡ epoch_of items place
-  epoch-taken place within = ap (λ (l : List Item). epoch_of l place) (sym b.taken.1) ∙ epoch-grows items b.taken.0 place within
+  epoch-taken place within = ap (λ (l : List StreamItem). epoch_of l place) (sym b.taken.1) ∙ epoch-grows items b.taken.0 place within
 
   -- what stands at the primary's end was taken, before an end of what was taken
-  taken-item : (place : ℕ) (i : Item) → place < length items → slice_get b.end.stream place ≡ Some i → slice_get items place ≡ Some i
-  taken-item place i within at = sym (get-grows items b.taken.0 place within) ∙ (ap (λ (l : List Item). slice_get l place) b.taken.1 ∙ at)
+  taken-item : (place : ℕ) (i : StreamItem) → place < length items → slice_get b.end.stream place ≡ Some i → slice_get items place ≡ Some i
+  taken-item place i within at = sym (get-grows items b.taken.0 place within) ∙ (ap (λ (l : List StreamItem). slice_get l place) b.taken.1 ∙ at)
 
   -- an item of an earlier epoch than an applied one is applied
-  applied-before : (place later offset : ℕ) (i : Item) (far : ℕ) → place < later → slice_get b.end.stream place ≡ Some i
+  applied-before : (place later offset : ℕ) (i : StreamItem) (far : ℕ) → place < later → slice_get b.end.stream place ≡ Some i
       → epoch_of b.end.stream place < epoch_of b.end.stream later → is_in b.inner.applied later far ≡ true → offset < length (contents_of i)
       → is_in b.inner.applied place offset ≡ true
   applied-before place later offset i far less at earlier has inside =
-      let whole_to = epochs.closed_at b.other b.inner b.ends.inward in
+      let whole_to = epochs.closed_at b.other b.inner b.ends.secondary_connection in
       let there = applied-item later far has in
       let within = slice_get_within items later there.0 there.1 in
       let upto : epoch_of items later ≤ whole_to.0 = whole_to.1.after later far has in
@@ -148,7 +149,8 @@ module _ (p : PrimaryHistory) (s : SecondaryHistory) (homes : HasHomes p) (order
       → slice_get b.end.stream place ≡ Some (WriteItem a.write)
   home-item n place a at home =
       let was = homes.housed n b.index place a at home in
-      subst (λ (c : Outward). slice_get c.stream place ≡ Some (WriteItem a.write)) (same-at p.connections b.index was.0 b.end was.1 b.ends.outward) was.2
+      subst (λ (c : PrimaryConnection). slice_get c.stream place ≡ Some (WriteItem a.write))
+      (same-at p.connections b.index was.0 b.end was.1 b.ends.primary_connection) was.2
 
   -- homes there rise
   home-rises : (m n place later : ℕ) (a c : Accepted) → m < n → slice_get p.writes m ≡ Some a → slice_get p.writes n ≡ Some c
@@ -176,7 +178,7 @@ module _ (p : PrimaryHistory) (s : SecondaryHistory) (homes : HasHomes p) (order
               or_right (nat_lt m b.older) _ (home-has b.index b.inner.applied earlier.home near.0 place near.1
               (applied-before near.0 far.0 place (WriteItem earlier.write) offset (home-rises m n near.0 far.0 earlier later less ata atb near.1 far.1)
               (home-item m near.0 earlier ata near.1)
-              (turn.apart m n b.index near.0 far.0 earlier later b.end ata atb before near.1 far.1 b.ends.outward) far.2 within))
+              (turn.apart m n b.index near.0 far.0 earlier later b.end ata atb before near.1 far.1 b.ends.primary_connection) far.2 within))
         ]
       ]
 
@@ -186,24 +188,24 @@ module _ (p : PrimaryHistory) (s : SecondaryHistory) (homes : HasHomes p) (order
   set-whole n k place offset accepted at home number upto inside = elim b.newest [
     | inr none ↦ absurd (omega arith)
     | inl newest ↦
-        let same : suc k ≡ b.inner.number = number ∙ ap (λ (d : Inward). d.number) newest in
+        let same : suc k ≡ b.inner.number = number ∙ ap (λ (d : SecondaryConnection). d.number) newest in
         let two = b.ends.number in
         let index : k ≡ b.index = omega arith in
         let here : accepted.home ≡ Some (record { index = b.index; place = place }) =
         subst (λ (m : ℕ). accepted.home ≡ Some (record { index = m; place = place })) index home in
-        let stream : outward_at p (suc k) ≡ b.end = subst (λ (m : ℕ). outward_at p (suc m) ≡ b.end) (sym index)
-        (outward-there p b.index b.end b.ends.outward) in
-        let early : epoch_of b.end.stream place ≤ whole s = subst (λ (c : Outward). epoch_of c.stream place ≤ whole s) stream upto in
+        let stream : primary_connection_at p (suc k) ≡ b.end = subst (λ (m : ℕ). primary_connection_at p (suc m) ≡ b.end) (sym index)
+        (primary-connection-there p b.index b.end b.ends.primary_connection) in
+        let early : epoch_of b.end.stream place ≤ whole s = subst (λ (c : PrimaryConnection). epoch_of c.stream place ≤ whole s) stream upto in
         let item = home-item n place accepted at here in
         elim (whole-to s) [
           | inl none ↦ absurd (omega arith)
           | inr to_last ↦
-              let to : IsWholeTo b.inner (whole s) = subst (λ (d : Inward). IsWholeTo d (whole s)) newest to_last in
+              let to : IsWholeTo b.inner (whole s) = subst (λ (d : SecondaryConnection). IsWholeTo d (whole s)) newest to_last in
               let ended = to.ended in
               let within : place < length items = elim (cases_lt place (length items)) [
                 | inl less ↦ less
                 | inr past ↦ absurd (let behind = epoch-behind items b.taken.0 place (omega arith) in let same_epoch : epoch_of
-                    (items ++ b.taken.0) place ≡ epoch_of b.end.stream place = ap (λ (l : List Item). epoch_of l place) b.taken.1 in omega arith)
+                    (items ++ b.taken.0) place ≡ epoch_of b.end.stream place = ap (λ (l : List StreamItem). epoch_of l place) b.taken.1 in omega arith)
               ] in
               let there = taken-item place (WriteItem accepted.write) within item in
               let epoch = epoch-taken place (omega arith) in
@@ -219,7 +221,7 @@ module _ (p : PrimaryHistory) (s : SecondaryHistory) (homes : HasHomes p) (order
 
   -- nothing that is applied there has the block
   abbrev Bare : ℕ → Type 0
-  Bare block = (n : ℕ) (i : Item) → slice_get items n ≡ Some i → touches i block ≡ true → is_in b.inner.applied n (block - first_of i) ≡ false
+  Bare block = (n : ℕ) (i : StreamItem) → slice_get items n ≡ Some i → touches i block ≡ true → is_in b.inner.applied n (block - first_of i) ≡ false
 
   -- what the set lays of a write that has the block is all of it, where the set has that block
   laid-full : (n block : ℕ) (a : Accepted) (v : Option (List ℕ)) → slice_get p.writes n ≡ Some a → the_set a.write.number (block - a.write.first) ≡ true
@@ -246,7 +248,7 @@ module _ (p : PrimaryHistory) (s : SecondaryHistory) (homes : HasHomes p) (order
 
   -- a write of the connection, or of a later one, is not in the set on a block, where its place is not applied there
   unlaid : (n block : ℕ) (a : Accepted)
-      → ((place : ℕ) (i : Item) → a.home ≡ Some (record { index = b.index; place = place }) → slice_get items place ≡ Some i
+      → ((place : ℕ) (i : StreamItem) → a.home ≡ Some (record { index = b.index; place = place }) → slice_get items place ≡ Some i
       → (touches i block && is_in b.inner.applied place (block - first_of i)) ≡ false)
       → b.older ≤ n → slice_get p.writes n ≡ Some a → covers a.write block ≡ true → the_set a.write.number (block - a.write.first) ≡ false
   unlaid n block a bare late at inside = set-at p b.older b.index b.inner.applied n (block - a.write.first) a homes at
@@ -254,12 +256,12 @@ module _ (p : PrimaryHistory) (s : SecondaryHistory) (homes : HasHomes p) (order
       let home = home-of b.index b.inner.applied a.home (block - a.write.first) has in
       let found = applied-item home.0 (block - a.write.first) home.2 in
       let same : found.0 ≡ WriteItem a.write = same-at b.end.stream home.0 found.0 (WriteItem a.write) found.2 (home-item n home.0 a at home.1) in
-      let there : slice_get items home.0 ≡ Some (WriteItem a.write) = subst (λ (i : Item). slice_get items home.0 ≡ Some i) same found.1 in
+      let there : slice_get items home.0 ≡ Some (WriteItem a.write) = subst (λ (i : StreamItem). slice_get items home.0 ≡ Some i) same found.1 in
       both_ways (touches (WriteItem a.write) block && is_in b.inner.applied home.0 (block - a.write.first)) (bare home.0 (WriteItem a.write) home.1 there)
       (and_from _ _ inside home.2)))
 
   -- the disk where nothing of the connection is applied on the block
-  disk-bare : (block : ℕ) → ((place : ℕ) (i : Item) → slice_get items place ≡ Some i
+  disk-bare : (block : ℕ) → ((place : ℕ) (i : StreamItem) → slice_get items place ≡ Some i
       → (touches i block && is_in b.inner.applied place (block - first_of i)) ≡ false)
       → map_of b.inner block ≡ overlay (base_of p s) (map (layer_of the_set) p.writes) block
   disk-bare block none =
@@ -284,11 +286,11 @@ module _ (p : PrimaryHistory) (s : SecondaryHistory) (homes : HasHomes p) (order
       [ inl not_so ↦ absurd (both_ways (touches i block) not_so touched) | inr is ↦ is ]))
       ∙ go l.found l.at parts.0 parts.1
     where
-      go : (i : Item) → slice_get items l.place ≡ Some i → touches i block ≡ true → is_in b.inner.applied l.place (block - first_of i) ≡ true
+      go : (i : StreamItem) → slice_get items l.place ≡ Some i → touches i block ≡ true → is_in b.inner.applied l.place (block - first_of i) ≡ true
           → content_at i block ≡ overlay (base_of p s) (map (layer_of the_set) p.writes) block
       go (WriteItem w) at touched laid =
           let there = get-beginning items b.end.stream l.place (WriteItem w) b.taken at in
-          let its = homes.homed b.index l.place b.end w b.ends.outward there in
+          let its = homes.homed b.index l.place b.end w b.ends.primary_connection there in
           let n = its.0 in
           let a : Accepted = its.1 in
           let covered : covers a.write block ≡ true = subst (λ (x : Write). covers x block ≡ true) (sym its.3) touched in
@@ -309,10 +311,10 @@ module _ (p : PrimaryHistory) (s : SecondaryHistory) (homes : HasHomes p) (order
           let high = ends.1 in
           let is : other ≡ block = omega arith in
           let same : ResyncItem other contents ≡ ResyncItem block contents = ap (λ (n : ℕ). ResyncItem n contents) is in
-          let here : slice_get items l.place ≡ Some (ResyncItem block contents) = subst (λ (i : Item). slice_get items l.place ≡ Some i) same at in
+          let here : slice_get items l.place ≡ Some (ResyncItem block contents) = subst (λ (i : StreamItem). slice_get items l.place ≡ Some i) same at in
           let r = b.reads l.place block contents here in
           let none : block - block ≡ 0 = omega arith in
-          ap (λ (i : Item). content_at i block) same
+          ap (λ (i : StreamItem). content_at i block) same
           ∙ (ap (λ (n : ℕ). slice_get (contents ∷ []) n) none
           ∙ (sym r.content ∙ (overlay-same p.opening_map (base_of p s) (map full_layer (take r.count p.writes)) block
           (sym (b.opening l.place block contents here))

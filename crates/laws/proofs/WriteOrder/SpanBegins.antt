@@ -8,10 +8,11 @@ use Rattle.std.proofs.lemmas.List.{append-nil}
 use Rattle.std.proofs.Math.Seq.{take-append_seam}
 use Rattle.blocks.specs.declared.tuple.Tuple.{Tuple}
 use Rattle.model.specs.Contents.{Write, covers, overlay}
-use Rattle.model.specs.Stream.{Item, WriteItem, ResyncItem, UuidsItem, IsBeginning, epoch_of, last_epoch}
+use Rattle.model.specs.Stream.{StreamItem, WriteItem, ResyncItem, UuidsItem, IsBeginning, epoch_of, last_epoch}
 use Rattle.model.specs.Frames.{Received, Acknowledged, RsWriteAckFrame}
 use Rattle.model.specs.Marks.{clearing}
-use Rattle.model.specs.Primary.{LocalOutcome, Waiting, OnDisk, Failed, Accepted, Outward, PrimaryHistory, outward, with_outward, stands, new_outward}
+use Rattle.model.specs.Primary.{LocalOutcome, Waiting, OnDisk, Failed, Accepted, PrimaryConnection, PrimaryHistory, primary_connection, with_primary_connection}
+use Rattle.model.specs.Primary.{is_established, new_primary_connection}
 use Rattle.model.specs.Primary.{local_layer, local_map, offset_reached, is_waiting, is_failed, is_resync, was_resynced, resync_runs}
 use Rattle.model.specs.Primary.{in_resync, free_block, accepted_frames}
 use Rattle.model.specs.PrimarySteps.{epoch_is_over, appending, opened, closing}
@@ -26,7 +27,7 @@ use Rattle.laws.proofs.Primary.Homes.{HasHomes, open-at}
 use Rattle.laws.proofs.Primary.Moves.{MayAcknowledge, with_frame}
 use Rattle.laws.proofs.Primary.Ends.{not-refused, frames-refusing}
 use Rattle.laws.proofs.Primary.LastOpen.{IsLastOpen, open-is-last}
-use Rattle.laws.proofs.Primary.StaysClosed.{open-stands}
+use Rattle.laws.proofs.Primary.StaysClosed.{open-established}
 use Rattle.laws.proofs.Primary.LastEpoch.{write-open}
 use Rattle.laws.proofs.Tracked.Kept.{IsKnown, waits-open}
 use Rattle.laws.proofs.Accounted.Moves.{first-carries}
@@ -39,9 +40,10 @@ use Rattle.laws.proofs.WriteOrder.SpanKept.{grows-with, grows-item, spans-end, s
 use Rattle.laws.proofs.Rules.RefusedFrames.{refused_out, refused_by, refused-last}
 
 -- An acknowledged block of a resync.
-pub spans-clears : (h : PrimaryHistory) (ack : Acknowledged) → HasHomes h → IsLastOpen h → (outward h).closed ≡ false → (outward h).begun ≡ true
+pub spans-clears : (h : PrimaryHistory) (ack : Acknowledged) → HasHomes h → IsLastOpen h → (primary_connection h).closed ≡ false
+    → (primary_connection h).begun ≡ true
     → MayAcknowledge h is_resync was_resynced ack → HasSpans h
-    → HasSpans (record (with_outward (with_frame (Ok (RsWriteAckFrame ack))) h) { marks = clearing ack.first h.marks })
+    → HasSpans (record (with_primary_connection (with_frame (Ok (RsWriteAckFrame ack))) h) { marks = clearing ack.first h.marks })
 spans-clears h ack homes last standing begun may t =
     spans-takes h _ (Ok (RsWriteAckFrame ack)) homes last standing refl refl (
       refl,
@@ -51,7 +53,7 @@ spans-clears h ack homes last standing begun may t =
       | inr cleared ↦
           let is : block ≡ ack.first = eqb-true block ack.first (not-false (block == ack.first) cleared) in
           let named = named-item h ack standing begun may in
-          inr (subst (λ (b : ℕ). IsTold (with_frame (Ok (RsWriteAckFrame ack)) (outward h)) b) (sym is) (record {
+          inr (subst (λ (b : ℕ). IsTold (with_frame (Ok (RsWriteAckFrame ack)) (primary_connection h)) b) (sym is) (record {
             place = ack.place;
             item = ResyncItem ack.first named.0;
             there = named.1.there;
@@ -63,38 +65,42 @@ spans-clears h ack homes last standing begun may t =
 -- The end closes.
 pub spans-closes : (h : PrimaryHistory) → IsLastOpen h → HasSpans h → HasSpans (closing h)
 spans-closes h last t =
-    let f : Outward → Outward = λ c. record c { closed = true } in
-    spans-end h (closing h) f last refl refl (refl, (refl, (refl, refl))) refl (begins-self (outward h).taken)
-    (keeps-quiet h (closing h) (f (outward h)) refl
-    (λ k at. grows-with (outward h) (f (outward h)) refl (omega arith) (begins-self (accepted_frames (outward h)))) (λ is. absurd (cc)) refl
+    let f : PrimaryConnection → PrimaryConnection = λ c. record c { closed = true } in
+    spans-end h (closing h) f last refl refl (refl, (refl, (refl, refl))) refl (begins-self (primary_connection h).taken)
+    (keeps-quiet h (closing h) (f (primary_connection h)) refl
+    (λ k at. grows-with (primary_connection h) (f (primary_connection h)) refl (omega arith) (begins-self (accepted_frames (primary_connection h))))
+    (λ is. absurd (cc)) refl
     (λ unshut block unmarked. absurd (cc))) t
 
 -- The same where it refuses a frame.
-pub spans-refuses : (h : PrimaryHistory) (frame : Received) (peer : Option Tuple) → HasHomes h → IsLastOpen h → (outward h).closed ≡ false → HasSpans h
+pub spans-refuses : (h : PrimaryHistory) (frame : Received) (peer : Option Tuple) → HasHomes h → IsLastOpen h → (primary_connection h).closed ≡ false
+    → HasSpans h
     → HasSpans (closing (refused_by frame peer h))
 spans-refuses h frame peer homes last standing t =
-    let f : Outward → Outward = refused_out frame in
+    let f : PrimaryConnection → PrimaryConnection = refused_out frame in
     let later : PrimaryHistory = closing (refused_by frame peer h) in
     spans-end h later f last (refused-last frame peer h) refl
     (refl, (refl, (refl, refl))) refl (frame ∷ [], refl)
-    (keeps-quiet h later (f (outward h)) refl
-    (λ k at. grows-with (outward h) (f (outward h)) refl (omega arith)
-    (subst (λ (l : List Received). IsBeginning (accepted_frames (outward h)) l)
-    (sym (frames-refusing (outward h) frame (not-refused h homes standing k at))) (begins-self (accepted_frames (outward h)))))
+    (keeps-quiet h later (f (primary_connection h)) refl
+    (λ k at. grows-with (primary_connection h) (f (primary_connection h)) refl (omega arith)
+    (subst (λ (l : List Received). IsBeginning (accepted_frames (primary_connection h)) l)
+    (sym (frames-refusing (primary_connection h) frame (not-refused h homes standing k at))) (begins-self (accepted_frames (primary_connection h)))))
     (λ is. absurd (cc)) refl (λ unshut block unmarked. absurd (cc))) t
 
 -- where the last end is closed, every end is
-pub all-closed : (h : PrimaryHistory) → IsLastOpen h → (outward h).closed ≡ true → (k : ℕ) (c : Outward) → slice_get h.connections k ≡ Some c → c.closed ≡ true
+pub all-closed : (h : PrimaryHistory) → IsLastOpen h → (primary_connection h).closed ≡ true → (k : ℕ) (c : PrimaryConnection)
+    → slice_get h.connections k ≡ Some c → c.closed ≡ true
 all-closed h last shut k c at = elim (cases_Bool c.closed) [
   | inl is ↦ is
-  | inr unshut ↦ absurd (both_ways (outward h).closed (subst (λ (x : Outward). x.closed ≡ false) (open-is-last h k c last at unshut).1 unshut) shut)
+  | inr unshut ↦ absurd (both_ways (primary_connection h).closed
+      (subst (λ (x : PrimaryConnection). x.closed ≡ false) (open-is-last h k c last at unshut).1 unshut) shut)
 ]
 
 -- A connection opens.
-pub spans-opens : (h : PrimaryHistory) (sync loss : ℕ) → IsLastOpen h → (outward h).closed ≡ true → HasSpans h → HasSpans (opened h sync loss)
+pub spans-opens : (h : PrimaryHistory) (sync loss : ℕ) → IsLastOpen h → (primary_connection h).closed ≡ true → HasSpans h → HasSpans (opened h sync loss)
 spans-opens h sync loss last shut t = record {
   spans = λ k c at begun. elim (get-more h.connections new k c at) [
-    | inr added ↦ absurd (let no : c.begun ≡ false = ap (λ (x : Outward). x.begun) added.1 in both_ways c.begun no begun)
+    | inr added ↦ absurd (let no : c.begun ≡ false = ap (λ (x : PrimaryConnection). x.begun) added.1 in both_ways c.begun no begun)
     | inl old ↦
         let s = t.spans k c old begun in (
           s.0,
@@ -107,8 +113,8 @@ spans-opens h sync loss last shut t = record {
   quiet = λ none bitmap. t.quiet (λ k c at. none k c (get-left h.connections (new ∷ []) k c at)) bitmap;
 }
   where
-    new : Outward
-    new = new_outward sync loss h.tuple
+    new : PrimaryConnection
+    new = new_primary_connection sync loss h.tuple
 
     passes : Passes h (opened h sync loss)
     passes = record {
@@ -149,16 +155,17 @@ local-full h block fine free =
     reached (Failed offsets) fails waits offset = absurd (cc)
 
 -- A block of a resync is read: no open write has it.
-pub spans-resyncs : (h : PrimaryHistory) (block : ℕ) → IsKnown h → HasHomes h → IsLastOpen h → epoch_is_over h ≡ false → resync_runs (outward h) ≡ true
+pub spans-resyncs : (h : PrimaryHistory) (block : ℕ) → IsKnown h → HasHomes h → IsLastOpen h → epoch_is_over h ≡ false
+    → resync_runs (primary_connection h) ≡ true
     → free_block h ≡ Some block → HasSpans h
     → HasSpans (appending (ResyncItem block (unwrap_or (local_map h block) [])) h)
 spans-resyncs h block known homes last on runs free t =
-    spans-end h later f last refl refl (refl, (refl, (refl, refl))) refl (begins-self (outward h).taken) (record {
-      grows = λ k at. grows-item (outward h) item;
+    spans-end h later f last refl refl (refl, (refl, (refl, refl))) refl (begins-self (primary_connection h).taken) (record {
+      grows = λ k at. grows-item (primary_connection h) item;
       unshut = λ is. is;
       begun = refl;
       marks = λ fine unshut other inside unmarked. inl unmarked;
-      reads = λ k older newer at s fine place other contents there. elim (get-more (outward h).stream item place (ResyncItem other contents) there) [
+      reads = λ k older newer at s fine place other contents there. elim (get-more (primary_connection h).stream item place (ResyncItem other contents) there) [
         | inl old ↦ inl old
         | inr new ↦ inr (
             let same : ResyncItem other contents ≡ item = new.1 in
@@ -167,7 +174,7 @@ spans-resyncs h block known homes last on runs free t =
             let size = new.0 in
             let short = s.rising in
             let still = s.still standing in
-            subst (λ (b : ℕ). IsRead later k (f (outward h)) older place b contents) (sym one) (record {
+            subst (λ (b : ℕ). IsRead later k (f (primary_connection h)) older place b contents) (sym one) (record {
               count = length h.writes;
               more = omega arith;
               bound = omega arith;
@@ -177,22 +184,24 @@ spans-resyncs h block known homes last on runs free t =
               before = λ n a from less ata covered.
                   let home = s.own n a from (omega arith) ata in
                   let was = homes.housed n k home.0 a ata home.1 in
-                  let item_there : slice_get (outward h).stream home.0 ≡ Some (WriteItem a.write) =
-                  subst (λ (c : Outward). slice_get c.stream home.0 ≡ Some (WriteItem a.write)) (same-at h.connections k was.0 (outward h) was.1 at)
+                  let item_there : slice_get (primary_connection h).stream home.0 ≡ Some (WriteItem a.write) =
+                  subst (λ (c : PrimaryConnection). slice_get c.stream home.0 ≡ Some (WriteItem a.write))
+                  (same-at h.connections k was.0 (primary_connection h) was.1 at)
                   was.2 in
-                  let within = slice_get_within (outward h).stream home.0 (WriteItem a.write) item_there in
-                  let near = epoch-grows (outward h).stream (item ∷ []) home.0 (omega arith) in
-                  let far = epoch-end (outward h).stream (item ∷ []) in
-                  let bound = epoch-bound (outward h).stream home.0 in (
+                  let within = slice_get_within (primary_connection h).stream home.0 (WriteItem a.write) item_there in
+                  let near = epoch-grows (primary_connection h).stream (item ∷ []) home.0 (omega arith) in
+                  let far = epoch-end (primary_connection h).stream (item ∷ []) in
+                  let bound = epoch-bound (primary_connection h).stream home.0 in (
                     home.0,
                     home.1,
                     (omega arith),
-                    subst (λ (m : ℕ). epoch_of ((outward h).stream ++ item ∷ []) home.0 < epoch_of ((outward h).stream ++ item ∷ []) m) (sym size)
-                        (elim (cases_lt (epoch_of (outward h).stream home.0) (last_epoch (outward h).stream)) [
+                    subst (λ (m : ℕ). epoch_of ((primary_connection h).stream ++ item ∷ []) home.0 < epoch_of ((primary_connection h).stream ++ item ∷ []) m)
+                        (sym size)
+                        (elim (cases_lt (epoch_of (primary_connection h).stream home.0) (last_epoch (primary_connection h).stream)) [
                           | inl low ↦ omega arith
                           | inr high ↦ absurd (
-                              let equal : epoch_of (outward h).stream home.0 ≡ last_epoch (outward h).stream = omega arith in
-                              let opened_one = write-open h (outward h) k home.0 a.write homes at (goes-on h stood on) equal item_there in
+                              let equal : epoch_of (primary_connection h).stream home.0 ≡ last_epoch (primary_connection h).stream = omega arith in
+                              let opened_one = write-open h (primary_connection h) k home.0 a.write homes at (goes-on h stood on) equal item_there in
                               let none = next.apart opened_one.0 opened_one.1 opened_one.2 in
                               both_ways (covers a.write block) (subst (λ (w : Write). covers w block ≡ false) opened_one.3 none) covered)
                         ]),
@@ -200,29 +209,30 @@ spans-resyncs h block known homes last on runs free t =
               after = λ n other_place a from ata home. absurd (let within = slice_get_within h.writes n a ata in omega arith);
             }))
       ];
-      ends = λ n tuple there. elim (get-more (outward h).stream item n (UuidsItem tuple) there) [ inl old ↦ inl old | inr new ↦ absurd (let e = new.1 in cc) ];
+      ends = λ n tuple there. elim (get-more (primary_connection h).stream item n (UuidsItem tuple) there)
+          [ inl old ↦ inl old | inr new ↦ absurd (let e = new.1 in cc) ];
     }) t
   where
-    item : Item
+    item : StreamItem
     item = ResyncItem block (unwrap_or (local_map h block) [])
 
-    f : Outward → Outward
+    f : PrimaryConnection → PrimaryConnection
     f c = record c { stream = c.stream ++ ResyncItem block (unwrap_or (local_map h block) []) ∷ [] }
 
     later : PrimaryHistory
     later = appending (ResyncItem block (unwrap_or (local_map h block) [])) h
 
-    stood : stands (outward h) ≡ true
-    stood = (and_parts (stands (outward h)) (in_resync (outward h).stream) runs).0
+    stood : is_established (primary_connection h) ≡ true
+    stood = (and_parts (is_established (primary_connection h)) (in_resync (primary_connection h).stream) runs).0
 
-    standing : (outward h).closed ≡ false
-    standing = open-stands (outward h) stood
+    standing : (primary_connection h).closed ≡ false
+    standing = open-established (primary_connection h) stood
 
-    first_block : Item → ℕ
+    first_block : StreamItem → ℕ
     first_block (ResyncItem b c) = b
     first_block _ = 0
 
-    contents_block : Item → List ℕ
+    contents_block : StreamItem → List ℕ
     contents_block (ResyncItem b c) = c
     contents_block _ = []
 

@@ -11,10 +11,11 @@ use Rattle.blocks.specs.declared.outcome.Decision.{Decision}
 use Rattle.blocks.specs.declared.outcome.Decision.TheVariants.{NoSync, BitmapSync, FullSync}
 use Rattle.blocks.specs.SettingsRange.{IsInRange}
 use Rattle.model.specs.Contents.{BlockMap, covers}
-use Rattle.model.specs.Stream.{Item, WriteItem, ResyncItem, SyncUuidItem, UuidsItem}
+use Rattle.model.specs.Stream.{StreamItem, WriteItem, ResyncItem, SyncUuidItem, UuidsItem}
 use Rattle.model.specs.Frames.{Received, UuidsFrame, BarrierAckFrame}
 use Rattle.model.specs.Identifiers.{decision}
-use Rattle.model.specs.Primary.{OnDisk, Accepted, Outward, PrimaryHistory, no_outward, outward, change_last, with_outward, stands, local_map}
+use Rattle.model.specs.Primary.{OnDisk, Accepted, PrimaryConnection, PrimaryHistory, no_primary_connection, primary_connection, change_last}
+use Rattle.model.specs.Primary.{with_primary_connection, is_established, local_map}
 use Rattle.model.specs.Primary.{accepted_frames, primary_opening, unreleased, is_released}
 use Rattle.model.specs.PrimarySteps.{with_outcome, receipted}
 use Rattle.model.specs.Acknowledgements.{begun_with}
@@ -45,20 +46,20 @@ use Rattle.laws.proofs.WriteOrder.SpanSubmits.{spans-submits}
 use Rattle.laws.proofs.Rules.Releases.{held-waiting}
 
 -- What the begin of a stream does to its connection, its stream and the marks.
-record BeginsStream (h later : PrimaryHistory) (peer : Tuple) (decided : Decision) (f : Outward → Outward) : Type 0 where
+record BeginsStream (h later : PrimaryHistory) (peer : Tuple) (decided : Decision) (f : PrimaryConnection → PrimaryConnection) : Type 0 where
   connections : later.connections ≡ change_last f h.connections
   writes : later.writes ≡ h.writes
   opening : SameOpening h later
-  begun : (f (outward h)).begun ≡ true
-  taken : (f (outward h)).taken ≡ (outward h).taken ++ Ok (UuidsFrame peer) ∷ []
-  no_block : (n block : ℕ) (contents : List ℕ) → slice_get (f (outward h)).stream n ≡ Some (ResyncItem block contents) → ⊥
-  no_end : (n : ℕ) (tuple : Tuple) → slice_get (f (outward h)).stream n ≡ Some (UuidsItem tuple) → ⊥
+  begun : (f (primary_connection h)).begun ≡ true
+  taken : (f (primary_connection h)).taken ≡ (primary_connection h).taken ++ Ok (UuidsFrame peer) ∷ []
+  no_block : (n block : ℕ) (contents : List ℕ) → slice_get (f (primary_connection h)).stream n ≡ Some (ResyncItem block contents) → ⊥
+  no_end : (n : ℕ) (tuple : Tuple) → slice_get (f (primary_connection h)).stream n ≡ Some (UuidsItem tuple) → ⊥
   marks : (block : ℕ) → block < h.settings.blocks → later.marks block ≡ false → h.marks block ≡ false
   full : decided ≡ FullSync → (block : ℕ) → block < h.settings.blocks → later.marks block ≡ false → ⊥
 
-module _ (h later : PrimaryHistory) (peer : Tuple) (decided : Decision) (f : Outward → Outward) (homes : HasHomes h) (last : IsLastOpen h)
+module _ (h later : PrimaryHistory) (peer : Tuple) (decided : Decision) (f : PrimaryConnection → PrimaryConnection) (homes : HasHomes h) (last : IsLastOpen h)
     (accounted : IsAccounted h)
-    (standing : (outward h).closed ≡ false) (fresh : (outward h).begun ≡ false) (is : decision h.tuple peer ≡ Ok decided)
+    (standing : (primary_connection h).closed ≡ false) (fresh : (primary_connection h).begun ≡ false) (is : decision h.tuple peer ≡ Ok decided)
     (b : BeginsStream h later peer decided f) where
   -- a stream that began before stays the first one
   begins-first : KeepsFirst h later
@@ -72,11 +73,11 @@ module _ (h later : PrimaryHistory) (peer : Tuple) (decided : Decision) (f : Out
   begins-passes = passes-change h later f b.connections b.writes b.opening begins-first
 
   -- no stream stands before it
-  resting : stands (outward h) ≡ false
-  resting = and_right (not (outward h).closed) (outward h).begun fresh
+  resting : is_established (primary_connection h) ≡ false
+  resting = and_right (not (primary_connection h).closed) (primary_connection h).begun fresh
 
-  empty : (k : ℕ) → slice_get h.connections k ≡ Some (outward h) → (outward h).stream ≡ []
-  empty k at = homes.empty k (outward h) at fresh
+  empty : (k : ℕ) → slice_get h.connections k ≡ Some (primary_connection h) → (primary_connection h).stream ≡ []
+  empty k at = homes.empty k (primary_connection h) at fresh
 
   -- a block that is not marked is not under an unreleased write
   uncovered : (block : ℕ) → h.marks block ≡ false → is_covered h block ≡ false
@@ -91,12 +92,13 @@ module _ (h later : PrimaryHistory) (peer : Tuple) (decided : Decision) (f : Out
       both_ways (list_any (λ (x : Accepted). covers x.write block) (unreleased h)) (or_parts (is_marked h block) _ (uncovered block unmarked)).1
       (held-covers h block i a at held covered)))
 
-  begins-below : NoneFailed later → (k block : ℕ) → slice_get h.connections k ≡ Some (outward h) → length h.connections ≤ suc k → block < h.settings.blocks
+  begins-below : NoneFailed later → (k block : ℕ) → slice_get h.connections k ≡ Some (primary_connection h) → length h.connections ≤ suc k
+      → block < h.settings.blocks
       → later.marks block ≡ false → WasBelow later k (length h.writes) block
   begins-below fine k block at late inside unmarked =
       let clean = b.marks block inside unmarked in
       let same = holds (begins-passes.fine fine) block clean in
-      let within = slice_get_within h.connections k (outward h) at in
+      let within = slice_get_within h.connections k (primary_connection h) at in
       let none = empty k at in
       elim (reflected h block accounted (uncovered block clean)) [
         | inl from ↦ below-passes h later k (length h.writes) block begins-passes within (omega arith) (inl (record {
@@ -109,10 +111,10 @@ module _ (h later : PrimaryHistory) (peer : Tuple) (decided : Decision) (f : Out
             | inr not_early ↦ absurd (
                 let inside_list = slice_get_within h.connections from.connection from.end from.at in
                 let index : from.connection ≡ k = omega arith in
-                let end : from.end ≡ outward h = same-at h.connections k from.end (outward h)
+                let end : from.end ≡ primary_connection h = same-at h.connections k from.end (primary_connection h)
                 (subst (λ (n : ℕ). slice_get h.connections n ≡ Some from.end) index from.at) at in
-                let there : slice_get [] from.place ≡ Some from.item = subst (λ (l : List Item). slice_get l from.place ≡ Some from.item) none
-                (subst (λ (c : Outward). slice_get c.stream from.place ≡ Some from.item) end from.there) in
+                let there : slice_get [] from.place ≡ Some from.item = subst (λ (l : List StreamItem). slice_get l from.place ≡ Some from.item) none
+                (subst (λ (c : PrimaryConnection). slice_get c.stream from.place ≡ Some from.item) end from.there) in
                 cc (there))
           ];
           at = from.at;
@@ -130,8 +132,8 @@ module _ (h later : PrimaryHistory) (peer : Tuple) (decided : Decision) (f : Out
             ]))
       ]
 
-  begins-span : (k : ℕ) → slice_get h.connections k ≡ Some (outward h) → length h.connections ≤ suc k → HasSpans h
-      → IsSpan later k (f (outward h)) (length h.writes) (length h.writes)
+  begins-span : (k : ℕ) → slice_get h.connections k ≡ Some (primary_connection h) → length h.connections ≤ suc k → HasSpans h
+      → IsSpan later k (f (primary_connection h)) (length h.writes) (length h.writes)
   begins-span k at late t =
       let size : length later.writes ≡ length h.writes = ap length b.writes in
       record {
@@ -141,20 +143,22 @@ module _ (h later : PrimaryHistory) (peer : Tuple) (decided : Decision) (f : Out
         low = λ n place a less there home.
             let old = subst (λ (l : List Accepted). slice_get l n ≡ Some a) b.writes there in
             let was = homes.housed n k place a old home in
-            let end : was.0 ≡ outward h = same-at h.connections k was.0 (outward h) was.1 at in
-            let item : slice_get [] place ≡ Some (WriteItem a.write) = subst (λ (l : List Item). slice_get l place ≡ Some (WriteItem a.write)) (empty k at)
-            (subst (λ (c : Outward). slice_get c.stream place ≡ Some (WriteItem a.write)) end was.2) in
+            let end : was.0 ≡ primary_connection h = same-at h.connections k was.0 (primary_connection h) was.1 at in
+            let item : slice_get [] place ≡ Some (WriteItem a.write) = subst (λ (l : List StreamItem). slice_get l place ≡ Some (WriteItem a.write))
+            (empty k at)
+            (subst (λ (c : PrimaryConnection). slice_get c.stream place ≡ Some (WriteItem a.write)) end was.2) in
             cc (item);
         own = λ n a from less there. absurd (omega arith);
         past = λ n place a from there home. let within = slice_get_within later.writes n a there in omega arith;
         reads = λ fine place block contents there. absurd (b.no_block place block contents there);
         first = λ none bitmap. t.quiet (λ j c there. elim (cases_lt j k) [
-          | inl early ↦ none j c early (begins-passes.front j c (let within = slice_get_within h.connections k (outward h) at in omega arith) there)
+          | inl early ↦ none j c early (begins-passes.front j c (let within = slice_get_within h.connections k (primary_connection h) at in omega arith) there)
           | inr not_early ↦
               let inside = slice_get_within h.connections j c there in
-              let within = slice_get_within h.connections k (outward h) at in
+              let within = slice_get_within h.connections k (primary_connection h) at in
               let index : j ≡ k = omega arith in
-              ap (λ (x : Outward). x.begun) (same-at h.connections k c (outward h) (subst (λ (n : ℕ). slice_get h.connections n ≡ Some c) index there) at)
+              ap (λ (x : PrimaryConnection). x.begun)
+              (same-at h.connections k c (primary_connection h) (subst (λ (n : ℕ). slice_get h.connections n ≡ Some c) index there) at)
               ∙ fresh
         ]) (sym (ap (λ (x : Tuple). x.bitmap) b.opening.1.0) ∙ bitmap);
         clean = λ fine unshut block inside unmarked. inr
@@ -169,14 +173,15 @@ module _ (h later : PrimaryHistory) (peer : Tuple) (decided : Decision) (f : Out
         let end = last-end h later f b.connections k d at late in (
           length h.writes,
           length h.writes,
-          subst (λ (x : Outward). IsSpan later k x (length h.writes) (length h.writes)) (sym end.1) (begins-span k end.0 late t),
+          subst (λ (x : PrimaryConnection). IsSpan later k x (length h.writes) (length h.writes)) (sym end.1) (begins-span k end.0 late t),
         )) t;
     quiet = λ none bitmap. absurd (
         let there = open-at h standing in
-        let changed = get-last-changed f (no_outward h.tuple) h.connections (outward h) there refl in
-        both_ways (f (outward h)).begun
-        (none (length h.connections - 1) (f (outward h))
-        (subst (λ (l : List Outward). slice_get l (length h.connections - 1) ≡ Some (f (outward h))) (sym b.connections) changed)) b.begun);
+        let changed = get-last-changed f (no_primary_connection h.tuple) h.connections (primary_connection h) there refl in
+        both_ways (f (primary_connection h)).begun
+        (none (length h.connections - 1) (f (primary_connection h))
+        (subst (λ (l : List PrimaryConnection). slice_get l (length h.connections - 1) ≡ Some (f (primary_connection h))) (sym b.connections) changed))
+        b.begun);
   }
 
 -- what a stream begins with is no block of a resync, and no end of one
@@ -188,19 +193,19 @@ pub start-end : (word n : ℕ) (tuple : Tuple) → slice_get (SyncUuidItem word 
 start-end word zero tuple at = cc
 start-end word (suc n) tuple at = cc
 
-spans-begins : (h : PrimaryHistory) (peer : Tuple) (decided : Decision) → HasHomes h → IsLastOpen h → IsAccounted h → (outward h).closed ≡ false
-    → (outward h).begun ≡ false → decision h.tuple peer ≡ Ok decided → HasSpans h
-    → HasSpans (begun_with decided (record (with_outward (with_frame (Ok (UuidsFrame peer))) h) { peer = Some peer }))
+spans-begins : (h : PrimaryHistory) (peer : Tuple) (decided : Decision) → HasHomes h → IsLastOpen h → IsAccounted h → (primary_connection h).closed ≡ false
+    → (primary_connection h).begun ≡ false → decision h.tuple peer ≡ Ok decided → HasSpans h
+    → HasSpans (begun_with decided (record (with_primary_connection (with_frame (Ok (UuidsFrame peer))) h) { peer = Some peer }))
 spans-begins h peer decided homes last accounted standing fresh is t = go decided is
   where
     frame : Received
     frame = Ok (UuidsFrame peer)
 
     taken : PrimaryHistory
-    taken = record (with_outward (with_frame (Ok (UuidsFrame peer))) h) { peer = Some peer }
+    taken = record (with_primary_connection (with_frame (Ok (UuidsFrame peer))) h) { peer = Some peer }
 
     go : (v : Decision) → decision h.tuple peer ≡ Ok v
-        → HasSpans (begun_with v (record (with_outward (with_frame (Ok (UuidsFrame peer))) h) { peer = Some peer }))
+        → HasSpans (begun_with v (record (with_primary_connection (with_frame (Ok (UuidsFrame peer))) h) { peer = Some peer }))
     go NoSync is = begins-spans h (begun_with NoSync taken) peer NoSync (λ c. record c { taken = c.taken ++ Ok (UuidsFrame peer) ∷ []; begun = true }) homes
         last accounted standing fresh is (record {
           connections = change-twice (with_frame frame) (λ c. record c { begun = true }) h.connections;
@@ -214,7 +219,7 @@ spans-begins h peer decided homes last accounted standing fresh is t = go decide
           full = λ same. absurd (cc);
         }) t
     go BitmapSync is =
-        let word = (outward (with_outward (with_frame (Ok (UuidsFrame peer))) h)).sync in
+        let word = (primary_connection (with_primary_connection (with_frame (Ok (UuidsFrame peer))) h)).sync in
         begins-spans h (begun_with BitmapSync taken) peer BitmapSync
         (λ c. record c { taken = c.taken ++ Ok (UuidsFrame peer) ∷ []; begun = true; stream = SyncUuidItem word ∷ [] }) homes last accounted standing fresh
         is (record {
@@ -229,7 +234,7 @@ spans-begins h peer decided homes last accounted standing fresh is t = go decide
           full = λ same. absurd (cc);
         }) t
     go FullSync is =
-        let word = (outward (with_outward (with_frame (Ok (UuidsFrame peer))) h)).sync in
+        let word = (primary_connection (with_primary_connection (with_frame (Ok (UuidsFrame peer))) h)).sync in
         let all : (block : ℕ) → block < h.settings.blocks → nat_lt block h.settings.blocks ≡ false
         → ⊥ = λ block inside out. both_ways (nat_lt block h.settings.blocks) out (lt-ltb block h.settings.blocks inside) in
         begins-spans h (begun_with FullSync taken) peer FullSync
@@ -259,9 +264,9 @@ pub spans-kept : (settings : Settings) → TakesWrites settings → IsKeptByMove
 spans-kept settings bound =
     let base : IsKeptByMoves (Both settings) (BothAfter settings) = both-kept (Ordered settings) (OrderedAfter settings) IsAccounted IsAccounted
     (in-order-kept settings bound) accounted-kept in
-    let takes : (h : PrimaryHistory) (frame : Received) → (outward h).closed ≡ false → Spanned settings h
-    → HasSpans (with_outward (with_frame frame) h) = λ h frame standing p.
-    spans-takes h (with_outward (with_frame frame) h) frame p.0.0.1.1.0.0 p.0.0.1.0 standing refl refl (
+    let takes : (h : PrimaryHistory) (frame : Received) → (primary_connection h).closed ≡ false → Spanned settings h
+    → HasSpans (with_primary_connection (with_frame frame) h) = λ h frame standing p.
+    spans-takes h (with_primary_connection (with_frame frame) h) frame p.0.0.1.1.0.0 p.0.0.1.0 standing refl refl (
       refl,
       (refl, (refl, refl)),
     ) (λ block unmarked. inl unmarked) p.1 in
@@ -273,9 +278,10 @@ spans-kept settings bound =
       faults = λ h number offsets waiting p. (base.faults h number offsets waiting p.0, spans-faults h number offsets p.0.0.1.0 p.1);
       sends = λ h standing due p. (
         base.sends h standing due p.0,
-        spans-end h (with_outward pushing h) pushing p.0.0.1.0 refl refl (refl, (refl, (refl, refl))) refl (begins-self (outward h).taken)
-            (keeps-quiet h (with_outward pushing h) (pushing (outward h)) refl
-            (λ k at. grows-with (outward h) (pushing (outward h)) refl (omega arith) (begins-self (accepted_frames (outward h)))) (λ u. u) refl
+        spans-end h (with_primary_connection pushing h) pushing p.0.0.1.0 refl refl (refl, (refl, (refl, refl))) refl (begins-self (primary_connection h).taken)
+            (keeps-quiet h (with_primary_connection pushing h) (pushing (primary_connection h)) refl
+            (λ k at. grows-with (primary_connection h) (pushing (primary_connection h)) refl (omega arith)
+            (begins-self (accepted_frames (primary_connection h)))) (λ u. u) refl
             (λ unshut block unmarked. unmarked)) p.1,
       );
       greets = λ h frame standing new met p. (base.greets h frame standing new met p.0, takes h frame standing p);
@@ -310,7 +316,8 @@ spans-released settings =
       );
       confirms = λ h number size standing begun turn p q. (
         base.confirms h number size standing begun turn p.0 q.0,
-        spans-releasing settings h (with_outward (with_frame (Ok (BarrierAckFrame number size))) h) (confirmed-releases settings h number size standing p.0.0)
+        spans-releasing settings h (with_primary_connection (with_frame (Ok (BarrierAckFrame number size))) h)
+            (confirmed-releases settings h number size standing p.0.0)
             p.0.0 q.0.0 q.1,
       );
     }

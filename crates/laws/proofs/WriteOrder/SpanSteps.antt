@@ -9,7 +9,8 @@ use Rattle.blocks.specs.declared.settings.Settings.{Settings}
 use Rattle.model.specs.Contents.{BlockMap, Layer, Write, block_under, overlay}
 use Rattle.model.specs.Stream.{WriteItem, within}
 use Rattle.model.specs.Marks.{marking, releasing, is_cleared}
-use Rattle.model.specs.Primary.{LocalOutcome, Waiting, OnDisk, Failed, Accepted, Outward, PrimaryHistory, outward, change_last, is_waiting, is_failed}
+use Rattle.model.specs.Primary.{LocalOutcome, Waiting, OnDisk, Failed, Accepted, PrimaryConnection, PrimaryHistory, primary_connection, change_last, is_waiting}
+use Rattle.model.specs.Primary.{is_failed}
 use Rattle.model.specs.PrimarySteps.{set_outcome, with_outcome, is_unfinished, accepted_at, faulted, faulted_by}
 use Rattle.laws.proofs.Rules.Marking.{unmarked-by}
 use Rattle.laws.proofs.Lists.Beginnings.{begins-self}
@@ -66,12 +67,12 @@ passes-outcome h later number outcome connections writes opening fine = record {
       );
   count = let same = ap length writes in let size = outcome-length number outcome h.writes in omega arith;
   fine = fine;
-  front = λ j c less at. subst (λ (l : List Outward). slice_get l j ≡ Some c) (sym connections) at;
-  back = λ j c less at. subst (λ (l : List Outward). slice_get l j ≡ Some c) connections at;
+  front = λ j c less at. subst (λ (l : List PrimaryConnection). slice_get l j ≡ Some c) (sym connections) at;
+  back = λ j c less at. subst (λ (l : List PrimaryConnection). slice_get l j ≡ Some c) connections at;
   first = λ decided. first-carries h later decided
       (record {
-        forward = λ k c at begun. (c, subst (λ (l : List Outward). slice_get l k ≡ Some c) (sym connections) at, begun, begins-self c.taken);
-        back = λ k d at. inl (d, subst (λ (l : List Outward). slice_get l k ≡ Some d) connections at, refl);
+        forward = λ k c at begun. (c, subst (λ (l : List PrimaryConnection). slice_get l k ≡ Some c) (sym connections) at, begun, begins-self c.taken);
+        back = λ k d at. inl (d, subst (λ (l : List PrimaryConnection). slice_get l k ≡ Some d) connections at, refl);
       }) opening.1.0;
 }
 
@@ -79,10 +80,11 @@ spans-outcome : (h later : PrimaryHistory) (number : ℕ) (outcome : LocalOutcom
     → later.writes ≡ map (set_outcome number outcome) h.writes → SameOpening h later → (NoneFailed later → NoneFailed h)
     → ((block : ℕ) → later.marks block ≡ false → h.marks block ≡ false) → HasSpans h → HasSpans later
 spans-outcome h later number outcome last connections writes opening fine marks t =
-    let same : later.connections ≡ change_last (λ (c : Outward). c) h.connections = connections ∙ sym (change-none h.connections) in
+    let same : later.connections ≡ change_last (λ (c : PrimaryConnection). c) h.connections = connections ∙ sym (change-none h.connections) in
     spans-change h later (λ c. c) last (passes-outcome h later number outcome connections writes opening fine) same (ap length writes
     ∙ outcome-length number outcome h.writes)
-    (keeps-quiet h later (outward h) refl (λ k at. grows-self (outward h)) (λ is. is) refl (λ unshut block unmarked. marks block unmarked)) t
+    (keeps-quiet h later (primary_connection h) refl (λ k at. grows-self (primary_connection h)) (λ is. is) refl
+    (λ unshut block unmarked. marks block unmarked)) t
 
 -- a write that is done had not failed, since it waited
 none-failed-done : (h : PrimaryHistory) (number : ℕ) → HasHomes h → is_unfinished h number ≡ true → NoneFailed (with_outcome number OnDisk h) → NoneFailed h
@@ -143,9 +145,9 @@ spans-faults h number offsets last t = go (accepted_at h number) refl
 pub spans-releasing : (settings : Settings) (h later : PrimaryHistory) → IsRelease h later → Ordered settings h → OrderedAfter settings later → HasSpans later
     → HasSpans (releasing h later)
 spans-releasing settings h later release p q t =
-    let same : (releasing h later).connections ≡ change_last (λ (c : Outward). c) later.connections = sym (change-none later.connections) in
-    spans-end later (releasing h later) (λ c. c) q.1.0 same refl (refl, (refl, (refl, refl))) refl (begins-self (outward later).taken) (record {
-      grows = λ k at. grows-self (outward later);
+    let same : (releasing h later).connections ≡ change_last (λ (c : PrimaryConnection). c) later.connections = sym (change-none later.connections) in
+    spans-end later (releasing h later) (λ c. c) q.1.0 same refl (refl, (refl, (refl, refl))) refl (begins-self (primary_connection later).taken) (record {
+      grows = λ k at. grows-self (primary_connection later);
       unshut = λ is. is;
       begun = refl;
       marks = λ fine unshut block inside unmarked. elim (and_cases (later.marks block) (not (is_cleared h later block)) unmarked) [

@@ -8,14 +8,14 @@ use Rattle.blocks.specs.declared.tuple.Tuple.{Tuple}
 use Rattle.model.specs.Contents.{Write, overlay}
 use Rattle.model.specs.Stream.{WriteItem, ResyncItem, UuidsItem}
 use Rattle.model.specs.Marks.{marking}
-use Rattle.model.specs.Primary.{Waiting, Accepted, Outward, PrimaryHistory, no_outward, outward, last_index, stands}
+use Rattle.model.specs.Primary.{Waiting, Accepted, PrimaryConnection, PrimaryHistory, no_primary_connection, primary_connection, last_index, is_established}
 use Rattle.model.specs.PrimarySteps.{appending, submission, submitted, submitted_with}
 use Rattle.laws.proofs.Lists.Beginnings.{begins-self, take-begins}
 use Rattle.laws.proofs.Lists.Elements.{get-left, get-more}
 use Rattle.laws.proofs.Lists.Last.{get-last-changed}
 use Rattle.laws.proofs.Primary.Homes.{HasHomes, open-at}
 use Rattle.laws.proofs.Primary.Moves.{MaySubmit}
-use Rattle.laws.proofs.Primary.Ends.{stands-parts}
+use Rattle.laws.proofs.Primary.Ends.{established-parts}
 use Rattle.laws.proofs.Primary.LastOpen.{IsLastOpen, open-is-last}
 use Rattle.laws.proofs.Accounted.{IsAccounted}
 use Rattle.laws.proofs.Accounted.Moves.{first-carries}
@@ -26,13 +26,13 @@ use Rattle.laws.proofs.WriteOrder.SpanMoves.{HasSpans, passes-change, span-shut,
 use Rattle.laws.proofs.WriteOrder.SpanKept.{grows-item}
 
 -- over a stream that stands it gets the next place
-submits-connected : (h : PrimaryHistory) (write : Write) → HasHomes h → IsLastOpen h → stands (outward h) ≡ true → HasSpans h
+submits-connected : (h : PrimaryHistory) (write : Write) → HasHomes h → IsLastOpen h → is_established (primary_connection h) ≡ true → HasSpans h
     → HasSpans (appending (WriteItem write)
     (record h {
       writes = h.writes ++ record {
         write = write;
         journal_length = length h.journal;
-        home = Some (record { index = last_index h.connections; place = length (outward h).stream });
+        home = Some (record { index = last_index h.connections; place = length (primary_connection h).stream });
         outcome = Waiting;
       } ∷ [];
     }))
@@ -42,12 +42,13 @@ submits-connected h write homes last stood t = record {
     | inr added ↦ let index = (home-is k other b.home (ap (λ (x : Accepted). x.home) added.1) home).0 in omega arith
   ]) (λ k d at begun late.
       let end = last-end h later f refl k d at late in
-      let s = t.spans k (outward h) end.0 (stands-parts (outward h) stood).1 in
-      (s.0, suc s.1, subst (λ (x : Outward). IsSpan later k x s.0 (suc s.1)) (sym end.1) (one k s.0 s.1 end.0 s.2))) t;
+      let s = t.spans k (primary_connection h) end.0 (established-parts (primary_connection h) stood).1 in
+      (s.0, suc s.1, subst (λ (x : PrimaryConnection). IsSpan later k x s.0 (suc s.1)) (sym end.1) (one k s.0 s.1 end.0 s.2))) t;
   quiet = λ none bitmap. absurd (
       let there = open-at h standing in
-      let changed = get-last-changed f (no_outward h.tuple) h.connections (outward h) there refl in
-      both_ways (outward h).begun (none (length h.connections - 1) (f (outward h)) changed) (stands-parts (outward h) stood).1);
+      let changed = get-last-changed f (no_primary_connection h.tuple) h.connections (primary_connection h) there refl in
+      both_ways (primary_connection h).begun (none (length h.connections - 1) (f (primary_connection h)) changed)
+      (established-parts (primary_connection h) stood).1);
 }
   where
     new : Accepted
@@ -55,24 +56,24 @@ submits-connected h write homes last stood t = record {
       write = write;
       journal_length = length h.journal;
       home =
-          Some (record { index = last_index h.connections; place = length (outward h).stream });
+          Some (record { index = last_index h.connections; place = length (primary_connection h).stream });
       outcome = Waiting;
     }
 
-    f : Outward → Outward
+    f : PrimaryConnection → PrimaryConnection
     f c = record c { stream = c.stream ++ WriteItem write ∷ [] }
 
     later : PrimaryHistory
     later = appending (WriteItem write) (record h { writes = h.writes ++ new ∷ [] })
 
-    standing : (outward h).closed ≡ false
-    standing = (stands-parts (outward h) stood).0
+    standing : (primary_connection h).closed ≡ false
+    standing = (established-parts (primary_connection h) stood).0
 
-    home-is : (k other : ℕ) (v : Option StreamPosition) → v ≡ Some (record { index = last_index h.connections; place = length (outward h).stream })
+    home-is : (k other : ℕ) (v : Option StreamPosition) → v ≡ Some (record { index = last_index h.connections; place = length (primary_connection h).stream })
         → v ≡ Some (record { index = k; place = other })
-        → (last_index h.connections ≡ k) × (length (outward h).stream ≡ other)
+        → (last_index h.connections ≡ k) × (length (primary_connection h).stream ≡ other)
     home-is k other v is also =
-        let here : StreamPosition = record { index = last_index h.connections; place = length (outward h).stream } in
+        let here : StreamPosition = record { index = last_index h.connections; place = length (primary_connection h).stream } in
         let there : StreamPosition = record { index = k; place = other } in
         let same : here ≡ there = let e : Some here ≡ Some there = sym is ∙ also in cc in
         (ap (λ (x : StreamPosition). x.index) same, ap (λ (x : StreamPosition). x.place) same)
@@ -82,7 +83,7 @@ submits-connected h write homes last stood t = record {
       refl,
       (refl, (refl, refl)),
     ) (λ decided. first-carries h (appending (WriteItem write) h) decided
-        (begun-change h (appending (WriteItem write) h) f refl refl (begins-self (outward h).taken)) refl)
+        (begun-change h (appending (WriteItem write) h) f refl refl (begins-self (primary_connection h).taken)) refl)
 
     passes : Passes h later
     passes = record {
@@ -97,17 +98,17 @@ submits-connected h write homes last stood t = record {
       fine = λ fine n a at. fine n a (get-left h.writes (new ∷ []) n a at);
       front = front.front;
       back = front.back;
-      first = λ decided. first-carries h later decided (begun-change h later f refl refl (begins-self (outward h).taken)) refl;
+      first = λ decided. first-carries h later decided (begun-change h later f refl refl (begins-self (primary_connection h).taken)) refl;
     }
 
-    one : (k older newer : ℕ) → slice_get h.connections k ≡ Some (outward h) → IsSpan h k (outward h) older newer
-        → IsSpan later k (f (outward h)) older (suc newer)
+    one : (k older newer : ℕ) → slice_get h.connections k ≡ Some (primary_connection h) → IsSpan h k (primary_connection h) older newer
+        → IsSpan later k (f (primary_connection h)) older (suc newer)
     one k older newer at s =
         let size : length (h.writes ++ new ∷ []) ≡ length h.writes + 1 = length-append h.writes (new ∷ []) in
         let still = s.still standing in
-        let within = slice_get_within h.connections k (outward h) at in
-        span-passes h later k (outward h) (f (outward h)) older newer (suc newer) passes at (record {
-          grows = grows-item (outward h) (WriteItem write);
+        let within = slice_get_within h.connections k (primary_connection h) at in
+        span-passes h later k (primary_connection h) (f (primary_connection h)) older newer (suc newer) passes at (record {
+          grows = grows-item (primary_connection h) (WriteItem write);
           unshut = λ is. is;
           earlier = λ j e less there. passes.front j e (omega arith) there;
           rising = omega arith;
@@ -116,10 +117,10 @@ submits-connected h write homes last stood t = record {
           own = λ n b from less there. elim (get-more h.writes new n b there) [
             | inl old ↦ absurd (let inside = slice_get_within h.writes n b old in omega arith)
             | inr added ↦
-                let places = last-place k (outward h) at in (
-                  length (outward h).stream,
+                let places = last-place k (primary_connection h) at in (
+                  length (primary_connection h).stream,
                   ap (λ (x : Accepted). x.home) added.1
-                      ∙ ap (λ (m : ℕ). let pair : StreamPosition = record { index = m; place = length (outward h).stream } in Some pair) places,
+                      ∙ ap (λ (m : ℕ). let pair : StreamPosition = record { index = m; place = length (primary_connection h).stream } in Some pair) places,
                 )
           ];
           past = λ n place b from there home. let inside = slice_get_within (h.writes ++ new ∷ []) n b there in omega arith;
@@ -128,17 +129,17 @@ submits-connected h write homes last stood t = record {
             | inr added ↦ let place = (home-is k other b.home (ap (λ (x : Accepted). x.home) added.1) home).1 in omega arith
           ];
         }) (λ fine unshut block inside unmarked. inl unmarked)
-        (λ fine place block contents there. elim (get-more (outward h).stream (WriteItem write) place (ResyncItem block contents) there)
+        (λ fine place block contents there. elim (get-more (primary_connection h).stream (WriteItem write) place (ResyncItem block contents) there)
         [ inl old ↦ inl old | inr added ↦ absurd (let e = added.1 in cc) ])
-        (λ n tuple there. elim (get-more (outward h).stream (WriteItem write) n (UuidsItem tuple) there)
+        (λ n tuple there. elim (get-more (primary_connection h).stream (WriteItem write) n (UuidsItem tuple) there)
         [ inl old ↦ inl old | inr added ↦ absurd (let e = added.1 in cc) ]) s
       where
-        last-place : (k : ℕ) (c : Outward) → slice_get h.connections k ≡ Some (outward h) → last_index h.connections ≡ k
-        last-place k c at = sym (open-is-last h k (outward h) last at standing).0
+        last-place : (k : ℕ) (c : PrimaryConnection) → slice_get h.connections k ≡ Some (primary_connection h) → last_index h.connections ≡ k
+        last-place k c at = sym (open-is-last h k (primary_connection h) last at standing).0
 
 -- without one it has no place
-submits-alone : (h : PrimaryHistory) (write : Write) → IsLastOpen h → IsAccounted h → stands (outward h) ≡ false
-    → (not (stands (outward h)) && (h.tuple.bitmap == 0)) ≡ false → HasSpans h
+submits-alone : (h : PrimaryHistory) (write : Write) → IsLastOpen h → IsAccounted h → is_established (primary_connection h) ≡ false
+    → (not (is_established (primary_connection h)) && (h.tuple.bitmap == 0)) ≡ false → HasSpans h
     → HasSpans (record h {
       writes = h.writes ++ record { write = write; journal_length = length h.journal; home = None; outcome = Waiting } ∷ [];
       marks = marking write h.marks;
@@ -158,8 +159,8 @@ submits-alone h write last accounted rests connected t = record {
     | inr first ↦ both_ways first.1.end.begun (none first.1.connection first.1.end first.1.at) first.1.begun
     | inl nothing ↦
         let zero_bitmap : h.tuple.bitmap ≡ 0 = ap (λ (x : Tuple). x.bitmap) nothing.tuple ∙ bitmap in
-        both_ways (not (stands (outward h)) && (h.tuple.bitmap == 0)) connected
-        (and_from (not (stands (outward h))) (h.tuple.bitmap == 0) (ap not rests) (eq-eqb h.tuple.bitmap 0 zero_bitmap))
+        both_ways (not (is_established (primary_connection h)) && (h.tuple.bitmap == 0)) connected
+        (and_from (not (is_established (primary_connection h))) (h.tuple.bitmap == 0) (ap not rests) (eq-eqb h.tuple.bitmap 0 zero_bitmap))
   ]);
 }
   where
@@ -186,19 +187,20 @@ submits-alone h write last accounted rests connected t = record {
           (record { forward = λ k c at begun. (c, at, begun, begins-self c.taken); back = λ k d at. inl (d, at, refl) }) refl;
     }
 
-    shut : (k : ℕ) (c : Outward) → slice_get h.connections k ≡ Some c → c.begun ≡ true → c.closed ≡ true
+    shut : (k : ℕ) (c : PrimaryConnection) → slice_get h.connections k ≡ Some c → c.begun ≡ true → c.closed ≡ true
     shut k c at begun = elim (cases_Bool c.closed) [
       | inl is ↦ is
       | inr unshut ↦ absurd (
-          let end : c ≡ outward h = (open-is-last h k c last at unshut).1 in
-          both_ways (stands (outward h)) rests (subst (λ (x : Outward). stands x ≡ true) end (and_from (not c.closed) c.begun (ap not unshut) begun)))
+          let end : c ≡ primary_connection h = (open-is-last h k c last at unshut).1 in
+          both_ways (is_established (primary_connection h)) rests
+          (subst (λ (x : PrimaryConnection). is_established x ≡ true) end (and_from (not c.closed) c.begun (ap not unshut) begun)))
     ]
 
 -- either way the spans are kept
 pub spans-submits : (h : PrimaryHistory) (first : ℕ) (contents : List (List ℕ)) → MaySubmit h first contents → HasHomes h → IsLastOpen h → IsAccounted h
     → HasSpans h → HasSpans (submitted h first contents)
-spans-submits h first contents may homes last accounted t = go (stands (outward h)) refl
+spans-submits h first contents may homes last accounted t = go (is_established (primary_connection h)) refl
   where
-    go : (b : Bool) → stands (outward h) ≡ b → HasSpans (submitted_with b h first contents)
+    go : (b : Bool) → is_established (primary_connection h) ≡ b → HasSpans (submitted_with b h first contents)
     go true is = submits-connected h (submission h first contents) homes last is t
     go false is = submits-alone h (submission h first contents) last accounted is may.connected t

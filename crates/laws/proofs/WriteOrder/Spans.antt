@@ -9,8 +9,8 @@ use Rattle.blocks.specs.declared.tuple.Tuple.{Tuple}
 use Rattle.blocks.specs.declared.outcome.Decision.{Decision}
 use Rattle.blocks.specs.declared.outcome.Decision.TheVariants.{FullSync}
 use Rattle.model.specs.Contents.{BlockMap, Write, covers}
-use Rattle.model.specs.Stream.{Item, ResyncItem, UuidsItem, IsBeginning}
-use Rattle.model.specs.Primary.{Accepted, Outward, PrimaryHistory, is_failed}
+use Rattle.model.specs.Stream.{StreamItem, ResyncItem, UuidsItem, IsBeginning}
+use Rattle.model.specs.Primary.{Accepted, PrimaryConnection, PrimaryHistory, is_failed}
 use Rattle.model.specs.Headline.{opening_marked}
 use Rattle.laws.specs.Reflections.{touches, content_at, is_sure, IsLater, FirstBegan}
 use Rattle.laws.proofs.Lists.Beginnings.{get-beginning}
@@ -24,9 +24,9 @@ abbrev pub NoneFailed : PrimaryHistory → Type 0
 NoneFailed h = (n : ℕ) (a : Accepted) → slice_get h.writes n ≡ Some a → is_failed a.outcome ≡ false
 
 -- the peer has said that it has an item of this end on the block
-pub record IsTold (c : Outward) (block : ℕ) : Type 0 where
+pub record IsTold (c : PrimaryConnection) (block : ℕ) : Type 0 where
   pub place : ℕ
-  pub item : Item
+  pub item : StreamItem
   pub there : slice_get c.stream place ≡ Some item
   pub touched : touches item block ≡ true
   pub sure : is_sure c place item ≡ true
@@ -40,22 +40,22 @@ left_by h count block = writes_over h.opening_map count h.writes block
 pub record FromBelow (h : PrimaryHistory) (k older block : ℕ) : Type 0 where
   pub connection : ℕ
   pub place : ℕ
-  pub end : Outward
-  pub item : Item
+  pub end : PrimaryConnection
+  pub item : StreamItem
   pub less : connection < k
   pub at : slice_get h.connections connection ≡ Some end
   pub there : slice_get end.stream place ≡ Some item
   pub touched : touches item block ≡ true
   pub sure : is_sure end place item ≡ true
   pub content : content_at item block ≡ left_by h older block
-  pub later : (other next : ℕ) (c : Outward) (i : Item) → other < k → slice_get h.connections other ≡ Some c → slice_get c.stream next ≡ Some i
+  pub later : (other next : ℕ) (c : PrimaryConnection) (i : StreamItem) → other < k → slice_get h.connections other ≡ Some c → slice_get c.stream next ≡ Some i
       → touches i block ≡ true → IsLater connection place other next → content_at i block ≡ left_by h older block
 
 -- Or the block stands as at the opening, where it was not marked and no full resync began.
 pub record OpeningBelow (h : PrimaryHistory) (k older block : ℕ) : Type 0 where
   pub content : h.opening_map block ≡ left_by h older block
   pub unmarked : opening_marked h block ≡ false
-  pub items : (other next : ℕ) (c : Outward) (i : Item) → other < k → slice_get h.connections other ≡ Some c → slice_get c.stream next ≡ Some i
+  pub items : (other next : ℕ) (c : PrimaryConnection) (i : StreamItem) → other < k → slice_get h.connections other ≡ Some c → slice_get c.stream next ≡ Some i
       → touches i block ≡ true → content_at i block ≡ left_by h older block
   pub began : (decided : Decision) × FirstBegan h decided × (decided ≡ FullSync → ⊥)
 
@@ -65,7 +65,7 @@ WasBelow h k older block = FromBelow h k older block ⊎ OpeningBelow h k older 
 
 -- The writes of a connection are those from the one number to the other. While its stream stands, on each unmarked block an
 -- item of it is surely on the peer's disk, or the earlier writes were there; and so from the end of a resync on, on every block.
-pub record IsSpan (h : PrimaryHistory) (k : ℕ) (c : Outward) (older newer : ℕ) : Type 0 where
+pub record IsSpan (h : PrimaryHistory) (k : ℕ) (c : PrimaryConnection) (older newer : ℕ) : Type 0 where
   pub rising : older ≤ newer
   pub bound : newer ≤ length h.writes
   pub still : c.closed ≡ false → newer ≡ length h.writes
@@ -74,7 +74,7 @@ pub record IsSpan (h : PrimaryHistory) (k : ℕ) (c : Outward) (older newer : �
   pub past : (n place : ℕ) (a : Accepted) → newer ≤ n → slice_get h.writes n ≡ Some a → a.home ≡ Some (record { index = k; place = place }) → ⊥
   pub reads : NoneFailed h → (place block : ℕ) (contents : List ℕ) → slice_get c.stream place ≡ Some (ResyncItem block contents)
       → IsRead h k c older place block contents
-  pub first : ((j : ℕ) (d : Outward) → j < k → slice_get h.connections j ≡ Some d → d.begun ≡ false) → h.opening_tuple.bitmap ≡ 0 → older ≡ 0
+  pub first : ((j : ℕ) (d : PrimaryConnection) → j < k → slice_get h.connections j ≡ Some d → d.begun ≡ false) → h.opening_tuple.bitmap ≡ 0 → older ≡ 0
   pub clean : NoneFailed h → c.closed ≡ false → (block : ℕ) → block < h.settings.blocks → h.marks block ≡ false → IsTold c block ⊎ WasBelow h k older block
   pub synced : NoneFailed h → (n : ℕ) (tuple : Tuple) → slice_get c.stream n ≡ Some (UuidsItem tuple) → (block : ℕ) → block < h.settings.blocks
       → IsTold c block ⊎ WasBelow h k older block
@@ -90,8 +90,8 @@ pub record Passes (h later : PrimaryHistory) : Type 0 where
       → (a : Accepted) × (slice_get h.writes i ≡ Some a) × (b.write ≡ a.write) × (b.home ≡ a.home)
   pub count : length h.writes ≤ length later.writes
   pub fine : NoneFailed later → NoneFailed h
-  pub front : (j : ℕ) (c : Outward) → suc j < length h.connections → slice_get h.connections j ≡ Some c → slice_get later.connections j ≡ Some c
-  pub back : (j : ℕ) (c : Outward) → suc j < length h.connections → slice_get later.connections j ≡ Some c → slice_get h.connections j ≡ Some c
+  pub front : (j : ℕ) (c : PrimaryConnection) → suc j < length h.connections → slice_get h.connections j ≡ Some c → slice_get later.connections j ≡ Some c
+  pub back : (j : ℕ) (c : PrimaryConnection) → suc j < length h.connections → slice_get later.connections j ≡ Some c → slice_get h.connections j ≡ Some c
   pub first : (decided : Decision) → FirstBegan h decided → FirstBegan later decided
 
 -- what the writes leave stays
@@ -101,7 +101,7 @@ left-same h later p count block within = ap (λ (m : BlockMap). writes_over m co
 -- a block that stands as at the opening still does
 pub opening-below : (h later : PrimaryHistory) (k older block : ℕ) → Passes h later → k < length h.connections → older ≤ length h.writes
     → h.opening_map block ≡ left_by h older block → opening_marked h block ≡ false
-    → ((other next : ℕ) (c : Outward) (i : Item) → other < k → slice_get h.connections other ≡ Some c → slice_get c.stream next ≡ Some i
+    → ((other next : ℕ) (c : PrimaryConnection) (i : StreamItem) → other < k → slice_get h.connections other ≡ Some c → slice_get c.stream next ≡ Some i
     → touches i block ≡ true → content_at i block ≡ left_by h older block)
     → ((decided : Decision) × FirstBegan later decided × (decided ≡ FullSync → ⊥)) → OpeningBelow later k older block
 opening-below h later k older block p within few content unmarked items began = record {
@@ -134,7 +134,7 @@ below-passes h later k older block p within few (inr b) =
     inr (opening-below h later k older block p within few b.content b.unmarked b.items (b.began.0, p.first b.began.0 b.began.1, b.began.2))
 
 -- what the peer has said stays said
-told-grows : (c d : Outward) (block : ℕ) → Grows c d → IsTold c block → IsTold d block
+told-grows : (c d : PrimaryConnection) (block : ℕ) → Grows c d → IsTold c block → IsTold d block
 told-grows c d block g t = record {
   place = t.place;
   item = t.item;
@@ -144,7 +144,7 @@ told-grows c d block g t = record {
 }
 
 -- what a block of a resync has stays as its stream grows
-pub read-passes : (h later : PrimaryHistory) (k : ℕ) (c d : Outward) (older place block : ℕ) (contents : List ℕ) → Passes h later
+pub read-passes : (h later : PrimaryHistory) (k : ℕ) (c d : PrimaryConnection) (older place block : ℕ) (contents : List ℕ) → Passes h later
     → IsBeginning c.stream d.stream → place < length c.stream
     → ((n other : ℕ) (b : Accepted) → length h.writes ≤ n → slice_get later.writes n ≡ Some b → b.home ≡ Some (record { index = k; place = other })
     → length c.stream ≤ other)
@@ -169,10 +169,10 @@ read-passes h later k c d older place block contents p grows within added r = re
 }
 
 -- What becomes of a span's end: it grows, and so may its writes.
-pub record Extends (h later : PrimaryHistory) (k : ℕ) (c d : Outward) (newer upto : ℕ) : Type 0 where
+pub record Extends (h later : PrimaryHistory) (k : ℕ) (c d : PrimaryConnection) (newer upto : ℕ) : Type 0 where
   pub grows : Grows c d
   pub unshut : d.closed ≡ false → c.closed ≡ false
-  pub earlier : (j : ℕ) (e : Outward) → j < k → slice_get h.connections j ≡ Some e → slice_get later.connections j ≡ Some e
+  pub earlier : (j : ℕ) (e : PrimaryConnection) → j < k → slice_get h.connections j ≡ Some e → slice_get later.connections j ≡ Some e
   pub rising : newer ≤ upto
   pub bound : upto ≤ length later.writes
   pub still : d.closed ≡ false → upto ≡ length later.writes
@@ -184,7 +184,7 @@ pub record Extends (h later : PrimaryHistory) (k : ℕ) (c d : Outward) (newer u
 
 -- A span stays as its end goes on, where new blocks of a resync are what they are to be, and no mark goes away without a word of
 -- the peer, nor a resync ends with one.
-pub span-passes : (h later : PrimaryHistory) (k : ℕ) (c d : Outward) (older newer upto : ℕ) → Passes h later → slice_get h.connections k ≡ Some c
+pub span-passes : (h later : PrimaryHistory) (k : ℕ) (c d : PrimaryConnection) (older newer upto : ℕ) → Passes h later → slice_get h.connections k ≡ Some c
     → Extends h later k c d newer upto
     → (NoneFailed later → d.closed ≡ false → (block : ℕ) → block < h.settings.blocks → later.marks block ≡ false → (h.marks block ≡ false) ⊎ IsTold d block)
     → (NoneFailed later → (place block : ℕ) (contents : List ℕ) → slice_get d.stream place ≡ Some (ResyncItem block contents)

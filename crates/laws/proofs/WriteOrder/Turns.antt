@@ -14,12 +14,13 @@ use Rattle.blocks.specs.declared.outcome.Decision.{Decision}
 use Rattle.blocks.specs.declared.outcome.Decision.TheVariants.{NoSync, BitmapSync, FullSync}
 use Rattle.blocks.specs.SettingsRange.{IsInRange}
 use Rattle.model.specs.Contents.{BlockMap}
-use Rattle.model.specs.Stream.{Item, WriteItem, ResyncItem, BarrierItem, SyncUuidItem, UuidsItem, IsBeginning, epoch_of, last_epoch, within}
+use Rattle.model.specs.Stream.{StreamItem, WriteItem, ResyncItem, BarrierItem, SyncUuidItem, UuidsItem, IsBeginning, epoch_of, last_epoch, within}
 use Rattle.model.specs.Frames.{Received, UuidsFrame, RsWriteAckFrame, BarrierAckFrame}
 use Rattle.model.specs.Identifiers.{sync_end}
 use Rattle.model.specs.Marks.{marking}
-use Rattle.model.specs.Primary.{LocalOutcome, Waiting, OnDisk, Accepted, Completion, Outward, PrimaryHistory, no_outward, outward, last_index}
-use Rattle.model.specs.Primary.{change_last, with_outward, stands, local_map, is_completed, is_open, primary_opening}
+use Rattle.model.specs.Primary.{LocalOutcome, Waiting, OnDisk, Accepted, Completion, PrimaryConnection, PrimaryHistory, no_primary_connection}
+use Rattle.model.specs.Primary.{primary_connection, last_index}
+use Rattle.model.specs.Primary.{change_last, with_primary_connection, is_established, local_map, is_completed, is_open, primary_opening}
 use Rattle.model.specs.PrimarySteps.{set_outcome, completion_of, newly_completed, with_completions, appending, ending_resync, follows, submission, submitted}
 use Rattle.model.specs.PrimarySteps.{with_outcome, accepted_at, faulted, closing, submitted_with, faulted_by}
 use Rattle.model.specs.Acknowledgements.{begun_with}
@@ -37,7 +38,7 @@ use Rattle.laws.proofs.Primary.Homes.{HasHomes, open-at, outcome-write, outcome-
 use Rattle.laws.proofs.Primary.Moves.{IsKeptByMoves, IsKeptByReleases, following-from, keeps-run, with_frame, pushing}
 use Rattle.laws.proofs.Releases.InOrderMoves.{Ordered, OrderedAfter, in-order-kept}
 use Rattle.laws.proofs.Primary.LastEpoch.{write-open}
-use Rattle.laws.proofs.Primary.Ends.{stands-parts}
+use Rattle.laws.proofs.Primary.Ends.{established-parts}
 use Rattle.laws.proofs.Accounted.{epoch-same}
 use Rattle.laws.proofs.Releases.Runs.{ordered-released, ordered-opening}
 use Rattle.std.specs.Prelude.{is_some, if◌then◌else◌}
@@ -49,13 +50,13 @@ use Rattle.laws.proofs.Rules.RefusedFrames.{refused_out, refused-last}
 pub record HasTurns (h : PrimaryHistory) : Type 0 where
   pub lengths : (n : ℕ) (a : Accepted) → slice_get h.writes n ≡ Some a → a.journal_length ≤ length h.journal
   pub stood : (n k place : ℕ) (a : Accepted) → slice_get h.writes n ≡ Some a → a.home ≡ Some (record { index = k; place = place })
-      → (c : Outward) × (slice_get h.connections k ≡ Some c) × (place < length c.stream)
+      → (c : PrimaryConnection) × (slice_get h.connections k ≡ Some c) × (place < length c.stream)
   pub turn : AreInTurn h
 
 -- each stream is still there, and has only grown
 abbrev pub StreamsGrow : PrimaryHistory → PrimaryHistory → Type 0
-StreamsGrow h later = (k : ℕ) (c : Outward) → slice_get h.connections k ≡ Some c
-    → (d : Outward) × (slice_get later.connections k ≡ Some d) × IsBeginning c.stream d.stream
+StreamsGrow h later = (k : ℕ) (c : PrimaryConnection) → slice_get h.connections k ≡ Some c
+    → (d : PrimaryConnection) × (slice_get later.connections k ≡ Some d) × IsBeginning c.stream d.stream
 
 -- writes that are the same but for what the local disk did
 abbrev pub WritesStay : List Accepted → List Accepted → Type 0
@@ -82,17 +83,18 @@ stay-outcome number outcome ws i b at =
         [ true ↦ refl | false ↦ refl ]
 
 -- a change of the last connection by which its stream only grows
-pub streams-change : (h later : PrimaryHistory) (f : Outward → Outward) → later.connections ≡ change_last f h.connections
-    → IsBeginning (outward h).stream (f (outward h)).stream → StreamsGrow h later
-streams-change h later f connections grows k c at = subst (λ (l : List Outward). (d : Outward) × (slice_get l k ≡ Some d) × IsBeginning c.stream d.stream)
-    (sym connections) (elim (get-change f (no_outward h.tuple) h.connections k c at) [
+pub streams-change : (h later : PrimaryHistory) (f : PrimaryConnection → PrimaryConnection) → later.connections ≡ change_last f h.connections
+    → IsBeginning (primary_connection h).stream (f (primary_connection h)).stream → StreamsGrow h later
+streams-change h later f connections grows k c at =
+    subst (λ (l : List PrimaryConnection). (d : PrimaryConnection) × (slice_get l k ≡ Some d) × IsBeginning c.stream d.stream)
+    (sym connections) (elim (get-change f (no_primary_connection h.tuple) h.connections k c at) [
       | inl same ↦ (c, same, begins-self c.stream)
-      | inr changed ↦ (f c, changed.0, subst (λ (x : Outward). IsBeginning x.stream (f x).stream) (sym changed.1) grows)
+      | inr changed ↦ (f c, changed.0, subst (λ (x : PrimaryConnection). IsBeginning x.stream (f x).stream) (sym changed.1) grows)
     ])
 
 -- no connection changes
 pub streams-same : (h later : PrimaryHistory) → later.connections ≡ h.connections → StreamsGrow h later
-streams-same h later connections k c at = (c, subst (λ (l : List Outward). slice_get l k ≡ Some c) (sym connections) at, begins-self c.stream)
+streams-same h later connections k c at = (c, subst (λ (l : List PrimaryConnection). slice_get l k ≡ Some c) (sym connections) at, begins-self c.stream)
 
 -- what came before a write stays as the journal goes on
 before-same : (h later : PrimaryHistory) (a b x y : Accepted) → IsBeginning h.journal later.journal → y.journal_length ≤ length h.journal → a.write ≡ x.write
@@ -124,35 +126,35 @@ turns-go-on h later grow writes journal t = record {
         let one = t.stood m k place x.0 x.1 (sym x.3 ∙ ha) in
         let two = t.stood n k other y.0 y.1 (sym y.3 ∙ hb) in
         let same : two.0 ≡ one.0 = same-at h.connections k two.0 one.0 two.1 one.1 in
-        let inside : other < length one.0.stream = subst (λ (d : Outward). other < length d.stream) same two.2 in
+        let inside : other < length one.0.stream = subst (λ (d : PrimaryConnection). other < length d.stream) same two.2 in
         let new = grow k one.0 one.1 in
         let is : new.0 ≡ c = same-at later.connections k new.0 c new.1 at in
         let less = t.turn.apart m n k place other x.0 y.0 one.0 x.1 y.1 (before-same h later a b x.0 y.0 journal (t.lengths n y.0 y.1) x.2 y.4 before) (sym x.3
         ∙ ha) (sym y.3 ∙ hb) one.1 in
         let near = epoch-same one.0.stream new.0.stream place new.2 (let l = one.2 in omega arith) in
         let far = epoch-same one.0.stream new.0.stream other new.2 (omega arith) in
-        subst (λ (d : Outward). epoch_of d.stream place < epoch_of d.stream other) is (omega arith);
+        subst (λ (d : PrimaryConnection). epoch_of d.stream place < epoch_of d.stream other) is (omega arith);
   };
 }
   where
     grows-length : length h.journal ≤ length later.journal
     grows-length = let e = ap length journal.1 in let long = length-append h.journal journal.0 in omega arith
 
-    longer : (xs ys : List Item) (place : ℕ) → IsBeginning xs ys → place < length xs → place < length ys
+    longer : (xs ys : List StreamItem) (place : ℕ) → IsBeginning xs ys → place < length xs → place < length ys
     longer xs ys place b less = let e = ap length b.1 in let long = length-append xs b.0 in omega arith
 
 -- A write is accepted that is in no entry of the journal, and whose home is behind every other's of its stream.
 pub turns-added : (h later : PrimaryHistory) (new : Accepted) → StreamsGrow h later → later.writes ≡ h.writes ++ new ∷ [] → later.journal ≡ h.journal
     → new.journal_length ≡ length h.journal
     → ((n : ℕ) (entry : Completion) → slice_get h.journal n ≡ Some entry → entry.write.number ≡ new.write.number → ⊥)
-    → ((k place : ℕ) → new.home ≡ Some (record { index = k; place = place }) → (c : Outward) × (slice_get later.connections k ≡ Some c)
+    → ((k place : ℕ) → new.home ≡ Some (record { index = k; place = place }) → (c : PrimaryConnection) × (slice_get later.connections k ≡ Some c)
     × (place < length c.stream))
-    → ((n k place other : ℕ) (a : Accepted) (c : Outward) → slice_get h.writes n ≡ Some a → is_completed h a.write.number ≡ true
+    → ((n k place other : ℕ) (a : Accepted) (c : PrimaryConnection) → slice_get h.writes n ≡ Some a → is_completed h a.write.number ≡ true
     → a.home ≡ Some (record { index = k; place = place })
     → new.home ≡ Some (record { index = k; place = other }) → slice_get later.connections k ≡ Some c
     → epoch_of c.stream place < epoch_of c.stream other)
     → HasTurns h → HasTurns later
-turns-added h later new grow writes journal size unknown stands apart t = record {
+turns-added h later new grow writes journal size unknown is_established apart t = record {
   lengths = λ n b at. elim (there n b at) [
     | inl old ↦ let low = t.lengths n b old in let same = ap length journal in omega arith
     | inr added ↦ let is = ap (λ (x : Accepted). x.journal_length) added.1 in let same = ap length journal in omega arith
@@ -162,7 +164,7 @@ turns-added h later new grow writes journal size unknown stands apart t = record
         let was = t.stood n k place b old home in
         let more = grow k was.0 was.1 in
         (more.0, more.1, (let e = ap length more.2.1 in let long = length-append was.0.stream more.2.0 in let low = was.2 in omega arith))
-    | inr added ↦ stands k place (ap (λ (x : Accepted). x.home) (sym added.1) ∙ home)
+    | inr added ↦ is_established k place (ap (λ (x : Accepted). x.home) (sym added.1) ∙ home)
   ];
   turn = record {
     earlier = λ m n a b ata atb before. elim (there m a ata) [
@@ -180,13 +182,13 @@ turns-added h later new grow writes journal size unknown stands apart t = record
             let one = t.stood m k place a old_a ha in
             let two = t.stood n k other b old_b hb in
             let same : two.0 ≡ one.0 = same-at h.connections k two.0 one.0 two.1 one.1 in
-            let inside : other < length one.0.stream = subst (λ (d : Outward). other < length d.stream) same two.2 in
+            let inside : other < length one.0.stream = subst (λ (d : PrimaryConnection). other < length d.stream) same two.2 in
             let grown = grow k one.0 one.1 in
             let is : grown.0 ≡ c = same-at later.connections k grown.0 c grown.1 at in
             let less = t.turn.apart m n k place other a b one.0 old_a old_b (back a b before) ha hb one.1 in
             let near = epoch-same one.0.stream grown.0.stream place grown.2 (let l = one.2 in omega arith) in
             let far = epoch-same one.0.stream grown.0.stream other grown.2 (omega arith) in
-            subst (λ (d : Outward). epoch_of d.stream place < epoch_of d.stream other) is (omega arith)
+            subst (λ (d : PrimaryConnection). epoch_of d.stream place < epoch_of d.stream other) is (omega arith)
       ]
     ];
   };
@@ -211,8 +213,9 @@ turns-added h later new grow writes journal size unknown stands apart t = record
         ap (list_any (λ (entry : Completion). entry.write.number == a.write.number)) (sym all) ∙ back a b before
 
 -- The journal, streams and writes stay, but for a change of the last connection.
-turns-change : (h later : PrimaryHistory) (f : Outward → Outward) → later.connections ≡ change_last f h.connections
-    → IsBeginning (outward h).stream (f (outward h)).stream → later.writes ≡ h.writes → later.journal ≡ h.journal → HasTurns h → HasTurns later
+turns-change : (h later : PrimaryHistory) (f : PrimaryConnection → PrimaryConnection) → later.connections ≡ change_last f h.connections
+    → IsBeginning (primary_connection h).stream (f (primary_connection h)).stream → later.writes ≡ h.writes → later.journal ≡ h.journal → HasTurns h
+    → HasTurns later
 turns-change h later f connections grows writes journal t =
     turns-go-on h later (streams-change h later f connections grows) (subst (λ (l : List Accepted). WritesStay h.writes l) (sym writes) (stay-same h.writes))
     (subst (λ (l : List Completion). IsBeginning h.journal l) (sym journal) (begins-self h.journal)) t
@@ -228,21 +231,22 @@ turns-completions h t = turns-go-on h (with_completions h) (streams-same h (with
 
 turns-submits : (settings : Settings) (h : PrimaryHistory) (first : ℕ) (contents : List (List ℕ)) → Ordered settings h → HasTurns h
     → HasTurns (submitted h first contents)
-turns-submits settings h first contents p t = go (stands (outward h)) refl
+turns-submits settings h first contents p t = go (is_established (primary_connection h)) refl
   where
     unknown : (n : ℕ) (entry : Completion) → slice_get h.journal n ≡ Some entry → entry.write.number ≡ suc (length h.writes) → ⊥
     unknown n entry at is = let low = p.0.numbers.0 n entry at in omega arith
 
-    closed-epoch : (standing : stands (outward h) ≡ true) (n place : ℕ) (a : Accepted) → slice_get h.writes n ≡ Some a → is_completed h a.write.number ≡ true
+    closed-epoch : (standing : is_established (primary_connection h) ≡ true) (n place : ℕ) (a : Accepted) → slice_get h.writes n ≡ Some a
+        → is_completed h a.write.number ≡ true
         → a.home ≡ Some (record { index = last_index h.connections; place = place })
-        → epoch_of ((outward h).stream ++ WriteItem (submission h first contents) ∷ []) place < epoch_of
-        ((outward h).stream ++ WriteItem (submission h first contents) ∷ []) (length (outward h).stream)
+        → epoch_of ((primary_connection h).stream ++ WriteItem (submission h first contents) ∷ []) place < epoch_of
+        ((primary_connection h).stream ++ WriteItem (submission h first contents) ∷ []) (length (primary_connection h).stream)
     closed-epoch standing n place a at done home =
-        let c : Outward = outward h in
+        let c : PrimaryConnection = primary_connection h in
         let homes = p.1.1.0.0 in
-        let last = open-at h (stands-parts c standing).0 in
+        let last = open-at h (established-parts c standing).0 in
         let was = homes.housed n (last_index h.connections) place a at home in
-        let there : slice_get c.stream place ≡ Some (WriteItem a.write) = subst (λ (x : Outward). slice_get x.stream place ≡ Some (WriteItem a.write))
+        let there : slice_get c.stream place ≡ Some (WriteItem a.write) = subst (λ (x : PrimaryConnection). slice_get x.stream place ≡ Some (WriteItem a.write))
         (same-at h.connections (last_index h.connections) was.0 c was.1 last) was.2 in
         let within = slice_get_within c.stream place (WriteItem a.write) there in
         let near = epoch-grows c.stream (WriteItem (submission h first contents) ∷ []) place (omega arith) in
@@ -258,42 +262,43 @@ turns-submits settings h first contents p t = go (stands (outward h)) refl
               both_ways (is_completed h a.write.number) (subst (λ (w : _). is_completed h w.number ≡ false) open_one.3 not_done) done)
         ]
 
-    go : (b : Bool) → stands (outward h) ≡ b → HasTurns (submitted_with b h first contents)
+    go : (b : Bool) → is_established (primary_connection h) ≡ b → HasTurns (submitted_with b h first contents)
     go true is =
-        let item : Item = WriteItem (submission h first contents) in
-        let f : Outward → Outward = λ c. record c { stream = c.stream ++ item ∷ [] } in
-        let last = open-at h (stands-parts (outward h) is).0 in
-        let new_last = get-last-changed f (no_outward h.tuple) h.connections (outward h) last refl in
+        let item : StreamItem = WriteItem (submission h first contents) in
+        let f : PrimaryConnection → PrimaryConnection = λ c. record c { stream = c.stream ++ item ∷ [] } in
+        let last = open-at h (established-parts (primary_connection h) is).0 in
+        let new_last = get-last-changed f (no_primary_connection h.tuple) h.connections (primary_connection h) last refl in
         let new : Accepted = record {
           write = submission h first contents;
           journal_length = length h.journal;
-          home = Some (record { index = last_index h.connections; place = length (outward h).stream });
+          home = Some (record { index = last_index h.connections; place = length (primary_connection h).stream });
           outcome = Waiting;
         } in
         let later : PrimaryHistory = appending item (record h { writes = h.writes ++ new ∷ [] }) in
         turns-added h later new (streams-change h later f refl (item ∷ [], refl)) refl refl refl unknown
         (λ k place home.
-        let here : StreamPosition = record { index = last_index h.connections; place = length (outward h).stream } in
+        let here : StreamPosition = record { index = last_index h.connections; place = length (primary_connection h).stream } in
         let there : StreamPosition = record { index = k; place = place } in
         let same : here ≡ there = let e : Some here ≡ Some there = home in cc in
         let index : last_index h.connections ≡ k = ap (λ (x : StreamPosition). x.index) same in
-        let end : length (outward h).stream ≡ place = ap (λ (x : StreamPosition). x.place) same in (
-          f (outward h),
-          subst (λ (n : ℕ). slice_get (change_last f h.connections) n ≡ Some (f (outward h))) index new_last,
-          (let long = length-append (outward h).stream (item ∷ []) in omega arith),
+        let end : length (primary_connection h).stream ≡ place = ap (λ (x : StreamPosition). x.place) same in (
+          f (primary_connection h),
+          subst (λ (n : ℕ). slice_get (change_last f h.connections) n ≡ Some (f (primary_connection h))) index new_last,
+          (let long = length-append (primary_connection h).stream (item ∷ []) in omega arith),
         ))
         (λ n k place other a c at done ha hb there.
-        let here : StreamPosition = record { index = last_index h.connections; place = length (outward h).stream } in
+        let here : StreamPosition = record { index = last_index h.connections; place = length (primary_connection h).stream } in
         let that : StreamPosition = record { index = k; place = other } in
         let same : here ≡ that = let e : Some here ≡ Some that = hb in cc in
         let index : last_index h.connections ≡ k = ap (λ (x : StreamPosition). x.index) same in
-        let end : length (outward h).stream ≡ other = ap (λ (x : StreamPosition). x.place) same in
+        let end : length (primary_connection h).stream ≡ other = ap (λ (x : StreamPosition). x.place) same in
         let home : a.home ≡ Some (record { index = last_index h.connections; place = place }) =
         subst (λ (m : ℕ). a.home ≡ Some (record { index = m; place = place })) (sym index) ha in
-        let ended : f (outward h) ≡ c = same-at (change_last f h.connections) (last_index h.connections) (f (outward h)) c new_last
+        let ended : f (primary_connection h) ≡ c = same-at (change_last f h.connections) (last_index h.connections) (f (primary_connection h)) c new_last
         (subst (λ (m : ℕ). slice_get (change_last f h.connections) m ≡ Some c) (sym index) there) in
-        subst (λ (x : Outward). epoch_of x.stream place < epoch_of x.stream other) ended
-        (subst (λ (m : ℕ). epoch_of (f (outward h)).stream place < epoch_of (f (outward h)).stream m) end (closed-epoch is n place a at done home)))
+        subst (λ (x : PrimaryConnection). epoch_of x.stream place < epoch_of x.stream other) ended
+        (subst (λ (m : ℕ). epoch_of (f (primary_connection h)).stream place < epoch_of (f (primary_connection h)).stream m) end
+        (closed-epoch is n place a at done home)))
         t
     go false is =
         let new : Accepted = record { write = submission h first contents; journal_length = length h.journal; home = None; outcome = Waiting } in
@@ -309,31 +314,39 @@ turns-faults h number offsets t = go (accepted_at h number)
     go None = t
     go (Some accepted) = turns-same h _ refl (stay-outcome number _ h.writes) refl t
 
-turns-begins : (h : PrimaryHistory) (peer : Tuple) (decided : Decision) → HasHomes h → (outward h).closed ≡ false → (outward h).begun ≡ false → HasTurns h
-    → HasTurns (begun_with decided (record (with_outward (with_frame (Ok (UuidsFrame peer))) h) { peer = Some peer }))
+turns-begins : (h : PrimaryHistory) (peer : Tuple) (decided : Decision) → HasHomes h → (primary_connection h).closed ≡ false
+    → (primary_connection h).begun ≡ false → HasTurns h
+    → HasTurns (begun_with decided (record (with_primary_connection (with_frame (Ok (UuidsFrame peer))) h) { peer = Some peer }))
 turns-begins h peer decided homes standing new t = go decided
   where
-    empty : (outward h).stream ≡ []
-    empty = homes.empty (length h.connections - 1) (outward h) (open-at h standing) new
+    empty : (primary_connection h).stream ≡ []
+    empty = homes.empty (length h.connections - 1) (primary_connection h) (open-at h standing) new
 
-    twice : (later : PrimaryHistory) (g : Outward → Outward) → later.connections ≡ change_last g (change_last (with_frame (Ok (UuidsFrame peer))) h.connections)
+    twice : (later : PrimaryHistory) (g : PrimaryConnection → PrimaryConnection)
+        → later.connections ≡ change_last g (change_last (with_frame (Ok (UuidsFrame peer))) h.connections)
         → later.writes ≡ h.writes → later.journal ≡ h.journal → HasTurns later
     twice later g connections writes journal =
         turns-change h later (λ c. g (with_frame (Ok (UuidsFrame peer)) c)) (connections ∙ change-twice (with_frame (Ok (UuidsFrame peer))) g h.connections)
-        (subst (λ (l : List Item). IsBeginning l (g (with_frame (Ok (UuidsFrame peer)) (outward h))).stream) (sym empty)
-        ((g (with_frame (Ok (UuidsFrame peer)) (outward h))).stream, refl)) writes journal t
+        (subst (λ (l : List StreamItem). IsBeginning l (g (with_frame (Ok (UuidsFrame peer)) (primary_connection h))).stream) (sym empty)
+        ((g (with_frame (Ok (UuidsFrame peer)) (primary_connection h))).stream, refl)) writes journal t
 
-    go : (v : Decision) → HasTurns (begun_with v (record (with_outward (with_frame (Ok (UuidsFrame peer))) h) { peer = Some peer }))
+    go : (v : Decision) → HasTurns (begun_with v (record (with_primary_connection (with_frame (Ok (UuidsFrame peer))) h) { peer = Some peer }))
     go NoSync = twice _ (λ c. record c { begun = true }) refl refl refl
-    go BitmapSync = twice _ (λ c. record c { begun = true; stream = SyncUuidItem (outward (with_outward (with_frame (Ok (UuidsFrame peer))) h)).sync ∷ [] })
+    go BitmapSync = twice _ (λ c. record c {
+      begun = true;
+      stream = SyncUuidItem (primary_connection (with_primary_connection (with_frame (Ok (UuidsFrame peer))) h)).sync ∷ [];
+    })
         refl refl refl
-    go FullSync = twice _ (λ c. record c { begun = true; stream = SyncUuidItem (outward (with_outward (with_frame (Ok (UuidsFrame peer))) h)).sync ∷ [] }) refl
+    go FullSync = twice _ (λ c. record c {
+      begun = true;
+      stream = SyncUuidItem (primary_connection (with_primary_connection (with_frame (Ok (UuidsFrame peer))) h)).sync ∷ [];
+    }) refl
         refl refl
 
 turns-following : (h : PrimaryHistory) → HasTurns h → HasTurns (follows h).history
 turns-following = following-from HasTurns HasTurns HasTurns turns-completions
-    (λ g over t. turns-change g _ (λ c. record c { stream = c.stream ++ BarrierItem (last_epoch (outward g).stream) ∷ [] }) refl
-    (BarrierItem (last_epoch (outward g).stream) ∷ [], refl) refl refl t) (λ g on t. t)
+    (λ g over t. turns-change g _ (λ c. record c { stream = c.stream ++ BarrierItem (last_epoch (primary_connection g).stream) ∷ [] }) refl
+    (BarrierItem (last_epoch (primary_connection g).stream) ∷ [], refl) refl refl t) (λ g on t. t)
     (λ g over t. turns-change g (ending_resync g) (λ c. record c { stream = c.stream ++ UuidsItem (sync_end g.tuple) ∷ [] }) refl
     (UuidsItem (sync_end g.tuple) ∷ [], refl) refl refl t) (λ g t. t)
 
@@ -342,7 +355,8 @@ pub turns-kept : (settings : Settings) → TakesWrites settings → IsKeptByMove
 turns-kept settings bound =
     let order = in-order-kept settings bound in
     let takes : (h : PrimaryHistory) (frame : Received) → HasTurns h
-    → HasTurns (with_outward (with_frame frame) h) = λ h frame t. turns-change h _ (with_frame frame) refl (begins-self (outward h).stream) refl refl t in
+    → HasTurns (with_primary_connection (with_frame frame) h) = λ h frame t. turns-change h _ (with_frame frame) refl
+    (begins-self (primary_connection h).stream) refl refl t in
     record {
       following = λ h p. (order.following h p.0, turns-following h p.1);
       opens = λ h sync loss closed fresh p. (
@@ -352,7 +366,7 @@ turns-kept settings bound =
       submits = λ h first contents may p. (order.submits h first contents may p.0, turns-submits settings h first contents p.0 p.1);
       writes = λ h number waiting p. (order.writes h number waiting p.0, turns-same h _ refl (stay-outcome number OnDisk h.writes) refl p.1);
       faults = λ h number offsets waiting p. (order.faults h number offsets waiting p.0, turns-faults h number offsets p.1);
-      sends = λ h standing due p. (order.sends h standing due p.0, turns-change h _ pushing refl (begins-self (outward h).stream) refl refl p.1);
+      sends = λ h standing due p. (order.sends h standing due p.0, turns-change h _ pushing refl (begins-self (primary_connection h).stream) refl refl p.1);
       greets = λ h frame standing new met p. (order.greets h frame standing new met p.0, takes h frame p.1);
       begins = λ h peer decided standing new late is fresh p. (
         order.begins h peer decided standing new late is fresh p.0,
@@ -362,13 +376,13 @@ turns-kept settings bound =
       applies = λ h ack standing begun may p. (order.applies h ack standing begun may p.0, takes h _ p.1);
       clears = λ h ack standing begun may p. (
         order.clears h ack standing begun may p.0,
-        turns-change h _ (with_frame (Ok (RsWriteAckFrame ack))) refl (begins-self (outward h).stream) refl refl p.1,
+        turns-change h _ (with_frame (Ok (RsWriteAckFrame ack))) refl (begins-self (primary_connection h).stream) refl refl p.1,
       );
       confirms = λ h number size standing begun turn p. (order.confirms h number size standing begun turn p.0, takes h _ p.1);
       refuses = λ h frame peer standing p. (
         order.refuses h frame peer standing p.0,
         turns-change h _ (refused_out frame)
-            (refused-last frame peer h) (begins-self (outward h).stream) refl refl
+            (refused-last frame peer h) (begins-self (primary_connection h).stream) refl refl
             p.1,
       );
       resyncs = λ h block runs alone is p. (
@@ -378,7 +392,7 @@ turns-kept settings bound =
       );
       closes = λ h standing p. (
         order.closes h standing p.0,
-        turns-change h (closing h) (λ c. record c { closed = true }) refl (begins-self (outward h).stream) refl refl p.1,
+        turns-change h (closing h) (λ c. record c { closed = true }) refl (begins-self (primary_connection h).stream) refl refl p.1,
       );
       receipts = λ h number p. (order.receipts h number p.0, turns-same h _ refl (stay-same h.writes) refl p.1);
     }
@@ -391,7 +405,7 @@ turns-released settings =
       writes = λ h number waiting p q. (order.writes h number waiting p.0 q.0, turns-same (with_outcome number OnDisk h) _ refl (stay-same _) refl q.1);
       confirms = λ h number size standing begun turn p q. (
         order.confirms h number size standing begun turn p.0 q.0,
-        turns-same (with_outward (with_frame (Ok (BarrierAckFrame number size))) h) _ refl (stay-same _) refl q.1,
+        turns-same (with_primary_connection (with_frame (Ok (BarrierAckFrame number size))) h) _ refl (stay-same _) refl q.1,
       );
     }
 

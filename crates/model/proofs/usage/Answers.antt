@@ -6,7 +6,7 @@ pub returns-clause-usage : goal.returns-clause-usage
 returns-clause-usage c = record { waiting = refl; two_epochs = refl; started = refl; nearly = refl; ended = refl }
 
 pub returns-clause-never_opened : goal.returns-clause-never_opened
-returns-clause-never_opened c = record { number = refl; stands = refl; first = refl; unseen = refl; untaken = refl; there = refl; beyond = refl }
+returns-clause-never_opened c = record { number = refl; is_open = refl; first = refl; unseen = refl; untaken = refl; there = refl; beyond = refl }
 
 pub returns-clause-settlements : goal.returns-clause-settlements
 returns-clause-settlements c = record {

@@ -140,7 +140,7 @@ impl Stepped for PrimaryCore {
     fn is_true(&self, fact: Fact) -> bool {
         match fact {
             Fact::Open(wanted) => self.is_open() == wanted,
-            Fact::Stands(wanted) => self.stands() == wanted,
+            Fact::Established(wanted) => self.is_established() == wanted,
             Fact::Resync(wanted) => self.is_resync() == wanted,
             Fact::Tuple(wanted) => self.tuple() == wanted,
             Fact::Peer(wanted) => self.peer() == wanted,

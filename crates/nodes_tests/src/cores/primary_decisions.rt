@@ -1,4 +1,4 @@
-//! What a primary decides once it has the peer's identifiers.
+//! Decisions of a primary that has the peer's identifiers.
 use crate::cores::cases::{Way, goes};
 use crate::cores::primary_tables::{
     Frame, PROTOCOL_WENT, Part, SETTINGS, SIZES_WENT, Said, Start, Step,

@@ -42,7 +42,11 @@ const CLOSED: [Row; 4] = [
 ];
 
 /// The end is closed, and the disk goes on under the word for a loss.
-const CUT_OFF: [Fact; 3] = [Fact::Open(false), Fact::Stands(false), Fact::Tuple(PARTED)];
+const CUT_OFF: [Fact; 3] = [
+    Fact::Open(false),
+    Fact::Established(false),
+    Fact::Tuple(PARTED),
+];
 
 /// The end is closed, block 2 is marked, and write 1 stays open.
 const LEFT_OPEN: [Part; 4] = [

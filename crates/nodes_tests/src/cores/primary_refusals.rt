@@ -1,4 +1,4 @@
-//! What a primary refuses, and in which state: writes, connections and receipts.
+//! Refusals of a primary in each state: of writes, connections and receipts.
 use crate::cores::cases::{Case, passes};
 use crate::cores::primary_tables::{
     BARRIER, COMPLETES_1, CONNECTED, DONE, Fact, Frame, Part, RELEASED, Row, SETTINGS, START, Said,
@@ -120,7 +120,11 @@ static REFUSALS: [Case<Start, Part>; 8] = [
             Part::Holds(&[Fact::Connections(0)]),
             CONNECTED,
             Part::Rows(&OPENED),
-            Part::Holds(&[Fact::Connections(1), Fact::Stands(true), Fact::Accepted(0)]),
+            Part::Holds(&[
+                Fact::Connections(1),
+                Fact::Established(true),
+                Fact::Accepted(0),
+            ]),
         ],
     },
     Case {

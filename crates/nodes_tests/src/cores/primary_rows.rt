@@ -122,7 +122,7 @@ const FOLLOWED: [Row; 8] = [
     ),
 ];
 
-/// Two writes of one epoch, of which the second is completed first, and one of the next epoch.
+/// Two writes of one epoch, completed in reverse order, and one of the next epoch.
 const EPOCHS: [Row; 14] = [
     (Step::Submit(0, 1, 0x01), Ok(Said::Accepted(1))),
     (Step::Submit(1, 1, 0x02), Ok(Said::Accepted(2))),

@@ -1,4 +1,4 @@
-//! What is done to a primary's core, as tables have it.
+//! Calls of a primary's core, as rows of tables.
 use crate::tuples::OWN;
 use blocks::{Command, Decision, Protocol, Refusal, Settings, Tuple, What};
 
@@ -88,7 +88,7 @@ pub(crate) type Row = (Step, Answer);
 pub(crate) enum Fact {
     Open(bool),
     /// Whether the hello is done.
-    Stands(bool),
+    Established(bool),
     Resync(bool),
     Tuple(Tuple),
     Peer(Option<Tuple>),
@@ -136,7 +136,7 @@ pub(crate) const START: Start = Start {
     marked: &[],
 };
 
-/// A primary of which each epoch has one write.
+/// A primary whose epochs have one write each.
 pub(crate) const OF_ONE: Start = Start {
     settings: Settings {
         max_epoch: 1,

@@ -1,4 +1,4 @@
-//! What is done to a secondary's core, as tables have it.
+//! Calls of a secondary's core, as rows of tables.
 ghost use Rattle.std.specs.Prelude.{◌≡◌, ◌<◌, ◌≤◌, ◌*◌, ◌/◌, length, IfOk};
 ghost use Rattle.packets.specs.Spelling.{IsSpellable};
 

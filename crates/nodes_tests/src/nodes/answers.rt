@@ -1,4 +1,4 @@
-//! What calls answer, as tables have it.
+//! Results of calls, as rows of tables.
 use blocks::{Command, Done, Refusal, What};
 use std::process::Abort;
 

@@ -18,7 +18,7 @@ const GREETING: Before = Before {
 /// The end is open, and its stream stands. Nothing was written.
 const CONNECTED: State = State {
     is_open: true,
-    stands: true,
+    is_established: true,
     is_resync: false,
     tuple: OWN,
     connections: 1,

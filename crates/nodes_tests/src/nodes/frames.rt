@@ -9,7 +9,7 @@ use std::alloc::Global;
 pub(crate) enum Spelled {
     /// All of them.
     Short(&'static [u8]),
-    /// Those before its blocks, of which there are so many, each filled with AA.
+    /// The bytes before its blocks, and how many blocks there are, each filled with AA.
     Long(&'static [u8], u8),
 }
 

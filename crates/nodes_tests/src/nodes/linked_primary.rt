@@ -7,7 +7,7 @@ use crate::tuples::OWN;
 use blocks::{Block, FaultStore, MemStore, Refusal, Settings, Tuple};
 use bytes::Bytes;
 use link::{PlainIn, PlainOut};
-use primary::{Kind, Primary};
+use primary::{CompletionKind, Primary};
 use std::alloc::Global;
 use std::process::Abort;
 
@@ -38,7 +38,7 @@ pub(crate) type Row = (Step, Answer);
 #[derive(Clone, Copy, Debug, PartialEq, Eq)]
 pub(crate) struct State {
     pub(crate) is_open: bool,
-    pub(crate) stands: bool,
+    pub(crate) is_established: bool,
     pub(crate) is_resync: bool,
     pub(crate) tuple: Tuple,
     pub(crate) connections: u32,
@@ -59,7 +59,7 @@ pub(crate) type After = cases::After<Step, State, Result<Told, Refusal>>;
 pub(crate) type Case = cases::Case<Step, State, Result<Told, Refusal>>;
 
 /// How write 1 was completed, its first block and how many it has, and its connection and its place.
-pub(crate) type Told = (Kind, u64, u64, Option<(u32, u32)>);
+pub(crate) type Told = (CompletionKind, u64, u64, Option<(u32, u32)>);
 
 fn receipt(node: &mut LinkedPrimary) -> Result<Told, Refusal> {
     let receipt = node.take_completed(1)?;
@@ -127,7 +127,7 @@ impl Node for LinkedPrimary {
     fn state(&self) -> State {
         State {
             is_open: self.is_open(),
-            stands: self.stands(),
+            is_established: self.is_established(),
             is_resync: self.is_resync(),
             tuple: self.tuple(),
             connections: self.connections(),

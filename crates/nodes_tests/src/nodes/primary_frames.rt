@@ -13,7 +13,7 @@ use crate::nodes::linked_primary::{After, Before, Case, LinkedPrimary, Row, Stat
 use crate::tuples;
 use crate::tuples::OWN;
 use blocks::{Command, Decision, Done, Refusal, Settings, What};
-use primary::Kind;
+use primary::CompletionKind;
 
 /// Each comes once write 1 was sent.
 const FOREIGN: [(Spelled, Answer); 7] = [
@@ -180,7 +180,7 @@ const EPOCH_ANSWERED: Before = Before {
 /// The end is closed, block 2 is marked and no other, and the disk goes on under the word for a loss.
 pub(crate) const PARTED: State = State {
     is_open: false,
-    stands: false,
+    is_established: false,
     is_resync: false,
     tuple: tuples::PARTED,
     connections: 1,
@@ -207,7 +207,7 @@ const PARTED_BEFORE_IT_IS_WRITTEN: After = After {
         (Step::Local(1), COMPLETED),
     ],
     end: PARTED,
-    left: Ok((Kind::Alone, 2, 1, Some((1, 0)))),
+    left: Ok((CompletionKind::Alone, 2, 1, Some((1, 0)))),
 };
 
 /// Nothing is sent or taken over a closed end, though a frame waits that an open one would take.
@@ -225,7 +225,7 @@ const PARTED_ALONE: After = After {
     state: PARTED,
     rows: &NO_MORE,
     end: PARTED,
-    left: Ok((Kind::Alone, 2, 1, Some((1, 0)))),
+    left: Ok((CompletionKind::Alone, 2, 1, Some((1, 0)))),
 };
 
 /// Write 1 was completed by the peer's answer before.
@@ -234,7 +234,7 @@ const PARTED_LINKED: After = After {
     state: PARTED,
     rows: &NO_MORE,
     end: PARTED,
-    left: Ok((Kind::Linked, 2, 1, Some((1, 0)))),
+    left: Ok((CompletionKind::Linked, 2, 1, Some((1, 0)))),
 };
 
 static FOREIGN_FRAMES: [Case; 5] = [
@@ -253,7 +253,7 @@ fn foreign_frames_close_the_end(rt: HostRuntime) {
 /// The end is open, and its stream stands. Write 1 is completed, and its epoch is not acknowledged.
 const STANDING: State = State {
     is_open: true,
-    stands: true,
+    is_established: true,
     open_epochs: 1,
     tuple: OWN,
     marks: 0,
@@ -275,7 +275,7 @@ const ANSWERED_BEFORE_IT_IS_WRITTEN: After = After {
         (Step::Send, NONE),
     ],
     end: STANDING,
-    left: Ok((Kind::Linked, 2, 1, Some((1, 0)))),
+    left: Ok((CompletionKind::Linked, 2, 1, Some((1, 0)))),
 };
 
 const ANSWERED_LAST: After = After {
@@ -283,7 +283,7 @@ const ANSWERED_LAST: After = After {
     state: STANDING,
     rows: &[(Step::Send, BARRIER_WENT), (Step::Send, NONE)],
     end: STANDING,
-    left: Ok((Kind::Linked, 2, 1, Some((1, 0)))),
+    left: Ok((CompletionKind::Linked, 2, 1, Some((1, 0)))),
 };
 
 /// The peer acknowledges the epoch of write 1, which the local disk has last.
@@ -298,7 +298,7 @@ const EPOCH_ENDS: After = After {
         open_epochs: 0,
         ..STANDING
     },
-    left: Ok((Kind::Linked, 2, 1, Some((1, 0)))),
+    left: Ok((CompletionKind::Linked, 2, 1, Some((1, 0)))),
 };
 
 const EPOCH_ENDED: After = After {
@@ -312,7 +312,7 @@ const EPOCH_ENDED: After = After {
         open_epochs: 0,
         ..STANDING
     },
-    left: Ok((Kind::Linked, 2, 1, Some((1, 0)))),
+    left: Ok((CompletionKind::Linked, 2, 1, Some((1, 0)))),
 };
 
 static RIGHT_FRAMES: [Case; 4] = [

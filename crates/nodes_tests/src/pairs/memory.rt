@@ -141,14 +141,17 @@ fn done(
     event: &[Event; 1],
     refusals: &mut Refusals,
 ) -> (Pair, Option<Reply>) {
-    let may_starve = takes_memory(&pair, given);
+    let may_run_out_of_memory = takes_memory(&pair, given);
     let before = Seen::of(&mut pair);
     let (mut pair, reply) = reply_to(rt, pair, event);
-    if !is_starved(reply) {
+    if !is_out_of_memory(reply) {
         return (pair, reply);
     }
     refusals.note(rt);
-    assert!(rt; reply.is_none() || may_starve, "{given:?} takes no memory");
+    assert!(rt;
+        reply.is_none() || may_run_out_of_memory,
+        "{given:?} takes no memory"
+    );
     assert_eq!(rt; Seen::of(&mut pair), before, "{given:?}");
     reply_to(rt, pair, event)
 }
@@ -174,7 +177,7 @@ fn only(rt: &impl Abort, replies: &[Reply]) -> Reply {
     replies[0]
 }
 
-fn is_starved(reply: Option<Reply>) -> bool {
+fn is_out_of_memory(reply: Option<Reply>) -> bool {
     matches!(reply, None | Some(Reply::Refused(Refusal::NoMemory)))
 }
 
@@ -188,7 +191,7 @@ fn takes_memory(pair: &Pair, given: Given) -> bool {
         | Given::PeerFault(_, _)
         | Given::ClosePrimary
         | Given::CloseSecondary => false,
-        Given::AckIn => !pair.primary().stands(),
+        Given::AckIn => !pair.primary().is_established(),
         Given::Open(_, _)
         | Given::Submit(_, _, _)
         | Given::Send

@@ -1,11 +1,11 @@
-//! What is read off a pair, and its end.
+//! The state of a pair, as its queries tell it, and its end.
 use crate::pairs::rows::{BLOCKS, Held};
 use blocks::{BLOCK_BYTES, Block, Refusal, Tuple};
 use pair::{Pair, Side};
 use secondary_core::Usage;
 use std::process::Abort;
 
-/// All that can be read off a pair of eight blocks, without memory. A disk that fails its next read shows here, since each block
+/// All that a pair of eight blocks tells without taking memory. A disk that fails its next read shows here, since each block
 /// of both is read.
 #[derive(Clone, Copy, Debug, PartialEq, Eq)]
 pub(crate) struct Seen {
@@ -38,7 +38,7 @@ struct PrimarySeen {
     peer: Option<Tuple>,
     connections: u32,
     is_open: bool,
-    stands: bool,
+    is_established: bool,
     is_resync: bool,
     accepted: u64,
     marks: u32,
@@ -135,7 +135,7 @@ impl PrimarySeen {
             peer: primary.peer(),
             connections: primary.connections(),
             is_open: primary.is_open(),
-            stands: primary.stands(),
+            is_established: primary.is_established(),
             is_resync: primary.is_resync(),
             accepted: primary.accepted(),
             marks: primary.marks(),

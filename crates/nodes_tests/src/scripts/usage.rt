@@ -1,4 +1,4 @@
-//! What is a script, and which lines stop one.
+//! Lines of a script that are commands, and lines that stop it.
 use crate::scripts::rows::{is_no_script, joined, prints};
 use std::process::Abort;
 

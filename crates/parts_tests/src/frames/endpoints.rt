@@ -4,7 +4,7 @@ ghost use Rattle.std.specs.Prelude.{◌≡◌, ◌-◌, [], length, take, unwrap
 use crate::frames::links::direction;
 use crate::frames::samples::{Sample, is_read, sampled};
 use blocks::{Protocol, Refusal};
-use endpoint::{Incoming, Outgoing, joined};
+use endpoint::{PacketReceiver, PacketSender, joined};
 use link::{PlainIn, PlainOut};
 use packets::Packet;
 use std::alloc::Global;
@@ -13,8 +13,8 @@ use std::process::Abort;
 /// A direction of a link that holds one packet.
 #[derive(Drop)]
 struct Direction {
-    sender: Outgoing<PlainOut>,
-    taker: Incoming<PlainIn>,
+    sender: PacketSender<PlainOut>,
+    taker: PacketReceiver<PlainIn>,
     // What was taken is what was pushed but for what waits in the queue.
     ghost lends: { taker.frames ≡ take (length sender.frames - unwrap_or sender.waiting 0) sender.frames },
 }
@@ -27,8 +27,8 @@ impl Direction {
     {
         let (sender, taker) = direction(alloc)?;
         Ok(Direction {
-            sender: Outgoing::new(sender),
-            taker: Incoming::new(taker),
+            sender: PacketSender::new(sender),
+            taker: PacketReceiver::new(taker),
         })
     }
 
@@ -87,7 +87,7 @@ fn a_connection_drops_the_packets_of_the_one_before(rt: HostRuntime) {
 }
 
 // The sender is full, and refuses a packet.
-fn is_full(rt: &impl Abort, alloc: Global, sender: &mut Outgoing<PlainOut>, blocks: u64)
+fn is_full(rt: &impl Abort, alloc: Global, sender: &mut PacketSender<PlainOut>, blocks: u64)
     requires { sender.old.partly ≡ None }
 {
     let refused = sender.push(alloc, Packet::Sizes { blocks });
@@ -102,7 +102,7 @@ fn a_full_link_refuses_a_packet(rt: HostRuntime) {
 }
 
 // The taker has no queue, and finds nothing.
-fn is_empty(rt: &impl Abort, taker: &mut Incoming<PlainIn>) {
+fn is_empty(rt: &impl Abort, taker: &mut PacketReceiver<PlainIn>) {
     taker.ready().expect(rt, "an open end");
     let taken = taker.take().err();
     let is_there = taker.give_queue().is_some();

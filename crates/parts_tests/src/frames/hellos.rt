@@ -1,4 +1,4 @@
-//! What an end of a link makes of frames of any bytes, on one connection after another.
+//! The hello at an end of a link, over frames of any bytes, on one connection after another.
 ghost use Rattle.std.specs.Prelude.{◌≡◌, ◌≤◌, length};
 ghost use Rattle.parts_tests.specs.Lending.{taken_in};
 
@@ -6,7 +6,7 @@ use crate::frames::links::direction;
 use crate::frames::samples::{Sample, is_read};
 use crate::vectors::{BARRIER, OTHER_MAGIC, SHORT_BARRIER, SIZES, WRONG_BARRIER};
 use blocks::Refusal;
-use endpoint::Incoming;
+use endpoint::PacketReceiver;
 use link::{FrameOut, PlainIn, PlainOut};
 use packets::{Frame, Packet};
 use std::alloc::Global;
@@ -16,7 +16,7 @@ use std::process::Abort;
 #[derive(Drop)]
 struct Frames {
     sender: PlainOut,
-    taker: Incoming<PlainIn>,
+    taker: PacketReceiver<PlainIn>,
     connection: u32,
     ghost sending: { sender.number ≡ connection },
     ghost taking: { taker.number ≡ connection },
@@ -28,7 +28,7 @@ impl Frames {
         let (sender, taker) = direction(alloc)?;
         Ok(Frames {
             sender,
-            taker: Incoming::new(taker),
+            taker: PacketReceiver::new(taker),
             connection: 1,
         })
     }

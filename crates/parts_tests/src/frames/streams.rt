@@ -1,4 +1,4 @@
-//! What a decoder makes of a stream: pieces that end inside a frame, pieces of several frames, and a fault.
+//! A decoder over streams: pieces that end inside a frame, pieces of several frames, and a fault.
 use crate::frames::samples::{Sample, sampled};
 use crate::vectors::{BARRIER, BARRIER_ACK, OTHER_MAGIC, WRITE, with_blocks};
 use blocks::Refusal;
@@ -9,7 +9,7 @@ use std::process::Abort;
 /// A piece of a stream, what the decoder answers to it, and how many packets it has given by then.
 type Piece<'a> = (&'a [u8], Result<(), Refusal>, usize);
 
-// The decoder answers the piece so, and has then given so many packets.
+// The decoder returns this for the piece, and has then given this number of packets.
 fn feed(
     rt: &impl Abort,
     row: usize,

@@ -65,7 +65,7 @@ fn conflicts(rt: &impl Abort, held: &Held, (first, count): (u64, u64), wanted: O
     assert_eq!(rt; held.conflict(range), wanted, "{first} {count}");
 }
 
-/// A number holds a range of which no block is held.
+/// A number holds a range that no other number touches.
 fn holds(rt: &impl Abort, held: &mut Held, number: u64, range: Range) {
     assert_eq!(rt; held.conflict(range), None);
     assert!(rt; !held.is_held(number));

@@ -106,7 +106,7 @@ fn a_connection_ends_within_a_frame(rt: HostRuntime) {
     begins_anew(&rt, rt.alloc(), &mut outward, &mut inward);
 }
 
-/// Frames of three connections stand in a row, of which the last one is taken.
+/// Frames of three connections stand in a row; the taking end takes the last one.
 fn drops_earlier<O: FrameOut, I: FrameIn>(
     rt: &impl Abort,
     alloc: Global,

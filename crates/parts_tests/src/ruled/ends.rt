@@ -1,4 +1,4 @@
-//! What is asked of the two ends of a link, and how each has to answer.
+//! Calls of the two ends of a link, with the results that they must have.
 ghost use Rattle.std.specs.Prelude.{◌≡◌, None, IfSome};
 ghost use Rattle.packets.specs.Cutting.{IsCut};
 

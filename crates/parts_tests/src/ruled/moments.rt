@@ -4,20 +4,20 @@ ghost use Rattle.std.specs.Prelude.{[]};
 use crate::ruled::connections::one_block;
 use crate::ruled::ends::carries;
 use crate::ruled::kinds::write;
-use ruled_link::{Moment, Piece, PieceIn, PieceOut, watched, watched_row};
+use ruled_link::{Piece, PieceIn, PieceOut, RingInvariant, row_with_invariant, with_invariant};
 use std::alloc::Global;
 use std::marker::Brand;
 use std::process::Abort;
 use std::sync::Wait;
 
 /// The first piece of the row has these bytes.
-fn pops<R: Wait, M: Moment>(abort: &impl Abort, row: &mut PieceIn<R, M>, bytes: &[u8]) {
+fn pops<R: Wait, M: RingInvariant>(abort: &impl Abort, row: &mut PieceIn<R, M>, bytes: &[u8]) {
     let piece = row.pop().expect(abort, "there is a piece");
     assert_eq!(abort; piece.bytes(), bytes);
 }
 
 /// A row that has one piece hands a second one back.
-fn hands_back<R: Wait, M: Moment>(abort: &impl Abort, row: &mut PieceOut<R, M>) -> Piece {
+fn hands_back<R: Wait, M: RingInvariant>(abort: &impl Abort, row: &mut PieceOut<R, M>) -> Piece {
     let second = row.push(Piece::new(b"second"));
     let second = second.expect_err(abort, "a row for one piece");
     assert_eq!(abort; second.bytes(), b"second".as_slice());
@@ -25,7 +25,7 @@ fn hands_back<R: Wait, M: Moment>(abort: &impl Abort, row: &mut PieceOut<R, M>) 
 }
 
 /// A row for one piece is empty and then full.
-fn holds_one_piece<R: Wait, M: Moment>(
+fn holds_one_piece<R: Wait, M: RingInvariant>(
     abort: &impl Abort,
     outward: &mut PieceOut<R, M>,
     inward: &mut PieceIn<R, M>,
@@ -39,28 +39,34 @@ fn holds_one_piece<R: Wait, M: Moment>(
 }
 
 /// So is one of whose moments this is kept.
-fn is_empty_and_then_full<M: Moment, R: Wait + Abort + Copy>(rt: R, alloc: Global)
+fn is_empty_and_then_full<M: RingInvariant, R: Wait + Abort + Copy>(rt: R, alloc: Global)
     requires { M.holds [] [] }
 {
-    let (mut outward, mut inward) = watched_row::<R, M>(rt, alloc, 1).expect(&rt, "there is a row");
+    let (mut outward, mut inward) = row_with_invariant::<R, M>(rt, alloc, 1).expect(
+        &rt,
+        "there is a row",
+    );
     holds_one_piece(&rt, &mut outward, &mut inward);
 }
 
 #[test]
-fn a_watched_row_is_empty_and_then_full(rt: HostRuntime) {
+fn a_row_with_an_invariant_is_empty_and_then_full(rt: HostRuntime) {
     is_empty_and_then_full::<Brand, &HostRuntime>(&rt, rt.alloc());
 }
 
 /// A frame goes through a link, which then has none.
-fn one_frame_goes_through<M: Moment, R: Wait + Abort + Copy>(rt: R, alloc: Global)
+fn one_frame_goes_through<M: RingInvariant, R: Wait + Abort + Copy>(rt: R, alloc: Global)
     requires { M.holds [] [] }
 {
-    let (mut outward, mut inward) = watched::<R, M>(rt, alloc, 1).expect(&rt, "there is a link");
+    let (mut outward, mut inward) = with_invariant::<R, M>(rt, alloc, 1).expect(
+        &rt,
+        "there is a link",
+    );
     let (frame, bytes) = (one_block(&rt, alloc), write(&rt, alloc));
     carries(&rt, &mut outward, &mut inward, frame, &bytes);
 }
 
 #[test]
-fn a_watched_link_gives_all_and_then_none(rt: HostRuntime) {
+fn a_link_with_an_invariant_gives_all_and_then_none(rt: HostRuntime) {
     one_frame_goes_through::<Brand, &HostRuntime>(&rt, rt.alloc());
 }

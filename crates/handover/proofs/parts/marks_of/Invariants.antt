@@ -3,7 +3,7 @@ use Rattle.blocks.specs.Ranges.{below}
 use Rattle.model.specs.Headline.{is_marked}
 use Rattle.model.specs.Primary.{PrimaryHistory}
 use Rattle.primary.specs.State.{node as primary_node}
-use Rattle.primary_steps.specs.Node.{NodeHas as PrimaryHas}
+use Rattle.primary_protocol.specs.Node.{NodeHas as PrimaryHas}
 use Rattle.handover.proofs.parts.marks_of.Given as goal
 
 abbrev pub invariant-loop-block : goal.invariant-loop-block

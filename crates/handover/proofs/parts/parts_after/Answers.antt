@@ -5,8 +5,8 @@ use Rattle.blocks.specs.declared.settings.Settings.{Settings}
 use Rattle.handover.specs.Next.{unknown}
 use Rattle.handover.proofs.Alike.{are_alike, alike-same, same-alike}
 use Rattle.handover.proofs.Handing.{at-rest, reached-leave, marks-left, parts-sound}
-use Rattle.model.specs.Primary.{outward}
-use Rattle.model.specs.Secondary.{inward}
+use Rattle.model.specs.Primary.{primary_connection}
+use Rattle.model.specs.Secondary.{secondary_connection}
 use Rattle.model.specs.Settlement.{is_at_rest}
 use Rattle.handover.proofs.parts.parts_after.Goals as goal
 use Rattle.handover.proofs.parts.parts_after.Goals.{then-is_consistent, else-is_consistent}
@@ -37,7 +37,8 @@ returns-clause-left g c = λ p s hp hs. record {
 pub returns-clause-sound : goal.returns-clause-sound
 returns-clause-sound g c = λ p s hp hs joined honest grounded.
     let rest : is_at_rest p s ≡ true = at-rest p s
-    (not-false (outward p).closed (sym (c.is_open.ensures p hp) ∙ c.if-is_open.false)) (not-false (inward s).closed (sym (c.is_open-else-is_open.ensures s hs)
+    (not-false (primary_connection p).closed (sym (c.is_open.ensures p hp) ∙ c.if-is_open.false))
+    (not-false (secondary_connection s).closed (sym (c.is_open-else-is_open.ensures s hs)
     ∙ c.if-is_open-2.false))
     (sym (c.is_drained.ensures s hs) ∙ c.if-not-is_drained.false) (ap is_some (sym (c.next_local.ensures p hp)) ∙ sym c.is_some.ensures ∙ c.if-is_some.false) in
     let alike : are_alike c.settings.result c.settings-settings.result ≡ true = not-false _ (sym c.ne.ensures ∙ c.if-ne.false) in

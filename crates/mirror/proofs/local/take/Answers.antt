@@ -1,13 +1,13 @@
 use Rattle.std.proofs.Common.{refl, ◌&&◌, is_none}
 use Rattle.blocks.specs.declared.outcome.Reply.TheVariants as reply
-use Rattle.endpoint.specs.Calls.{is_starved}
+use Rattle.endpoint.specs.Calls.{is_out_of_memory}
 use Rattle.model.specs.LocalRuns.{Takes}
-use Rattle.primary_steps.specs.Steps.{replied}
+use Rattle.primary_protocol.specs.Steps.{replied}
 use Rattle.mirror.proofs.Runs.{local-step}
 use Rattle.mirror.proofs.local.take.Goals as goal
 
 pub returns : goal.returns
 returns g c =
     let took = c.ack_in.ensures.step in
-    local-step (Takes took.frame (is_none took.frame && is_starved c.ack_in.result)) c.args.local.now c.ack_in.new.self (replied reply.Ok c.ack_in.result)
+    local-step (Takes took.frame (is_none took.frame && is_out_of_memory c.ack_in.result)) c.args.local.now c.ack_in.new.self (replied reply.Ok c.ack_in.result)
     (λ h. refl) took.step

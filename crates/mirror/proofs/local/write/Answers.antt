@@ -1,7 +1,7 @@
 use Rattle.std.proofs.Common.{refl, inl, inr}
 use Rattle.blocks.specs.declared.outcome.Reply.TheVariants as reply
 use Rattle.model.specs.LocalRuns.{WritesLocally, FailsLocally}
-use Rattle.primary_steps.specs.Steps.{replied}
+use Rattle.primary_protocol.specs.Steps.{replied}
 use Rattle.mirror.proofs.Runs.{local-step}
 use Rattle.mirror.proofs.local.write.Goals as goal
 

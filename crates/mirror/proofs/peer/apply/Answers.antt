@@ -1,6 +1,6 @@
 use Rattle.std.proofs.Common.{refl, inl, inr}
 use Rattle.model.specs.LocalRuns.{Applies, FailsToApply}
-use Rattle.secondary_steps.specs.Steps.{replied}
+use Rattle.secondary_protocol.specs.Steps.{replied}
 use Rattle.mirror.proofs.Runs.{peer-step}
 use Rattle.mirror.proofs.peer.apply.Goals as goal
 

@@ -1,7 +1,7 @@
 use Rattle.std.proofs.Common.{◌≡◌, ◌+◌, ◌∙◌, length, map, sym, subst, arith}
 use Rattle.std.specs.Vec.{vec_capacity, vec_len}
-use Rattle.pair_steps.specs.State.{answered}
-use Rattle.pair_steps.proofs.Clauses.{has-clauses}
+use Rattle.pair_protocol.specs.State.{answered}
+use Rattle.pair_protocol.proofs.Clauses.{has-clauses}
 use Rattle.pair.specs.Events.{event_of}
 use Rattle.pair.specs.Running.{HasRun}
 use Rattle.pair.proofs.Running.{all-ran, none-ran, one-ran}

@@ -2,7 +2,7 @@ use Rattle.std.proofs.Common.{ℕ, ◌≡◌, length, refl, sym, ◌∙◌, ap, 
 use Rattle.blocks.specs.Ranges.{is_between}
 use Rattle.bitmap.specs.Marks.{marking}
 use Rattle.bitmap.proofs.Lists.{length-marking}
-use Rattle.primary_steps.specs.Transitions.{unreleased_blocks}
+use Rattle.primary_protocol.specs.Transitions.{unreleased_blocks}
 use Rattle.primary_core.specs.Kept.{IsInside}
 use Rattle.primary_core.proofs.Marking.{all-from_zero, each-found, found-from, is_from, mark-all, mark-step}
 use Rattle.primary_core.proofs.close.mark_all.Goals as goal

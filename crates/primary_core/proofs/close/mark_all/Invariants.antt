@@ -1,6 +1,6 @@
 use Rattle.std.proofs.Common.{◌≡◌, ◌-◌, length}
 use Rattle.bitmap.specs.Marks.{marking}
-use Rattle.primary_steps.specs.Transitions.{unreleased_blocks}
+use Rattle.primary_protocol.specs.Transitions.{unreleased_blocks}
 use Rattle.primary_core.proofs.Marking.{marked_from}
 use Rattle.primary_core.proofs.close.mark_all.Given as goal
 

@@ -1,5 +1,5 @@
 use Rattle.std.proofs.Common.{◌≡◌, drop}
-use Rattle.primary_steps.specs.Taking.{is_unsent}
+use Rattle.primary_protocol.specs.Taking.{is_unsent}
 use Rattle.primary_core.proofs.outbox.is_among.Given as goal
 
 abbrev pub invariant-loop-index : goal.invariant-loop-index

@@ -1,5 +1,5 @@
 use Rattle.std.proofs.Common.{◌≡◌, drop}
-use Rattle.primary_steps.specs.Core.{entering}
+use Rattle.primary_protocol.specs.Core.{entering}
 use Rattle.primary_core.proofs.report.enter.Given as goal
 
 -- what the writes to come make of these entries is what all make of the first ones

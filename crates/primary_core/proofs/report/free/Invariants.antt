@@ -1,5 +1,5 @@
 use Rattle.std.proofs.Common.{◌≡◌, drop}
-use Rattle.primary_steps.specs.Core.{freeing}
+use Rattle.primary_protocol.specs.Core.{freeing}
 use Rattle.primary_core.proofs.report.free.Given as goal
 
 -- what the writes to come leave of these holdings is what all leave of the first ones

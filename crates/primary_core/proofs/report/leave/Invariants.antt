@@ -1,5 +1,5 @@
 use Rattle.std.proofs.Common.{◌≡◌, drop}
-use Rattle.primary_steps.specs.Core.{leaving}
+use Rattle.primary_protocol.specs.Core.{leaving}
 use Rattle.primary_core.proofs.report.leave.Given as goal
 
 -- what the writes to come leave of this activity is what all leave of the first one

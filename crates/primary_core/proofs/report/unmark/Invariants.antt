@@ -1,6 +1,6 @@
 use Rattle.std.proofs.Common.{◌≡◌, drop, length}
 use Rattle.std.specs.List.{AllByRecursion}
-use Rattle.primary_steps.specs.Core.{unmarking}
+use Rattle.primary_protocol.specs.Core.{unmarking}
 use Rattle.primary_core.specs.Kept.{LiesInside}
 use Rattle.primary_core.proofs.report.unmark.Given as goal
 

@@ -8,5 +8,6 @@ returns-in-Some-clause-served c = λ barriers ended.
     let ps = c.args.disk.now.pending in
     let was = rw c.in-Some.is at ended in
     let room = rw c.in-Some.is at c.requires in
-    served (option_to_list c.args.answer) ps barriers c.in-Some.connection.outbox c.answer.new.self (c.answer.ensures.answered ∙ ap (acknowledging ps) c.push.ensures)
+    served (option_to_list c.args.answer) ps barriers c.in-Some.connection.outbox c.answer.new.self (c.answer.ensures.answered
+    ∙ ap (acknowledging ps) c.push.ensures)
     c.answer.ensures.all room was

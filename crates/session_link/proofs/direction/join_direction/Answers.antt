@@ -1,6 +1,6 @@
 use Rattle.std.proofs.Common.{sym, ◌∙◌, ap}
-use Rattle.endpoint.specs.Incoming.{incoming}
-use Rattle.endpoint.specs.Outgoing.{outgoing}
+use Rattle.endpoint.specs.PacketReceiver.{incoming}
+use Rattle.endpoint.specs.PacketSender.{outgoing}
 use Rattle.ruled_link.specs.Inward.{InwardState, taking}
 use Rattle.ruled_link.specs.Outward.{OutwardState, sending}
 use Rattle.session_link.proofs.Directions.{joins}

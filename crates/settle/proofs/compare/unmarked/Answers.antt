@@ -4,9 +4,9 @@ use Rattle.model.specs.Pair.{same_block}
 use Rattle.model.specs.Primary.{local_map}
 use Rattle.model.specs.Secondary.{secondary_map}
 use Rattle.primary.specs.State.{node as primary_node}
-use Rattle.primary_steps.specs.Node.{NodeHas as PrimaryHas}
+use Rattle.primary_protocol.specs.Node.{NodeHas as PrimaryHas}
 use Rattle.secondary.specs.State.{node as secondary_node}
-use Rattle.secondary_steps.specs.Node.{NodeHas as SecondaryHas}
+use Rattle.secondary_protocol.specs.Node.{NodeHas as SecondaryHas}
 use Rattle.settle.proofs.Comparing.{many, many-none, many-next, many-all}
 use Rattle.settle.proofs.compare.unmarked.Goals as goal
 use Rattle.settle.proofs.compare.unmarked.Goals.{then-branch+then-not-is_marked, else-branch, else-branch-via-then-branch+else-not-is_marked}

@@ -2,9 +2,9 @@ use Rattle.std.proofs.Common.{◌≡◌, ◌≤◌, length, true}
 use Rattle.model.specs.Primary.{PrimaryHistory}
 use Rattle.model.specs.Secondary.{SecondaryHistory}
 use Rattle.primary.specs.State.{node as primary_node}
-use Rattle.primary_steps.specs.Node.{NodeHas as PrimaryHas}
+use Rattle.primary_protocol.specs.Node.{NodeHas as PrimaryHas}
 use Rattle.secondary.specs.State.{node as secondary_node}
-use Rattle.secondary_steps.specs.Node.{NodeHas as SecondaryHas}
+use Rattle.secondary_protocol.specs.Node.{NodeHas as SecondaryHas}
 use Rattle.settle.proofs.Comparing.{many}
 use Rattle.settle.proofs.compare.unmarked.Given as goal
 

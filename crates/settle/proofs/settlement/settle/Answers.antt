@@ -1,16 +1,16 @@
 use Rattle.std.proofs.Common.{◌≤◌, ◌∙◌, false, length, rules, sym, arith}
 use Rattle.model.specs.Primary.{PrimaryHistory}
-use Rattle.model.specs.Secondary.{SecondaryHistory, inward}
+use Rattle.model.specs.Secondary.{SecondaryHistory, secondary_connection}
 use Rattle.primary.specs.State.{PrimaryView, node as primary_node}
-use Rattle.primary_steps.specs.Node.{NodeHas as PrimaryHas}
+use Rattle.primary_protocol.specs.Node.{NodeHas as PrimaryHas}
 use Rattle.secondary.specs.State.{SecondaryView, node as secondary_node}
-use Rattle.secondary_steps.specs.Node.{NodeHas as SecondaryHas}
+use Rattle.secondary_protocol.specs.Node.{NodeHas as SecondaryHas}
 use Rattle.settle.proofs.Settling.{kept-settles, settled-says, settled-says-anyhow}
 use Rattle.settle.proofs.settlement.settle.Goals as goal
 
 -- a secondary's last connection is not numbered above the primary's last one
 few : (v : PrimaryView) (w : SecondaryView) → w.core.number ≤ v.core.connections → (p : PrimaryHistory) (s : SecondaryHistory) → PrimaryHas (primary_node v) p
-    → SecondaryHas (secondary_node w) s → (inward s).number ≤ length p.connections
+    → SecondaryHas (secondary_node w) s → (secondary_connection s).number ≤ length p.connections
 few v w least p s hp hs = let number = hs.leaves.core.last.number in let connections = hp.leaves.core.rest.connections in omega (
   arith,
   least,

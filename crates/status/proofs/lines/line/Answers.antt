@@ -4,10 +4,10 @@ use Rattle.model.specs.Status as model
 use Rattle.node_lines.specs.Text.{primary_text, secondary_text}
 use Rattle.primary.specs.State.{PrimaryView}
 use Rattle.primary.specs.State as here
-use Rattle.primary_steps.specs.Node as local
+use Rattle.primary_protocol.specs.Node as local
 use Rattle.secondary.specs.State.{SecondaryView}
 use Rattle.secondary.specs.State as there
-use Rattle.secondary_steps.specs.Node as peer
+use Rattle.secondary_protocol.specs.Node as peer
 use Rattle.status.proofs.lines.line.Goals as goal
 
 pub returns-clause-lines : goal.returns-clause-lines

@@ -1,7 +1,7 @@
 use Rattle.std.proofs.Common.{Option, subst}
 use Rattle.endpoint.specs.Lending.{GivenOut}
 use Rattle.link.specs.Directions.{QueueState}
-use Rattle.pair_steps.proofs.Lending.{may-lay, may-lay-back}
+use Rattle.pair_protocol.proofs.Lending.{may-lay, may-lay-back}
 use Rattle.pair.specs.State.{state}
 use Rattle.pair.proofs.Acknowledging.{acknowledge-none-step, acknowledge-none-is, never-kept, acknowledge-step, acknowledge-is}
 use Rattle.pair.proofs.pair.Pair.ack_in.Goals as goal

@@ -4,7 +4,7 @@ use Rattle.blocks.specs.Faults.{FaultState, is_steady}
 use Rattle.blocks.specs.SettingsRange.{IsInRange}
 use Rattle.blocks.specs.declared.refusal.Refusal.TheVariants.{BadSetting, NoMemory}
 use Rattle.model.specs.Pair.{pair_opening}
-use Rattle.pair_steps.specs.State.{PairHas}
+use Rattle.pair_protocol.specs.State.{PairHas}
 use Rattle.pair.specs.Openings.{CanPair}
 use Rattle.pair.specs.State.{state}
 use Rattle.pair.proofs.Parts.{handed-on, parts-are, parts-have, refused-there}

@@ -1,5 +1,5 @@
 use Rattle.std.proofs.Common.{refl, ap}
-use Rattle.endpoint.specs.Calls.{is_starved}
+use Rattle.endpoint.specs.Calls.{is_out_of_memory}
 use Rattle.model.specs.Pair.{LocalEvent}
 use Rattle.model.specs.PrimarySteps.{local_done}
 use Rattle.pair.proofs.Steady.{in-fact}
@@ -9,9 +9,9 @@ use Rattle.pair.proofs.pair.Pair.local.Goals as goal
 
 pub invariant_of-self : goal.invariant_of-self
 invariant_of-self c =
-    primary-is (LocalEvent c.args.number) (is_starved c.local.result) (record { primary = c.self.inside.primary; secondary = c.self.inside.secondary })
+    primary-is (LocalEvent c.args.number) (is_out_of_memory c.local.result) (record { primary = c.self.inside.primary; secondary = c.self.inside.secondary })
     c.local.new.self _ c.self.invariant
-    (primary-step (LocalEvent c.args.number) (is_starved c.local.result) (local_done c.args.number) (λ h. refl)
+    (primary-step (LocalEvent c.args.number) (is_out_of_memory c.local.result) (local_done c.args.number) (λ h. refl)
     (record { primary = c.self.inside.primary; secondary = c.self.inside.secondary }) c.local.new.self _
     (in-fact c.local.ensures.step (c.local.ensures.works c.self.invariant.local).0))
     (ap (λ (v : PrimaryView). v.outgoing) c.local.ensures.rest) (ap (λ (v : PrimaryView). v.incoming) c.local.ensures.rest)
@@ -19,7 +19,7 @@ invariant_of-self c =
 
 pub returns : goal.returns
 returns c = record {
-  step = rw (← c.self.view_is) (primary-step (LocalEvent c.args.number) (is_starved c.local.result) (local_done c.args.number) (λ h. refl)
+  step = rw (← c.self.view_is) (primary-step (LocalEvent c.args.number) (is_out_of_memory c.local.result) (local_done c.args.number) (λ h. refl)
       (record { primary = c.self.inside.primary; secondary = c.self.inside.secondary }) c.local.new.self _
       (in-fact c.local.ensures.step (c.local.ensures.works c.self.invariant.local).0));
 }

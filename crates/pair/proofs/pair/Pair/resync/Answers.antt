@@ -1,5 +1,5 @@
 use Rattle.std.proofs.Common.{refl, ap}
-use Rattle.endpoint.specs.Calls.{is_starved}
+use Rattle.endpoint.specs.Calls.{is_out_of_memory}
 use Rattle.model.specs.Pair.{ResyncEvent}
 use Rattle.model.specs.PrimarySteps.{resync_next}
 use Rattle.pair.proofs.Steady.{in-fact}
@@ -9,9 +9,9 @@ use Rattle.pair.proofs.pair.Pair.resync.Goals as goal
 
 pub invariant_of-self : goal.invariant_of-self
 invariant_of-self c =
-    primary-is ResyncEvent (is_starved c.resync_next.result) (record { primary = c.self.inside.primary; secondary = c.self.inside.secondary })
+    primary-is ResyncEvent (is_out_of_memory c.resync_next.result) (record { primary = c.self.inside.primary; secondary = c.self.inside.secondary })
     c.resync_next.new.self _ c.self.invariant
-    (primary-step ResyncEvent (is_starved c.resync_next.result) (resync_next (is_starved c.resync_next.result)) (λ h. refl)
+    (primary-step ResyncEvent (is_out_of_memory c.resync_next.result) (resync_next (is_out_of_memory c.resync_next.result)) (λ h. refl)
     (record { primary = c.self.inside.primary; secondary = c.self.inside.secondary }) c.resync_next.new.self _
     (in-fact c.resync_next.ensures.step (c.resync_next.ensures.works c.self.invariant.local).0))
     (ap (λ (v : PrimaryView). v.outgoing) c.resync_next.ensures.rest) (ap (λ (v : PrimaryView). v.incoming) c.resync_next.ensures.rest)
@@ -19,7 +19,7 @@ invariant_of-self c =
 
 pub returns : goal.returns
 returns c = record {
-  step = rw (← c.self.view_is) (primary-step ResyncEvent (is_starved c.resync_next.result) (resync_next (is_starved c.resync_next.result))
+  step = rw (← c.self.view_is) (primary-step ResyncEvent (is_out_of_memory c.resync_next.result) (resync_next (is_out_of_memory c.resync_next.result))
       (λ h. refl) (record { primary = c.self.inside.primary; secondary = c.self.inside.secondary }) c.resync_next.new.self _
       (in-fact c.resync_next.ensures.step (c.resync_next.ensures.works c.self.invariant.local).0));
 }

@@ -1,10 +1,10 @@
 use Rattle.std.proofs.Common.{ℕ, ◌∙◌, Err, [], ◌∷◌, sym, refl, ap, rules}
 use Rattle.blocks.specs.declared.outcome.Done.{Done}
 use Rattle.blocks.specs.declared.outcome.Reply.TheVariants as reply
-use Rattle.primary_steps.specs.Steps as from_primary
-use Rattle.secondary_steps.specs.Steps as from_secondary
-use Rattle.pair_steps.specs.State.{is_starved}
-use Rattle.pair_steps.proofs.Clauses.{has-clauses}
+use Rattle.primary_protocol.specs.Steps as from_primary
+use Rattle.secondary_protocol.specs.Steps as from_secondary
+use Rattle.pair_protocol.specs.State.{is_out_of_memory}
+use Rattle.pair_protocol.proofs.Clauses.{has-clauses}
 use Rattle.pair.specs.Events.{event_of}
 use Rattle.pair.proofs.Answering.{err-step, ok-step, other-way, same-done, same-refusal}
 use Rattle.pair.proofs.pair.Pair.step.Goals as goal
@@ -49,9 +49,9 @@ returns-in-Ok-outcome c = record {
         (ap reply.Ok (sym w.about.ensures ∙ same-done _ _ (sym w.outcome-is ∙ c.in-Ok-outcome.is))) w.close_secondary.ensures.step)
     | in-CloseSecondary+in-Err-close_secondary w ↦ absurd (other-way _ _ (sym w.outcome-is ∙ c.in-Ok-outcome.is))
   ];
-  honest = λ h has. (has-clauses h has.run).honest ((event_of c.args.event.now, is_starved (reply.Ok c.in-Ok-outcome.done)) ∷ []);
-  grounded = λ h has. (has-clauses h has.run).grounded ((event_of c.args.event.now, is_starved (reply.Ok c.in-Ok-outcome.done)) ∷ []);
-  closed = λ h has. (has-clauses h has.run).closed ((event_of c.args.event.now, is_starved (reply.Ok c.in-Ok-outcome.done)) ∷ []);
+  honest = λ h has. (has-clauses h has.run).honest ((event_of c.args.event.now, is_out_of_memory (reply.Ok c.in-Ok-outcome.done)) ∷ []);
+  grounded = λ h has. (has-clauses h has.run).grounded ((event_of c.args.event.now, is_out_of_memory (reply.Ok c.in-Ok-outcome.done)) ∷ []);
+  closed = λ h has. (has-clauses h has.run).closed ((event_of c.args.event.now, is_out_of_memory (reply.Ok c.in-Ok-outcome.done)) ∷ []);
   beginning = λ h has. (has-clauses h has.run).beginning;
   epochs = λ h has. (has-clauses h has.run).epochs;
   promises = λ h has. (has-clauses h has.run).promises;
@@ -99,9 +99,9 @@ returns-in-Err-outcome c = record {
         (err-step (from_secondary.replied from_secondary.plainly) _ _ _ w.close_secondary.result c.in-Err-outcome.refusal refl (w.in-Err-close_secondary.is
         ∙ ap Err (same-refusal _ _ (sym w.outcome-is ∙ c.in-Err-outcome.is))) w.close_secondary.ensures.step)
   ];
-  honest = λ h has. (has-clauses h has.run).honest ((event_of c.args.event.now, is_starved (reply.Refused c.in-Err-outcome.refusal)) ∷ []);
-  grounded = λ h has. (has-clauses h has.run).grounded ((event_of c.args.event.now, is_starved (reply.Refused c.in-Err-outcome.refusal)) ∷ []);
-  closed = λ h has. (has-clauses h has.run).closed ((event_of c.args.event.now, is_starved (reply.Refused c.in-Err-outcome.refusal)) ∷ []);
+  honest = λ h has. (has-clauses h has.run).honest ((event_of c.args.event.now, is_out_of_memory (reply.Refused c.in-Err-outcome.refusal)) ∷ []);
+  grounded = λ h has. (has-clauses h has.run).grounded ((event_of c.args.event.now, is_out_of_memory (reply.Refused c.in-Err-outcome.refusal)) ∷ []);
+  closed = λ h has. (has-clauses h has.run).closed ((event_of c.args.event.now, is_out_of_memory (reply.Refused c.in-Err-outcome.refusal)) ∷ []);
   beginning = λ h has. (has-clauses h has.run).beginning;
   epochs = λ h has. (has-clauses h has.run).epochs;
   promises = λ h has. (has-clauses h has.run).promises;
@@ -113,9 +113,9 @@ returns-in-Err-outcome c = record {
 pub returns-in-Ok-close_primary : goal.returns-in-Ok-close_primary
 returns-in-Ok-close_primary c = record {
   step = search rules;
-  honest = λ h has. (has-clauses h has.run).honest ((event_of c.args.event.now, is_starved (reply.Closed c.in-Ok-close_primary.completed)) ∷ []);
-  grounded = λ h has. (has-clauses h has.run).grounded ((event_of c.args.event.now, is_starved (reply.Closed c.in-Ok-close_primary.completed)) ∷ []);
-  closed = λ h has. (has-clauses h has.run).closed ((event_of c.args.event.now, is_starved (reply.Closed c.in-Ok-close_primary.completed)) ∷ []);
+  honest = λ h has. (has-clauses h has.run).honest ((event_of c.args.event.now, is_out_of_memory (reply.Closed c.in-Ok-close_primary.completed)) ∷ []);
+  grounded = λ h has. (has-clauses h has.run).grounded ((event_of c.args.event.now, is_out_of_memory (reply.Closed c.in-Ok-close_primary.completed)) ∷ []);
+  closed = λ h has. (has-clauses h has.run).closed ((event_of c.args.event.now, is_out_of_memory (reply.Closed c.in-Ok-close_primary.completed)) ∷ []);
   beginning = λ h has. (has-clauses h has.run).beginning;
   epochs = λ h has. (has-clauses h has.run).epochs;
   promises = λ h has. (has-clauses h has.run).promises;
@@ -127,9 +127,9 @@ returns-in-Ok-close_primary c = record {
 pub returns-in-Err-close_primary : goal.returns-in-Err-close_primary
 returns-in-Err-close_primary c = record {
   step = search rules;
-  honest = λ h has. (has-clauses h has.run).honest ((event_of c.args.event.now, is_starved (reply.Refused c.in-Err-close_primary.refusal)) ∷ []);
-  grounded = λ h has. (has-clauses h has.run).grounded ((event_of c.args.event.now, is_starved (reply.Refused c.in-Err-close_primary.refusal)) ∷ []);
-  closed = λ h has. (has-clauses h has.run).closed ((event_of c.args.event.now, is_starved (reply.Refused c.in-Err-close_primary.refusal)) ∷ []);
+  honest = λ h has. (has-clauses h has.run).honest ((event_of c.args.event.now, is_out_of_memory (reply.Refused c.in-Err-close_primary.refusal)) ∷ []);
+  grounded = λ h has. (has-clauses h has.run).grounded ((event_of c.args.event.now, is_out_of_memory (reply.Refused c.in-Err-close_primary.refusal)) ∷ []);
+  closed = λ h has. (has-clauses h has.run).closed ((event_of c.args.event.now, is_out_of_memory (reply.Refused c.in-Err-close_primary.refusal)) ∷ []);
   beginning = λ h has. (has-clauses h has.run).beginning;
   epochs = λ h has. (has-clauses h has.run).epochs;
   promises = λ h has. (has-clauses h has.run).promises;

@@ -1,5 +1,5 @@
 use Rattle.std.proofs.Common.{rules, ◌≡◌, ◌<◌, Err, subst}
-use Rattle.primary_steps.proofs.Node.Writing.{fault-too-many, fault-unknown}
+use Rattle.primary_protocol.proofs.Node.Writing.{fault-too-many, fault-unknown}
 use Rattle.primary.proofs.Writing.{armed-write, failed-after, inside-disk, refused-step, waiting}
 use Rattle.primary.proofs.local.Primary+O+I+FaultStore.local_fault.Goals as goal
 
@@ -16,7 +16,8 @@ write-requires-clause-inside g c =
 pub returns-then-kept-range-clause-step : goal.returns-then-kept-range-clause-step
 returns-then-kept-range-clause-step g c =
     let more : c.in_ok-write.write.now.count < c.args.kept = subst (λ n. n < c.args.kept) c.range.ensures.count c.if-kept-range.true in
-    rw (← c.self.view_is) (fault-too-many c.args.number _ c.in_ok-write.write.now c.in_ok-write.ensures.write.0 (waiting c.in_ok-write.write.now c.in_ok-write.ensures.write.1) c.args.kept more)
+    rw (← c.self.view_is) (fault-too-many c.args.number _ c.in_ok-write.write.now c.in_ok-write.ensures.write.0
+    (waiting c.in_ok-write.write.now c.in_ok-write.ensures.write.1) c.args.kept more)
 
 pub invariant_of-self : goal.invariant_of-self
 invariant_of-self g c =

@@ -1,6 +1,6 @@
 use Rattle.model.specs.LocalRuns.{Closes}
-use Rattle.primary_steps.proofs.Node.Calls.{node-closes}
-use Rattle.primary_steps.proofs.Node.Keeps.{closes-keeps}
+use Rattle.primary_protocol.proofs.Node.Calls.{node-closes}
+use Rattle.primary_protocol.proofs.Node.Keeps.{closes-keeps}
 use Rattle.primary.proofs.Kept.{plain-is}
 use Rattle.primary.proofs.state.Primary.close.Goals as goal
 

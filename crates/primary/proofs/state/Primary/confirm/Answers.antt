@@ -2,8 +2,8 @@ use Rattle.std.proofs.Common.{◌≡◌, ◌∙◌, ◌+◌, ◌-◌, List, Bool
 use Rattle.std.proofs.lemmas.List.{length-replicate}
 use Rattle.primary_core.specs.Entries.{is_unconfirmed}
 use Rattle.primary_core.specs.State.{CoreState}
-use Rattle.primary_steps.specs.Core.{PrimaryState}
-use Rattle.primary_steps.specs.Leaves.{Leaves}
+use Rattle.primary_protocol.specs.Core.{PrimaryState}
+use Rattle.primary_protocol.specs.Leaves.{Leaves}
 use Rattle.primary.specs.Receipts.{is_found}
 use Rattle.primary.specs.State.{PrimaryView}
 use Rattle.primary.proofs.Confirming.{IsConfirming, confirming-first, confirming-next, confirming-all, strange-given, strange-missing}

@@ -1,6 +1,6 @@
 use Rattle.std.proofs.Common.{◌∙◌, length, filter, ap}
 use Rattle.transferlog.specs.Writes.{is_open}
-use Rattle.primary_steps.proofs.Node.Says.{says-incomplete}
+use Rattle.primary_protocol.proofs.Node.Says.{says-incomplete}
 use Rattle.primary.specs.State.{PrimaryView}
 use Rattle.primary.proofs.state.Primary.incomplete.Goals as goal
 

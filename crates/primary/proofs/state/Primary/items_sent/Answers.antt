@@ -1,5 +1,5 @@
 use Rattle.std.proofs.Common.{◌≡◌, ◌∙◌, ◌-◌, length, min, arith, sym, ap}
-use Rattle.primary_steps.proofs.Node.Pushed.{pushed-many, says-sent}
+use Rattle.primary_protocol.proofs.Node.Pushed.{pushed-many, says-sent}
 use Rattle.primary.specs.State.{PrimaryView, pushed_of, node}
 use Rattle.primary.proofs.state.Primary.items_sent.Goals as goal
 use Rattle.primary.proofs.state.Primary.items_sent.Goals.{After-saturating_sub, in-Some, in-None}

@@ -1,5 +1,5 @@
 use Rattle.std.proofs.Common.{rules, ◌≡◌, Err, inl, inr, refl}
-use Rattle.primary_steps.proofs.Node.Writing.{node-unknown}
+use Rattle.primary_protocol.proofs.Node.Writing.{node-unknown}
 use Rattle.primary.proofs.Writing.{failed, inside-disk, refused-step, wrote}
 use Rattle.primary.proofs.state.Primary.local.Goals as goal
 

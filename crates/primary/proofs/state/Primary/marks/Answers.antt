@@ -1,6 +1,6 @@
 use Rattle.std.proofs.Common.{◌∙◌, ap}
 use Rattle.bitmap.specs.Marks.{count}
-use Rattle.primary_steps.proofs.Node.Says.{says-marks}
+use Rattle.primary_protocol.proofs.Node.Says.{says-marks}
 use Rattle.primary.specs.State.{PrimaryView}
 use Rattle.primary.proofs.state.Primary.marks.Goals as goal
 

@@ -1,9 +1,9 @@
 use Rattle.std.proofs.Common.{◌≡◌, ◌∙◌, sym, ap, false, subst}
 use Rattle.endpoint.specs.Calls.{refusal_in}
 use Rattle.model.specs.Refusals.{first_refusal}
-use Rattle.primary_steps.specs.Node.{NodeHas}
-use Rattle.primary_steps.specs.Transitions.{open_tests}
-use Rattle.primary_steps.proofs.Node.Asked.{open-tests-same}
+use Rattle.primary_protocol.specs.Node.{NodeHas}
+use Rattle.primary_protocol.specs.Transitions.{open_tests}
+use Rattle.primary_protocol.proofs.Node.Asked.{open-tests-same}
 use Rattle.primary.proofs.Asked.{told-refusal}
 use Rattle.primary.specs.State.{PrimaryView, node}
 use Rattle.primary.proofs.state.Primary.may_open.Goals as goal

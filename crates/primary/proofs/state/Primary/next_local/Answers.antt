@@ -1,7 +1,7 @@
 use Rattle.std.proofs.Common.{◌∙◌, ap}
 use Rattle.std.specs.Prelude.{find, option_map}
 use Rattle.transferlog.specs.Writes.{LogWrite, is_waiting}
-use Rattle.primary_steps.proofs.Node.Says.{says-next}
+use Rattle.primary_protocol.proofs.Node.Says.{says-next}
 use Rattle.primary.specs.State.{PrimaryView}
 use Rattle.primary.proofs.state.Primary.next_local.Goals as goal
 

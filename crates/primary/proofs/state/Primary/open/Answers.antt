@@ -1,5 +1,5 @@
 use Rattle.std.proofs.Common.{◌≡◌, ◌∙◌, Err, rules}
-use Rattle.primary_steps.specs.Steps.{plainly}
+use Rattle.primary_protocol.specs.Steps.{plainly}
 use Rattle.primary.proofs.Refused.{on-refused}
 use Rattle.primary.proofs.Opening.{open-unchanged, open-refused-is, open-refused, opens-new}
 use Rattle.primary.proofs.state.Primary.open.Goals as goal

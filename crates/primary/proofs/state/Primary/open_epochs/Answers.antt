@@ -1,6 +1,6 @@
 use Rattle.std.proofs.Common.{◌∙◌, ap}
 use Rattle.epochs.specs.Epochs.{unacknowledged}
-use Rattle.primary_steps.proofs.Node.Counts.{says-epochs}
+use Rattle.primary_protocol.proofs.Node.Counts.{says-epochs}
 use Rattle.primary.specs.State.{PrimaryView}
 use Rattle.primary.proofs.state.Primary.open_epochs.Goals as goal
 

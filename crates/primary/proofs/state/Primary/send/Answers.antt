@@ -1,8 +1,8 @@
 use Rattle.std.proofs.Common.{◌≡◌, ◌∙◌, Err, rules, sym, ap}
 use Rattle.std.specs.Prelude.{is_some}
 use Rattle.std.proofs.lemmas.Bool.{both_ways}
-use Rattle.primary_steps.proofs.Node.Sends.{due-open}
-use Rattle.primary.proofs.Sending.{blocks-wanted, not-due-steps, not-due-sent, not-pushed-steps, part-sent, sent-steps, sent-is, starved-owes}
+use Rattle.primary_protocol.proofs.Node.Sends.{due-open}
+use Rattle.primary.proofs.Sending.{blocks-wanted, not-due-steps, not-due-sent, not-pushed-steps, part-sent, sent-steps, sent-is, out-of-memory-owes}
 use Rattle.primary.proofs.state.Primary.send.Goals as goal
 
 pub returns-in_err-packet-clause-step : goal.returns-in_err-packet-clause-step
@@ -18,7 +18,7 @@ returns-in_err-packet-clause-link g c =
 pub returns-in_err-packet-clause-memory : goal.returns-in_err-packet-clause-memory
 returns-in_err-packet-clause-memory g c =
     let refused : c.from_residual.result ≡ Err c.in_err-packet.field-0.0 = search rules in
-    starved-owes _ _ _ _ c.self.view_is refused c.in_err-packet.ensures.memory
+    out-of-memory-owes _ _ _ _ c.self.view_is refused c.in_err-packet.ensures.memory
 
 pub returns-in_default-clause-step : goal.returns-in_default-clause-step
 returns-in_default-clause-step g c =
@@ -40,7 +40,7 @@ returns-in_err-push-clause-link g c =
 pub returns-in_err-push-clause-memory : goal.returns-in_err-push-clause-memory
 returns-in_err-push-clause-memory g c =
     let refused : c.from_residual-in_err-push.result ≡ Err c.in_err-push.field-0.0 = search rules in
-    starved-owes _ _ _ _ c.self.view_is refused (blocks-wanted _ _ _ c.in_ok-packet.ensures.inline c.in_err-push.ensures.refused)
+    out-of-memory-owes _ _ _ _ c.self.view_is refused (blocks-wanted _ _ _ c.in_ok-packet.ensures.inline c.in_err-push.ensures.refused)
 
 pub invariant_of-self-2 : goal.invariant_of-self-2
 invariant_of-self-2 g c =

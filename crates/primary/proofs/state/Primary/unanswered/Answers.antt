@@ -1,6 +1,6 @@
 use Rattle.std.proofs.Common.{◌∙◌, length, filter, ap}
 use Rattle.transferlog.specs.Writes.{is_unanswered}
-use Rattle.primary_steps.proofs.Node.Unanswered.{says-unanswered}
+use Rattle.primary_protocol.proofs.Node.Unanswered.{says-unanswered}
 use Rattle.primary.specs.State.{PrimaryView}
 use Rattle.primary.proofs.state.Primary.unanswered.Goals as goal
 

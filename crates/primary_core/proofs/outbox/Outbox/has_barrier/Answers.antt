@@ -1,5 +1,5 @@
 use Rattle.std.proofs.Common.{sym, ◌∙◌, ap, arith}
-use Rattle.primary_steps.specs.Taking.{is_unsent}
+use Rattle.primary_protocol.specs.Taking.{is_unsent}
 use Rattle.primary_core.proofs.Barriers.{waits-in-run, from-first, before-first}
 use Rattle.primary_core.proofs.outbox.Outbox.has_barrier.Goals as goal
 

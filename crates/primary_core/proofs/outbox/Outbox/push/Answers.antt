@@ -1,5 +1,5 @@
 use Rattle.std.proofs.Common.{◌≡◌, ◌++◌, ◌∷◌, [], List, length-append, sym, ◌∙◌, ap, arith}
-use Rattle.model.specs.Stream.{Item}
+use Rattle.model.specs.Stream.{StreamItem}
 use Rattle.primary_core.specs.Outbox.{numbers}
 use Rattle.primary_core.proofs.Barriers.{few-numbers, end-barrier, end-other}
 use Rattle.primary_core.proofs.outbox.Outbox.push.Goals as goal
@@ -20,7 +20,7 @@ invariant_of-self c =
     elim c.match-barrier.branch [
       | in-Some w ↦
           let items : pushed ≡ xs ++ item ∷ [] =
-          ◌∙◌ {A = List Item} c.push_back_reserved.ensures.items (ap (λ x. x.items.items ++ item ∷ []) w.self-inside-is) in
+          ◌∙◌ {A = List StreamItem} c.push_back_reserved.ensures.items (ap (λ x. x.items.items ++ item ∷ []) w.self-inside-is) in
           let more : numbers pushed ≡ numbers xs ++ w.in-Some.number ∷ [] =
           ap numbers items ∙ end-barrier xs item w.in-Some.number (sym c.barrier.ensures ∙ w.in-Some.is) in
           rw w.self-inside-is (record {
@@ -29,7 +29,7 @@ invariant_of-self c =
           })
       | in_default w ↦
           let items : pushed ≡ xs ++ item ∷ [] =
-          ◌∙◌ {A = List Item} c.push_back_reserved.ensures.items (ap (λ x. x.items.items ++ item ∷ []) w.self-inside-is) in
+          ◌∙◌ {A = List StreamItem} c.push_back_reserved.ensures.items (ap (λ x. x.items.items ++ item ∷ []) w.self-inside-is) in
           let same : numbers pushed ≡ numbers xs =
           ap numbers items ∙ end-other xs item (sym c.barrier.ensures ∙ w.in_default.is) in
           rw w.self-inside-is (record { counted = rw same is.counted; runs = λ yes. same ∙ is.runs yes })

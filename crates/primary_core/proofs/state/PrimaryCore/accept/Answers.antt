@@ -4,7 +4,7 @@ use Rattle.activitylog.specs.Activity.{begun}
 use Rattle.model.specs.Contents.{extent_of}
 use Rattle.transferlog.specs.declared.report.Accepted.{Accepted}
 use Rattle.transferlog.specs.Log.{LogState, accepting}
-use Rattle.primary_steps.specs.Core.{Entry, Open}
+use Rattle.primary_protocol.specs.Core.{JournalEntry, Open}
 use Rattle.primary_core.specs.State.{core_of, held_with, way_at}
 use Rattle.primary_core.specs.Submit.{taken_in}
 use Rattle.primary_core.proofs.Accepted.{few-accepted, few-places, room-accepted, sound-accepted}
@@ -45,8 +45,8 @@ returns-clause-accepted c =
     let v = core_of s in
     let first = c.args.range.first.0 in
     let count = c.args.range.count in
-    let entry : Entry = record { first = first; count = count; fate = Open; taken = false } in
-    let entries = c.push_reserved.ensures.items ∙ ap (λ (es : List Entry). es ++ entry ∷ []) c.in_ok-reserve.ensures.items in
+    let entry : JournalEntry = record { first = first; count = count; fate = Open; taken = false } in
+    let entries = c.push_reserved.ensures.items ∙ ap (λ (es : List JournalEntry). es ++ entry ∷ []) c.in_ok-reserve.ensures.items in
     let way = way_at s.connection in
     let more = holding (s.log.state.accepted + 1) first count in
     let held : held_with way c.begin.new.held ≡ holding_too more (held_with way s.held) =
@@ -74,7 +74,8 @@ invariant_of-self-2 c =
     let tests = passes-all first count v.state c.args.self.now.state seen c.requires.tests in
     let inside = rw (← seen) at c.requires.inside in
     let after = sound-accepted v.state first count contents is.sound inside c.requires.whole tests.places in
-    let log : c.accept.new.self.state ≡ (accepting first count contents s.log.state).1 = ap (λ (p : Accepted × LogState). p.1) c.in_ok-accepted.ensures.accepted in
+    let log : c.accept.new.self.state ≡ (accepting first count contents s.log.state).1 =
+    ap (λ (p : Accepted × LogState). p.1) c.in_ok-accepted.ensures.accepted in
     record {
       sound = record {
         in_range = is.sound.in_range;

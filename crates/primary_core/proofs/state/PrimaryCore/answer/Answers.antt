@@ -2,7 +2,7 @@ use Rattle.std.proofs.Common.{rules, ◌≡◌, Err, None, ◌∙◌, ap}
 use Rattle.blocks.specs.declared.outcome.What.TheVariants as what
 use Rattle.endpoint.specs.Meaning as meaning
 use Rattle.transferlog.specs.Log.{acked}
-use Rattle.primary_steps.specs.Taking.{answered, named}
+use Rattle.primary_protocol.specs.Taking.{answered, named}
 use Rattle.primary_core.specs.State.{core_of, state_of}
 use Rattle.primary_core.proofs.Answered.{acked-not, acked-steps, answered-err}
 use Rattle.primary_core.proofs.Logged.{core-logged, room-logged}

@@ -1,6 +1,6 @@
 use Rattle.std.proofs.Common.{◌∷◌, [], List, Option, Some, refl, sym, ◌∙◌, ap, arith}
-use Rattle.model.specs.Stream.{Item}
-use Rattle.primary_steps.specs.Core.{appending}
+use Rattle.model.specs.Stream.{StreamItem}
+use Rattle.primary_protocol.specs.Core.{appending}
 use Rattle.primary_core.specs.Items.{item_as}
 use Rattle.primary_core.specs.State.{core_of, end_of, state_of}
 use Rattle.primary_core.specs.declared.connection.Connection.{Connection}
@@ -34,7 +34,7 @@ returns-clause-state c =
       | in-Some w ↦
           let x = w.in-Some.connection in
           let t = state_of (record s { connection = Some x }) in
-          rw w.self-inside-is (ap (λ (items : List Item). record t { end = Some (record (end_of x) { unsent = items }) }) w.push.ensures.items
+          rw w.self-inside-is (ap (λ (items : List StreamItem). record t { end = Some (record (end_of x) { unsent = items }) }) w.push.ensures.items
           ∙ ap (appending more) (opened-as s c.args.self.now x c.self.view_is w.in-Some.is))
       | in-None w ↦
           let closed = ap (λ (o : Option Connection). state_of (record s { connection = o })) w.in-None.is in

@@ -1,5 +1,5 @@
 use Rattle.std.proofs.Common.{ℕ, refl, sym, ◌∙◌, ap, Ok}
-use Rattle.primary_steps.specs.Core.{PrimaryState}
+use Rattle.primary_protocol.specs.Core.{PrimaryState}
 use Rattle.primary_core.specs.State.{end_of}
 use Rattle.primary_core.proofs.Ends.{closes, end-at}
 use Rattle.primary_core.proofs.state.PrimaryCore.close.Goals as goal

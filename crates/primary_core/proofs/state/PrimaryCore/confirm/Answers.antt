@@ -1,5 +1,5 @@
 use Rattle.std.proofs.Common.{rules, ◌≡◌, Err, None, sym, ◌∙◌, ap}
-use Rattle.primary_steps.specs.Taking.{confirmed}
+use Rattle.primary_protocol.specs.Taking.{confirmed}
 use Rattle.primary_core.specs.State.{core_of, state_of}
 use Rattle.primary_core.proofs.Answered.{confirmed-not, confirmed-steps, confirmed-err}
 use Rattle.primary_core.proofs.Logged.{core-logged, room-logged}

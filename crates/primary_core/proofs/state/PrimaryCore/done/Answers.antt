@@ -2,7 +2,7 @@ use Rattle.std.proofs.Common.{◌∙◌, ap, Ok}
 use Rattle.blocks.specs.declared.outcome.What.TheVariants as what
 use Rattle.transferlog.specs.Log as log
 use Rattle.transferlog.specs.Writes.{storing}
-use Rattle.primary_steps.specs.Transitions.{logged, is_unfinished, local_done}
+use Rattle.primary_protocol.specs.Transitions.{logged, is_unfinished, local_done}
 use Rattle.primary_core.specs.State.{core_of}
 use Rattle.primary_core.proofs.SoundLog.{keeps-storing}
 use Rattle.primary_core.proofs.Logged.{steps-changing, core-logged, finishes, follows-logged, seen-as}

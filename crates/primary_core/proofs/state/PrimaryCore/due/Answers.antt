@@ -1,6 +1,6 @@
 use Rattle.std.proofs.Common.{refl, sym, ◌∙◌}
 use Rattle.model.specs.Frames.{frame_of}
-use Rattle.primary_steps.specs.Transitions.{due}
+use Rattle.primary_protocol.specs.Transitions.{due}
 use Rattle.primary_core.specs.State.{end_of}
 use Rattle.primary_core.proofs.Ends.{end-at}
 use Rattle.primary_core.proofs.Sending.{all-said, due-told, item-is-due}

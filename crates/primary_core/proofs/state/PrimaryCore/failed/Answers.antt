@@ -3,9 +3,9 @@ use Rattle.blocks.specs.declared.outcome.Done.{Done}
 use Rattle.blocks.specs.declared.outcome.What.TheVariants as what
 use Rattle.transferlog.specs.Log as log
 use Rattle.transferlog.specs.Writes.{failing}
-use Rattle.primary_steps.specs.Core.{PrimaryState}
-use Rattle.primary_steps.specs.Transitions as transition
-use Rattle.primary_steps.specs.Transitions.{logged}
+use Rattle.primary_protocol.specs.Core.{PrimaryState}
+use Rattle.primary_protocol.specs.Transitions as transition
+use Rattle.primary_protocol.specs.Transitions.{logged}
 use Rattle.primary_core.specs.Local.{given_up}
 use Rattle.primary_core.specs.State.{state_of}
 use Rattle.primary_core.proofs.SoundLog.{keeps-failing}

@@ -1,5 +1,5 @@
 use Rattle.std.proofs.Common.{sym, ◌∙◌, ap, arith}
-use Rattle.primary_steps.specs.Core.{PrimaryState}
+use Rattle.primary_protocol.specs.Core.{PrimaryState}
 use Rattle.primary_core.proofs.state.PrimaryCore.follow.Goals as goal
 
 pub append-requires-clause-room : goal.append-requires-clause-room

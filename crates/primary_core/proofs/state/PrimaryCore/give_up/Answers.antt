@@ -3,13 +3,13 @@ use Rattle.std.proofs.Math.Seq.{take-append_seam}
 use Rattle.bitmap.proofs.Lists.{length-marking}
 use Rattle.blocks.specs.Ranges.{is_between}
 use Rattle.overlap.specs.Holdings.{without}
-use Rattle.primary_steps.specs.Core.{Entry}
+use Rattle.primary_protocol.specs.Core.{JournalEntry}
 use Rattle.primary_core.specs.State.{held_with, way_at}
 use Rattle.primary_core.proofs.Held.{without-held, writers-without}
 use Rattle.primary_core.proofs.state.PrimaryCore.give_up.Goals as goal
 
 -- a whole list written over another of its length
-whole : (n : ℕ) (old new : List Entry) → n ≡ length new → take n (new ++ drop (length new) old) ≡ new
+whole : (n : ℕ) (old new : List JournalEntry) → n ≡ length new → take n (new ++ drop (length new) old) ≡ new
 whole n old new is = rw is (take-append_seam new (drop (length new) old))
 
 pub invariant_of-self : goal.invariant_of-self

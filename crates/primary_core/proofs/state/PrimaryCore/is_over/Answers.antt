@@ -4,7 +4,7 @@ use Rattle.std.specs.List.{list_any}
 use Rattle.bitmap.specs.Marks.{count}
 use Rattle.transferlog.proofs.Numbers.{higher_number}
 use Rattle.resync.specs.declared.under_way.UnderWay.{UnderWay}
-use Rattle.primary_steps.specs.Core.{is_over}
+use Rattle.primary_protocol.specs.Core.{is_over}
 use Rattle.primary_core.specs.State.{way_of}
 use Rattle.primary_core.proofs.Ends.{opened-as}
 use Rattle.primary_core.proofs.state.PrimaryCore.is_over.Goals as goal

@@ -1,6 +1,6 @@
 use Rattle.std.proofs.Common.{length, ◌∙◌, ap}
 use Rattle.bitmap.proofs.Lists.{length-marking}
-use Rattle.primary_steps.specs.Transitions.{unreleased_blocks}
+use Rattle.primary_protocol.specs.Transitions.{unreleased_blocks}
 use Rattle.primary_core.proofs.Sound.{core-marks}
 use Rattle.primary_core.proofs.state.PrimaryCore.mark_unreleased.Goals as goal
 

@@ -2,8 +2,8 @@ use Rattle.std.proofs.Common.{◌≡◌, false, Some, None, refl, sym, ◌∙◌
 use Rattle.std.specs.Prelude.{option_map}
 use Rattle.blocks.specs.Identifiers.{decision, stands_in}
 use Rattle.blocks.specs.declared.outcome.What.TheVariants as what
-use Rattle.primary_steps.specs.Core.{EndState, PrimaryState, following}
-use Rattle.primary_steps.specs.Taking.{begun_with, hearing}
+use Rattle.primary_protocol.specs.Core.{EndState, PrimaryState, following}
+use Rattle.primary_protocol.specs.Taking.{begun_with, hearing}
 use Rattle.primary_core.specs.State.{core_of, end_of}
 use Rattle.primary_core.proofs.Beginning.{begun-over, meets}
 use Rattle.primary_core.proofs.state.PrimaryCore.meet.Goals as goal

@@ -2,7 +2,7 @@ use Rattle.std.proofs.Common.{◌≡◌, List, Some, None, sym, ◌∙◌, ap}
 use Rattle.std.specs.Prelude.{option_map}
 use Rattle.overlap.specs.Holdings.{Holding, without}
 use Rattle.resync.specs.UnderWay.{ResyncState}
-use Rattle.primary_steps.specs.Core.{EndState, PrimaryState}
+use Rattle.primary_protocol.specs.Core.{EndState, PrimaryState}
 use Rattle.primary_core.specs.State.{end_of, state_of}
 use Rattle.primary_core.proofs.Ends.{opened-as}
 use Rattle.primary_core.proofs.Held.{without-block}

@@ -2,14 +2,14 @@ use Rattle.std.proofs.Common.{◌≡◌, ◌++◌, ℕ, List, length, take, drop
 use Rattle.std.proofs.Math.Seq.{take-append_seam}
 use Rattle.transferlog.specs.declared.report.Completed.{Completed}
 use Rattle.transferlog.specs.declared.report.Released.{Released}
-use Rattle.primary_steps.specs.Core.{Entry, entering, freeing, leaving}
+use Rattle.primary_protocol.specs.Core.{JournalEntry, entering, freeing, leaving}
 use Rattle.primary_core.specs.State.{state_of, held_with, way_at}
 use Rattle.primary_core.proofs.Held.{freeing-held, writers-freeing}
 use Rattle.primary_core.proofs.Reports.{sound-reporting}
 use Rattle.primary_core.proofs.state.PrimaryCore.report.Goals as goal
 
 -- a whole list written over another of its length
-whole : (n : ℕ) (old new : List Entry) → n ≡ length new → take n (new ++ drop (length new) old) ≡ new
+whole : (n : ℕ) (old new : List JournalEntry) → n ≡ length new → take n (new ++ drop (length new) old) ≡ new
 whole n old new is = rw is (take-append_seam new (drop (length new) old))
 
 pub invariant_of-self : goal.invariant_of-self

@@ -6,8 +6,8 @@ use Rattle.model.specs.Stream.{ResyncItem}
 use Rattle.overlap.specs.Holdings.{Holding, holding, holding_too}
 use Rattle.resync.specs.UnderWay.{ResyncState}
 use Rattle.transferlog.specs.Log.{LogState, resync_placed}
-use Rattle.primary_steps.specs.Core.{EndState, PrimaryState, appending, following}
-use Rattle.primary_steps.specs.Transitions.{copying}
+use Rattle.primary_protocol.specs.Core.{EndState, PrimaryState, appending, following}
+use Rattle.primary_protocol.specs.Transitions.{copying}
 use Rattle.primary_core.specs.Resyncing.{resync_choice}
 use Rattle.primary_core.specs.State.{end_of, state_of}
 use Rattle.primary_core.proofs.Copying.{chosen, chosen-inside, held-free, holding-zero}

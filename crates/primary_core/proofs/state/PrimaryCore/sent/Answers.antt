@@ -7,8 +7,8 @@ use Rattle.model.specs.Stream.{is_write, number_of}
 use Rattle.transferlog.specs.Log as log
 use Rattle.transferlog.specs.Log.{answers_sent}
 use Rattle.transferlog.specs.Writes.{sending}
-use Rattle.primary_steps.specs.Core.{PrimaryState, with_end}
-use Rattle.primary_steps.specs.Transitions.{logged, pushed_item}
+use Rattle.primary_protocol.specs.Core.{PrimaryState, with_end}
+use Rattle.primary_protocol.specs.Transitions.{logged, pushed_item}
 use Rattle.primary_core.specs.State.{end_of, items_in, state_of}
 use Rattle.primary_core.proofs.Ends.{end-at}
 use Rattle.primary_core.proofs.Logged.{steps-changing, core-logged, follows-logged}

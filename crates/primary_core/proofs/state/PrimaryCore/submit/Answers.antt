@@ -1,7 +1,7 @@
 use Rattle.std.proofs.Common.{rules, List, ℕ, ◌≡◌, sym, ◌∙◌, ap, false, Err}
 use Rattle.blocks.specs.declared.outcome.Done.{Done}
-use Rattle.primary_steps.specs.Transitions.{submit}
-use Rattle.primary_core.specs.Starved.{is_starved}
+use Rattle.primary_protocol.specs.Transitions.{submit}
+use Rattle.primary_core.specs.OutOfMemory.{is_out_of_memory}
 use Rattle.primary_core.specs.Submit.{gone_out, taken_in}
 use Rattle.primary_core.proofs.Submitted.{submit-refused, submit-done, submitted-is}
 use Rattle.primary_core.proofs.state.PrimaryCore.submit.Goals as goal
@@ -15,7 +15,7 @@ returns-in_err-may_submit c =
     let told = sym c.may_submit.ensures ∙ c.in_err-may_submit.was in
     let refused : c.from_residual-in_err-may_submit.result ≡ Err e = search rules in
     rw refused (submit-refused s r.first.0 r.count c.args.bytes.now e whole.0 told
-    ∙ ap (λ (n : ℕ). submit n c.args.bytes.now (is_starved {R = Done} (Err e)) s) whole.1)
+    ∙ ap (λ (n : ℕ). submit n c.args.bytes.now (is_out_of_memory {R = Done} (Err e)) s) whole.1)
 
 pub returns : goal.returns
 returns c =

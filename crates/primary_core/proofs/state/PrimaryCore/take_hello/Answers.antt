@@ -1,8 +1,8 @@
 use Rattle.std.proofs.Common.{rules, ◌≡◌, Err, sym, ◌∙◌, ap}
 use Rattle.endpoint.specs.Meaning.{meaning}
 use Rattle.handshakes.specs.Handshake.{judged}
-use Rattle.primary_steps.specs.Core.{EndState}
-use Rattle.primary_steps.specs.Taking.{hearing, taking_hello}
+use Rattle.primary_protocol.specs.Core.{EndState}
+use Rattle.primary_protocol.specs.Taking.{hearing, taking_hello}
 use Rattle.primary_core.specs.State.{end_of}
 use Rattle.primary_core.proofs.Ends.{end-at}
 use Rattle.primary_core.proofs.Taken.{hello-refused}

@@ -7,7 +7,7 @@ use Rattle.ruled_link.proofs.pieces.PieceIn.pop_sheet.Goals as goal
 
 pub pop_as-requires-clause-rule : goal.pop_as-requires-clause-rule
 pop_as-requires-clause-rule g c = (
-  gets _ g.M.Moment.take_keeps _ _ (ap (λ (v : Log). v.takes) c.self.invariant.1),
+  gets _ g.M.RingInvariant.take_keeps _ _ (ap (λ (v : Log). v.takes) c.self.invariant.1),
   empty_at _ _ _ (ap (λ (v : Log). v.takes) c.self.invariant.1),
 )
 

@@ -6,7 +6,7 @@ use Rattle.ruled_link.proofs.pieces.PieceOut.push_bytes.Goals as goal
 
 pub push_as-requires-clause-rule : goal.push_as-requires-clause-rule
 push_as-requires-clause-rule g c = (
-  sends _ g.M.Moment.push_keeps _ _ _ _ (ap (λ (v : Log). v.pushes) c.self.invariant.1),
+  sends _ g.M.RingInvariant.push_keeps _ _ _ _ (ap (λ (v : Log). v.pushes) c.self.invariant.1),
   full_at _ _ _ (ap (λ (v : Log). v.pushes) c.self.invariant.1),
 )
 

@@ -1,7 +1,7 @@
 use Rattle.std.proofs.Common.{◌≡◌, ◌+◌, ◌<◌, ◌≤◌, length, Err, rules, ap, arith}
 use Rattle.std.proofs.lemmas.Bool.Decides.{nat_tests}
 use Rattle.model.specs.Stream.{contents_of, first_of}
-use Rattle.secondary_steps.proofs.Node.Faults.{node-fault-not-started, node-keeps-too-many}
+use Rattle.secondary_protocol.proofs.Node.Faults.{node-fault-not-started, node-keeps-too-many}
 use Rattle.secondary.proofs.Applies.{armed-write, failed-after, on-disk, refused-step}
 use Rattle.secondary.proofs.peer.Secondary+O+I+FaultStore.peer_fault.Goals as goal
 

@@ -1,7 +1,7 @@
 use Rattle.std.proofs.Common.{◌≡◌, Err, rules, ap, true}
 use Rattle.std.specs.Prelude.{is_some}
-use Rattle.secondary_steps.proofs.Node.Calls.{due-open}
-use Rattle.secondary.proofs.Sends.{nothing-due-steps, not-sent-steps, not-starved, sends-none, sends-part, sent-is, sent-steps}
+use Rattle.secondary_protocol.proofs.Node.Calls.{due-open}
+use Rattle.secondary.proofs.Sends.{nothing-due-steps, not-sent-steps, not-out-of-memory, sends-none, sends-part, sent-is, sent-steps}
 use Rattle.secondary.proofs.state.Secondary.ack_out.Goals as goal
 
 pub returns-in_err-packet-clause-step : goal.returns-in_err-packet-clause-step
@@ -33,7 +33,7 @@ returns-in_err-push-clause-link g c =
 pub returns-in_err-push-clause-memory : goal.returns-in_err-push-clause-memory
 returns-in_err-push-clause-memory g c =
     let refused : c.from_residual-in_err-push.result ≡ Err c.in_err-push.field-0.0 = search rules in
-    rw refused (not-starved _ _ c.in_ok-packet.ensures.inline c.in_err-push.ensures.refused)
+    rw refused (not-out-of-memory _ _ c.in_ok-packet.ensures.inline c.in_err-push.ensures.refused)
 
 pub invariant_of-self-2 : goal.invariant_of-self-2
 invariant_of-self-2 g c =
@@ -48,6 +48,6 @@ returns-clause-step g c =
 -- an open end has its side of the link
 pub returns-in_default-clause-step : goal.returns-in_default-clause-step
 returns-in_default-clause-step g c =
-    let stands : is_some c.self.inside.core.state.end ≡ true = due-open c.self.inside.core.state _ c.in_ok-packet.ensures.due in
-    let there = c.self.invariant.out_there stands in
+    let is_established : is_some c.self.inside.core.state.end ≡ true = due-open c.self.inside.core.state _ c.in_ok-packet.ensures.due in
+    let there = c.self.invariant.out_there is_established in
     absurd (search rules)

@@ -1,4 +1,4 @@
-use Rattle.secondary_steps.proofs.Node.Calls.{node-closes}
+use Rattle.secondary_protocol.proofs.Node.Calls.{node-closes}
 use Rattle.secondary.proofs.Kept.{closes-is}
 use Rattle.secondary.proofs.state.Secondary.close.Goals as goal
 

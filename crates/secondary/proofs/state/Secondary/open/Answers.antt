@@ -1,7 +1,7 @@
 use Rattle.std.proofs.Common.{◌≡◌, ◌∙◌, ◌+◌, ◌≤◌, suc, Err, ap, arith, rules}
 use Rattle.std.specs.Option.{option_map}
 use Rattle.endpoint.specs.Meaning.{meant, meant_in}
-use Rattle.endpoint.specs.Incoming.{received_from}
+use Rattle.endpoint.specs.PacketReceiver.{received_from}
 use Rattle.secondary.proofs.Opens.{not-opened-is, not-opened-steps, opened-is, opened-steps}
 use Rattle.secondary.proofs.state.Secondary.open.Goals as goal
 

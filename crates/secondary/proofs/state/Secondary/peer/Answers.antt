@@ -1,6 +1,6 @@
 use Rattle.std.proofs.Common.{◌≡◌, ◌+◌, ◌≤◌, length, Err, inl, inr, refl, rules, arith}
 use Rattle.model.specs.Stream.{contents_of, first_of}
-use Rattle.secondary_steps.proofs.Node.Applies.{node-not-started}
+use Rattle.secondary_protocol.proofs.Node.Applies.{node-not-started}
 use Rattle.secondary.proofs.Applies.{done, failed, on-disk, refused-step}
 use Rattle.secondary.proofs.state.Secondary.peer.Goals as goal
 

@@ -1,5 +1,5 @@
 use Rattle.std.proofs.Common.{◌≡◌, ◌*◌, ◌≤◌, length, ap, arith, rules}
-use Rattle.secondary_steps.proofs.Node.Sized.{disk-long}
+use Rattle.secondary_protocol.proofs.Node.Sized.{disk-long}
 use Rattle.secondary.proofs.state.Secondary.read.Goals as goal
 
 pub read_blocks-requires-clause-inside : goal.read_blocks-requires-clause-inside

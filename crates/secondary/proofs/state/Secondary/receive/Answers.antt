@@ -1,8 +1,8 @@
 use Rattle.std.proofs.Common.{◌≡◌, ◌∙◌, ◌++◌, ◌∷◌, [], Err, Ok, ap, sym, rules}
 use Rattle.endpoint.specs.Meaning.{received}
 use Rattle.endpoint.proofs.Faults.{never-nothing}
-use Rattle.secondary_steps.specs.Core.{may_take}
-use Rattle.secondary.proofs.Takes.{may-not-one, starved-one, takes-is, takes-one}
+use Rattle.secondary_protocol.specs.Core.{may_take}
+use Rattle.secondary.proofs.Takes.{may-not-one, out-of-memory-one, takes-is, takes-one}
 use Rattle.secondary.proofs.state.Secondary.receive.Goals as goal
 
 pub returns-in_err-may_take-clause-step : goal.returns-in_err-may_take-clause-step
@@ -13,14 +13,14 @@ returns-in_err-may_take-clause-step g c =
 pub returns-in_err-ready-clause-step : goal.returns-in_err-ready-clause-step
 returns-in_err-ready-clause-step g c =
     let refused : c.from_residual-in_err-ready.result ≡ Err c.in_err-ready.field-0.0 = search rules in
-    rw (← c.self.view_is, c.in-Some.is, c.in_err-ready.ensures.unchanged) (starved-one _ _ (sym c.may_take.ensures ∙ c.in_ok-may_take.was) (refused
+    rw (← c.self.view_is, c.in-Some.is, c.in_err-ready.ensures.unchanged) (out-of-memory-one _ _ (sym c.may_take.ensures ∙ c.in_ok-may_take.was) (refused
     ∙ ap Err c.in_err-ready.ensures.refused))
 
 pub returns-in_err-ready-2-clause-step : goal.returns-in_err-ready-2-clause-step
 returns-in_err-ready-2-clause-step g c =
     let refused : c.from_residual-in_err-ready-2.result ≡ Err c.in_err-ready-2.field-0.0 = search rules in
     rw (← c.self.view_is, c.in-Some.is, c.in_ok-ready.ensures.ready, c.in_err-ready-2.ensures.unchanged)
-    (starved-one _ _ (sym c.may_take.ensures ∙ c.in_ok-may_take.was) (refused ∙ ap Err c.in_err-ready-2.ensures.refused))
+    (out-of-memory-one _ _ (sym c.may_take.ensures ∙ c.in_ok-may_take.was) (refused ∙ ap Err c.in_err-ready-2.ensures.refused))
 
 pub invariant_of-self-2 : goal.invariant_of-self-2
 invariant_of-self-2 g c =

@@ -1,7 +1,7 @@
 use Rattle.std.proofs.Common.{suc, ◌≡◌, ◌∙◌, ◌∷◌, [], sym, ap, arith, length, nat_le, true, add-one}
 use Rattle.std.proofs.lemmas.Bool.{le-leb}
 use Rattle.std.proofs.lemmas.List.{length-append}
-use Rattle.secondary_steps.specs.Core.{is_applied_to}
+use Rattle.secondary_protocol.specs.Core.{is_applied_to}
 use Rattle.secondary_core.specs.Outboxes.{outbox_of}
 use Rattle.secondary_core.proofs.Barriers.{at-end, next, none-new}
 use Rattle.secondary_core.proofs.outbox.Outbox.answer.Goals as goal

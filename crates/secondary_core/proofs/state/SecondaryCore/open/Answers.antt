@@ -1,7 +1,7 @@
 use Rattle.std.proofs.Common.{◌≡◌, ◌∙◌, false, length, ap, arith}
 use Rattle.std.proofs.lemmas.Bool.Decides.{nat_tests}
 use Rattle.peerdisk.proofs.Stamps.{length-flags}
-use Rattle.secondary_steps.specs.Core.{answers}
+use Rattle.secondary_protocol.specs.Core.{answers}
 use Rattle.secondary_core.proofs.Places.{of-none}
 use Rattle.secondary_core.proofs.state.SecondaryCore.open.Goals as goal
 
@@ -9,7 +9,13 @@ pub invariant_of-self : goal.invariant_of-self
 invariant_of-self c =
     let s = c.self.inside in
     let was = c.self.invariant in
-    let none : length s.disk.pending ≡ 0 = grind (arith, nat_tests, c.is_drained.ensures, c.if-not-is_drained.false, ap (λ s. s.state.pending) c.self.view_is) in
+    let none : length s.disk.pending ≡ 0 = grind (
+      arith,
+      nat_tests,
+      c.is_drained.ensures,
+      c.if-not-is_drained.false,
+      ap (λ s. s.state.pending) c.self.view_is,
+    ) in
     let due = ap (λ e. length e.due) c.new-2.ensures in
     let sizes = ap (λ e. length e.sizes) c.new-2.ensures in
     let answered = ap (λ e. e.answered) c.new-2.ensures in

@@ -1,5 +1,5 @@
 use Rattle.std.proofs.Common.{◌∙◌, ap, Err, None}
-use Rattle.secondary_steps.specs.Core.{SecondaryState}
+use Rattle.secondary_protocol.specs.Core.{SecondaryState}
 use Rattle.endpoint.specs.Meaning.{received}
 use Rattle.secondary_core.proofs.Checks.{closed, may-open}
 use Rattle.secondary_core.proofs.state.SecondaryCore.take.Goals as goal

@@ -1,10 +1,10 @@
 use Rattle.std.proofs.Common.{refl, ap, ◌&&◌, is_none}
 use Rattle.blocks.specs.declared.outcome.Reply.TheVariants as reply
-use Rattle.endpoint.specs.Calls.{is_starved}
+use Rattle.endpoint.specs.Calls.{is_out_of_memory}
 use Rattle.model.specs.LocalRuns.{Takes}
 use Rattle.primary.specs.State.{PrimaryView}
-use Rattle.primary_steps.specs.Node.{primary_step}
-use Rattle.primary_steps.specs.Steps.{replied}
+use Rattle.primary_protocol.specs.Node.{primary_step}
+use Rattle.primary_protocol.specs.Steps.{replied}
 use Rattle.session_nodes.specs.Primaries.{PrimaryTakes}
 use Rattle.session_nodes.proofs.Ends.{ends-took}
 use Rattle.session_nodes.proofs.Primaries.{runs-step, steps-over, had-over}
@@ -13,7 +13,7 @@ use Rattle.session_nodes.proofs.local.Local.ack_in.Goals as goal
 abbrev takes-over : (g : _) (c : goal.After-ack_in g) → PrimaryTakes c.ack_in.result c.self.inside.node c.ack_in.new.self
 takes-over g c =
     let took = c.ack_in.ensures.step in
-    let event = Takes took.frame (is_none took.frame && is_starved c.ack_in.result) in
+    let event = Takes took.frame (is_none took.frame && is_out_of_memory c.ack_in.result) in
     record {
       frame = took.frame;
       step = steps-over event tt (primary_step event) (λ h. refl) c.self.inside.node c.ack_in.new.self (replied reply.Ok c.ack_in.result)
@@ -24,12 +24,12 @@ takes-over g c =
 pub invariant_of-self : goal.invariant_of-self
 invariant_of-self g c =
     let took = c.ack_in.ensures.step in
-    had-over (primary_step (Takes took.frame (is_none took.frame && is_starved c.ack_in.result))) c.self.inside.node c.ack_in.new.self
+    had-over (primary_step (Takes took.frame (is_none took.frame && is_out_of_memory c.ack_in.result))) c.self.inside.node c.ack_in.new.self
     (replied reply.Ok c.ack_in.result) c.self.invariant (takes-over g c).step
 
 pub returns : goal.returns
 returns g c = rw (← c.self.view_is) (record {
   step = takes-over g c;
-  runs = let took = c.ack_in.ensures.step in runs-step (Takes took.frame (is_none took.frame && is_starved c.ack_in.result)) c.self.inside.node
+  runs = let took = c.ack_in.ensures.step in runs-step (Takes took.frame (is_none took.frame && is_out_of_memory c.ack_in.result)) c.self.inside.node
       c.ack_in.new.self (replied reply.Ok c.ack_in.result) (λ h. refl) (takes-over g c).step;
 })

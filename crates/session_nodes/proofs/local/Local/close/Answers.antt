@@ -4,8 +4,8 @@ use Rattle.session_nodes.proofs.Ends.{ends-of}
 use Rattle.session_nodes.proofs.Primaries.{steps-over, had-over}
 use Rattle.blocks.specs.declared.outcome.Reply.TheVariants as reply
 use Rattle.model.specs.LocalRuns.{Closes}
-use Rattle.primary_steps.specs.Node.{primary_step}
-use Rattle.primary_steps.specs.Steps.{replied}
+use Rattle.primary_protocol.specs.Node.{primary_step}
+use Rattle.primary_protocol.specs.Steps.{replied}
 use Rattle.session_nodes.specs.Primaries.{PrimarySteps}
 use Rattle.session_nodes.proofs.local.Local.close.Goals as goal
 

@@ -1,7 +1,7 @@
-use Rattle.endpoint.specs.Calls.{is_starved}
+use Rattle.endpoint.specs.Calls.{is_out_of_memory}
 use Rattle.model.specs.LocalRuns.{Opens}
-use Rattle.primary_steps.specs.Node.{primary_step}
-use Rattle.primary_steps.specs.Steps.{plainly, replied}
+use Rattle.primary_protocol.specs.Node.{primary_step}
+use Rattle.primary_protocol.specs.Steps.{plainly, replied}
 use Rattle.session_nodes.specs.Primaries.{PrimarySteps}
 use Rattle.session_nodes.proofs.Primaries.{reopens-over, had-over, is-there}
 use Rattle.session_nodes.proofs.local.Local.reopen.Goals as goal
@@ -13,13 +13,13 @@ pub reopen-requires-clause-opened_too : goal.reopen-requires-clause-opened_too
 reopen-requires-clause-opened_too g c = (is-there c.self.inside.node c.self.invariant).1
 
 abbrev steps : (g : _) (c : goal.After-reopen g)
-    → PrimarySteps (Opens c.args.sync c.args.loss (is_starved c.reopen.result)) c.self.inside.node (replied (λ number. plainly tt) c.reopen.result)
+    → PrimarySteps (Opens c.args.sync c.args.loss (is_out_of_memory c.reopen.result)) c.self.inside.node (replied (λ number. plainly tt) c.reopen.result)
     c.reopen.new.self
 steps g c = reopens-over c.args.sync c.args.loss c.self.inside.node c.reopen.new.self c.reopen.result c.reopen.ensures.step c.reopen.ensures.link
     c.reopen.ensures.number c.reopen.ensures.unchanged
 
 pub invariant_of-self : goal.invariant_of-self
-invariant_of-self g c = had-over (primary_step (Opens c.args.sync c.args.loss (is_starved c.reopen.result))) c.self.inside.node c.reopen.new.self
+invariant_of-self g c = had-over (primary_step (Opens c.args.sync c.args.loss (is_out_of_memory c.reopen.result))) c.self.inside.node c.reopen.new.self
     (replied (λ number. plainly tt) c.reopen.result) c.self.invariant (steps g c)
 
 pub returns : goal.returns

@@ -1,28 +1,30 @@
 use Rattle.std.proofs.Common.{refl, ap, inl, inr}
 use Rattle.blocks.specs.declared.outcome.Reply.TheVariants as reply
-use Rattle.endpoint.specs.Calls.{is_starved}
+use Rattle.endpoint.specs.Calls.{is_out_of_memory}
 use Rattle.model.specs.LocalRuns.{Resyncs, FailsResync}
 use Rattle.primary.specs.State.{PrimaryView}
-use Rattle.primary_steps.specs.Node.{primary_step}
-use Rattle.primary_steps.specs.Steps.{replied}
+use Rattle.primary_protocol.specs.Node.{primary_step}
+use Rattle.primary_protocol.specs.Steps.{replied}
 use Rattle.session_nodes.specs.Primaries.{PrimaryRuns}
 use Rattle.session_nodes.proofs.Ends.{SameEnds, ends-of}
 use Rattle.session_nodes.proofs.Primaries.{steps-over, runs-step, had-runs}
 use Rattle.session_nodes.proofs.local.Local.resync_next.Goals as goal
 
-abbrev same : (g : _) (c : goal.After-resync_next g) → SameEnds c.self.inside.node.outgoing c.resync_next.new.self.outgoing c.self.inside.node.incoming c.resync_next.new.self.incoming
+abbrev same : (g : _) (c : goal.After-resync_next g)
+    → SameEnds c.self.inside.node.outgoing c.resync_next.new.self.outgoing c.self.inside.node.incoming c.resync_next.new.self.incoming
 same g c = ends-of (ap (λ (x : PrimaryView). x.outgoing) c.resync_next.ensures.rest)
     (ap (λ (x : PrimaryView). x.incoming) c.resync_next.ensures.rest)
 
 abbrev ran : (g : _) (c : goal.After-resync_next g) → PrimaryRuns c.self.inside.node c.resync_next.new.self
 ran g c = elim c.resync_next.ensures.step [
-  | inl done ↦ runs-step (Resyncs (is_starved c.resync_next.result)) c.self.inside.node c.resync_next.new.self (replied reply.Ok c.resync_next.result)
+  | inl done ↦ runs-step (Resyncs (is_out_of_memory c.resync_next.result)) c.self.inside.node c.resync_next.new.self (replied reply.Ok c.resync_next.result)
       (λ h. refl)
-      (steps-over (Resyncs (is_starved c.resync_next.result)) tt (primary_step (Resyncs (is_starved c.resync_next.result)))
+      (steps-over (Resyncs (is_out_of_memory c.resync_next.result)) tt (primary_step (Resyncs (is_out_of_memory c.resync_next.result)))
       (λ h. refl) c.self.inside.node c.resync_next.new.self (replied reply.Ok c.resync_next.result) (same g c) done.1.said done.1.after)
-  | inr failed ↦ runs-step (FailsResync (is_starved c.resync_next.result)) c.self.inside.node c.resync_next.new.self (replied reply.Ok c.resync_next.result)
+  | inr failed ↦ runs-step (FailsResync (is_out_of_memory c.resync_next.result)) c.self.inside.node c.resync_next.new.self
+      (replied reply.Ok c.resync_next.result)
       (λ h. refl)
-      (steps-over (FailsResync (is_starved c.resync_next.result)) tt (primary_step (FailsResync (is_starved c.resync_next.result)))
+      (steps-over (FailsResync (is_out_of_memory c.resync_next.result)) tt (primary_step (FailsResync (is_out_of_memory c.resync_next.result)))
       (λ h. refl) c.self.inside.node c.resync_next.new.self (replied reply.Ok c.resync_next.result) (same g c) failed.1.said failed.1.after)
 ]
 

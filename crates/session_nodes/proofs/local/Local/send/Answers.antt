@@ -1,32 +1,32 @@
 use Rattle.std.proofs.Common.{refl, ap}
 use Rattle.blocks.specs.declared.outcome.Reply.TheVariants as reply
-use Rattle.endpoint.specs.Calls.{has_room, is_starved}
+use Rattle.endpoint.specs.Calls.{has_room, is_out_of_memory}
 use Rattle.model.specs.LocalRuns.{Sends}
 use Rattle.primary.specs.State.{PrimaryView}
-use Rattle.primary_steps.specs.Node.{primary_step}
-use Rattle.primary_steps.specs.Steps.{replied}
+use Rattle.primary_protocol.specs.Node.{primary_step}
+use Rattle.primary_protocol.specs.Steps.{replied}
 use Rattle.session_nodes.specs.Primaries.{PrimarySteps}
 use Rattle.session_nodes.proofs.Ends.{ends-sent}
 use Rattle.session_nodes.proofs.Primaries.{runs-step, steps-over, had-over}
 use Rattle.session_nodes.proofs.local.Local.send.Goals as goal
 
 abbrev step-over : (g : _) (c : goal.After-send g)
-    → PrimarySteps (Sends (has_room c.send.result) (is_starved c.send.result)) c.self.inside.node (replied reply.Ok c.send.result) c.send.new.self
+    → PrimarySteps (Sends (has_room c.send.result) (is_out_of_memory c.send.result)) c.self.inside.node (replied reply.Ok c.send.result) c.send.new.self
 step-over g c =
-    let event = Sends (has_room c.send.result) (is_starved c.send.result) in
+    let event = Sends (has_room c.send.result) (is_out_of_memory c.send.result) in
     steps-over event tt (primary_step event) (λ h. refl) c.self.inside.node c.send.new.self (replied reply.Ok c.send.result)
     (ends-sent c.send.result c.send.ensures.link (ap (λ (v : PrimaryView). v.incoming) c.send.ensures.rest))
     c.send.ensures.step.said c.send.ensures.step.after
 
 -- src/local.rt
 pub invariant_of-self : goal.invariant_of-self
-invariant_of-self g c = had-over (primary_step (Sends (has_room c.send.result) (is_starved c.send.result))) c.self.inside.node c.send.new.self
+invariant_of-self g c = had-over (primary_step (Sends (has_room c.send.result) (is_out_of_memory c.send.result))) c.self.inside.node c.send.new.self
     (replied reply.Ok c.send.result) c.self.invariant (step-over g c)
 
 pub returns : goal.returns
 returns g c = rw (← c.self.view_is)
     (record {
       step = step-over g c;
-      runs = runs-step (Sends (has_room c.send.result) (is_starved c.send.result)) c.self.inside.node c.send.new.self
+      runs = runs-step (Sends (has_room c.send.result) (is_out_of_memory c.send.result)) c.self.inside.node c.send.new.self
           (replied reply.Ok c.send.result) (λ h. refl) (step-over g c);
     })

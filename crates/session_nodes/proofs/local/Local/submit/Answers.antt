@@ -3,26 +3,26 @@ use Rattle.primary.specs.State.{PrimaryView}
 use Rattle.session_nodes.proofs.Ends.{ends-of}
 use Rattle.session_nodes.proofs.Primaries.{steps-over, had-over}
 use Rattle.blocks.specs.declared.outcome.Reply.TheVariants as reply
-use Rattle.endpoint.specs.Calls.{is_starved}
+use Rattle.endpoint.specs.Calls.{is_out_of_memory}
 use Rattle.model.specs.LocalRuns.{Submits}
-use Rattle.primary_steps.specs.Node.{primary_step}
-use Rattle.primary_steps.specs.Steps.{replied}
-use Rattle.primary_steps.specs.Transitions.{whole_blocks}
+use Rattle.primary_protocol.specs.Node.{primary_step}
+use Rattle.primary_protocol.specs.Steps.{replied}
+use Rattle.primary_protocol.specs.Transitions.{whole_blocks}
 use Rattle.session_nodes.specs.Primaries.{PrimarySteps}
 use Rattle.session_nodes.proofs.local.Local.submit.Goals as goal
 
 abbrev step-over : (g : _) (c : goal.After-submit g)
-    → PrimarySteps (Submits c.args.first (whole_blocks c.args.bytes.now) (is_starved c.submit.result)) c.self.inside.node
+    → PrimarySteps (Submits c.args.first (whole_blocks c.args.bytes.now) (is_out_of_memory c.submit.result)) c.self.inside.node
     (replied (λ told. reply.Ok told.1) c.submit.result) c.submit.new.self
 step-over g c =
-    steps-over (Submits c.args.first (whole_blocks c.args.bytes.now) (is_starved c.submit.result)) tt
-    (primary_step (Submits c.args.first (whole_blocks c.args.bytes.now) (is_starved c.submit.result))) (λ h. refl) c.self.inside.node c.submit.new.self
+    steps-over (Submits c.args.first (whole_blocks c.args.bytes.now) (is_out_of_memory c.submit.result)) tt
+    (primary_step (Submits c.args.first (whole_blocks c.args.bytes.now) (is_out_of_memory c.submit.result))) (λ h. refl) c.self.inside.node c.submit.new.self
     (replied (λ told. reply.Ok told.1) c.submit.result)
     (ends-of (ap (λ (v : PrimaryView). v.outgoing) c.submit.ensures.rest)
     (ap (λ (v : PrimaryView). v.incoming) c.submit.ensures.rest)) c.submit.ensures.step.said c.submit.ensures.step.after
 
 pub invariant_of-self : goal.invariant_of-self
-invariant_of-self g c = had-over (primary_step (Submits c.args.first (whole_blocks c.args.bytes.now) (is_starved c.submit.result))) c.self.inside.node
+invariant_of-self g c = had-over (primary_step (Submits c.args.first (whole_blocks c.args.bytes.now) (is_out_of_memory c.submit.result))) c.self.inside.node
     c.submit.new.self (replied (λ told. reply.Ok told.1) c.submit.result) c.self.invariant (step-over g c)
 
 pub returns : goal.returns

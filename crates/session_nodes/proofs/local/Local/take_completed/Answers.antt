@@ -3,7 +3,7 @@ use Rattle.primary.specs.State.{PrimaryView}
 use Rattle.session_nodes.proofs.Ends.{ends-of}
 use Rattle.session_nodes.proofs.Primaries.{steps-over, had-over}
 use Rattle.model.specs.LocalRuns.{Receipts}
-use Rattle.primary_steps.specs.Node.{take_receipt}
+use Rattle.primary_protocol.specs.Node.{take_receipt}
 use Rattle.session_nodes.specs.Primaries.{IsPrimaryStep}
 use Rattle.session_nodes.proofs.local.Local.take_completed.Goals as goal
 

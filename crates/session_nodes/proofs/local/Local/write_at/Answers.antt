@@ -2,14 +2,15 @@ use Rattle.std.proofs.Common.{refl, ap, inl, inr}
 use Rattle.blocks.specs.declared.outcome.Reply.TheVariants as reply
 use Rattle.model.specs.LocalRuns.{WritesLocally, FailsLocally}
 use Rattle.primary.specs.State.{PrimaryView}
-use Rattle.primary_steps.specs.Node.{primary_step}
-use Rattle.primary_steps.specs.Steps.{replied}
+use Rattle.primary_protocol.specs.Node.{primary_step}
+use Rattle.primary_protocol.specs.Steps.{replied}
 use Rattle.session_nodes.specs.Primaries.{PrimaryRuns}
 use Rattle.session_nodes.proofs.Ends.{SameEnds, ends-of}
 use Rattle.session_nodes.proofs.Primaries.{steps-over, runs-step, had-runs}
 use Rattle.session_nodes.proofs.local.Local.write_at.Goals as goal
 
-abbrev same : (g : _) (c : goal.After-local g) → SameEnds c.self.inside.node.outgoing c.local.new.self.outgoing c.self.inside.node.incoming c.local.new.self.incoming
+abbrev same : (g : _) (c : goal.After-local g)
+    → SameEnds c.self.inside.node.outgoing c.local.new.self.outgoing c.self.inside.node.incoming c.local.new.self.incoming
 same g c = ends-of (ap (λ (x : PrimaryView). x.outgoing) c.local.ensures.rest)
     (ap (λ (x : PrimaryView). x.incoming) c.local.ensures.rest)
 

@@ -1,29 +1,29 @@
 use Rattle.std.proofs.Common.{refl, ap}
-use Rattle.endpoint.specs.Calls.{has_room, is_starved}
+use Rattle.endpoint.specs.Calls.{has_room, is_out_of_memory}
 use Rattle.model.specs.LocalRuns.{Acknowledges}
 use Rattle.secondary.specs.State.{SecondaryView}
-use Rattle.secondary_steps.specs.Steps.{replied}
+use Rattle.secondary_protocol.specs.Steps.{replied}
 use Rattle.session_nodes.specs.Secondaries.{SecondarySteps}
 use Rattle.session_nodes.proofs.Ends.{ends-sent}
 use Rattle.session_nodes.proofs.Secondaries.{runs-step, steps-over, had-over}
 use Rattle.session_nodes.proofs.peer.Peer.ack_out.Goals as goal
 
 abbrev step-over : (g : _) (c : goal.After-ack_out g)
-    → SecondarySteps (Acknowledges (has_room c.ack_out.result) (is_starved c.ack_out.result)) c.self.inside.node (replied (λ done. done) c.ack_out.result)
+    → SecondarySteps (Acknowledges (has_room c.ack_out.result) (is_out_of_memory c.ack_out.result)) c.self.inside.node (replied (λ done. done) c.ack_out.result)
     c.ack_out.new.self
 step-over g c =
-    steps-over (Acknowledges (has_room c.ack_out.result) (is_starved c.ack_out.result)) tt (λ h. refl) c.self.inside.node c.ack_out.new.self
+    steps-over (Acknowledges (has_room c.ack_out.result) (is_out_of_memory c.ack_out.result)) tt (λ h. refl) c.self.inside.node c.ack_out.new.self
     (replied (λ done. done) c.ack_out.result)
     (ends-sent c.ack_out.result c.ack_out.ensures.link (ap (λ (v : SecondaryView). v.incoming) c.ack_out.ensures.rest))
     c.ack_out.ensures.step
 
 pub invariant_of-self : goal.invariant_of-self
-invariant_of-self g c = had-over (Acknowledges (has_room c.ack_out.result) (is_starved c.ack_out.result)) c.self.inside.node c.ack_out.new.self
+invariant_of-self g c = had-over (Acknowledges (has_room c.ack_out.result) (is_out_of_memory c.ack_out.result)) c.self.inside.node c.ack_out.new.self
     (replied (λ done. done) c.ack_out.result) c.self.invariant (step-over g c)
 
 pub returns : goal.returns
 returns g c = rw (← c.self.view_is) (record {
   step = step-over g c;
-  runs = runs-step (Acknowledges (has_room c.ack_out.result) (is_starved c.ack_out.result)) c.self.inside.node c.ack_out.new.self
+  runs = runs-step (Acknowledges (has_room c.ack_out.result) (is_out_of_memory c.ack_out.result)) c.self.inside.node c.ack_out.new.self
       (replied (λ done. done) c.ack_out.result) (λ h. refl) (step-over g c);
 })

@@ -1,13 +1,14 @@
 use Rattle.std.proofs.Common.{refl, ap, inl, inr}
 use Rattle.model.specs.LocalRuns.{Applies, FailsToApply}
 use Rattle.secondary.specs.State.{SecondaryView}
-use Rattle.secondary_steps.specs.Steps.{replied}
+use Rattle.secondary_protocol.specs.Steps.{replied}
 use Rattle.session_nodes.specs.Secondaries.{SecondaryRuns}
 use Rattle.session_nodes.proofs.Ends.{SameEnds, ends-of}
 use Rattle.session_nodes.proofs.Secondaries.{steps-over, runs-step, had-runs}
 use Rattle.session_nodes.proofs.peer.Peer.apply_at.Goals as goal
 
-abbrev same : (g : _) (c : goal.After-peer g) → SameEnds c.self.inside.node.outgoing c.peer.new.self.outgoing c.self.inside.node.incoming c.peer.new.self.incoming
+abbrev same : (g : _) (c : goal.After-peer g)
+    → SameEnds c.self.inside.node.outgoing c.peer.new.self.outgoing c.self.inside.node.incoming c.peer.new.self.incoming
 same g c = ends-of (ap (λ (x : SecondaryView). x.outgoing) c.peer.ensures.rest)
     (ap (λ (x : SecondaryView). x.incoming) c.peer.ensures.rest)
 

@@ -1,7 +1,7 @@
 use Rattle.std.proofs.Common.{refl, ap}
 use Rattle.model.specs.LocalRuns.{ClosesToo}
 use Rattle.secondary.specs.State.{SecondaryView}
-use Rattle.secondary_steps.specs.Steps.{plainly, replied}
+use Rattle.secondary_protocol.specs.Steps.{plainly, replied}
 use Rattle.session_nodes.specs.Secondaries.{SecondarySteps}
 use Rattle.session_nodes.proofs.Ends.{ends-of}
 use Rattle.session_nodes.proofs.Secondaries.{steps-over, had-over}

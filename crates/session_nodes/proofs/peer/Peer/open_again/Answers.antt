@@ -1,7 +1,7 @@
 use Rattle.std.proofs.Common.{sym, subst, ◌<◌, ◌-◌, ◌+◌}
 use Rattle.model.specs.LocalRuns.{OpensToo}
 use Rattle.secondary.specs.State.{SecondaryView}
-use Rattle.secondary_steps.specs.Steps.{plainly, replied}
+use Rattle.secondary_protocol.specs.Steps.{plainly, replied}
 use Rattle.session_nodes.specs.Secondaries.{SecondarySteps}
 use Rattle.session_nodes.proofs.Secondaries.{reopens-over, had-over}
 use Rattle.session_nodes.proofs.peer.Peer.open_again.Goals as goal

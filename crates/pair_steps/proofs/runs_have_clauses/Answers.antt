@@ -1,5 +1,0 @@
-use Rattle.pair_steps.proofs.Clauses.{has-clauses}
-use Rattle.pair_steps.proofs.runs_have_clauses.Goals as goal
-
-pub returns : goal.returns
-returns c = has-clauses

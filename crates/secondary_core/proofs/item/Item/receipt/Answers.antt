@@ -1,5 +1,0 @@
-use Rattle.std.proofs.Common.{rules}
-use Rattle.secondary_core.proofs.item.Item.receipt.Goals as goal
-
-pub returns-in-Write-B : goal.returns-in-Write-B
-returns-in-Write-B c = search rules

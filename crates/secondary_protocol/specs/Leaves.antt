@@ -1,0 +1,92 @@
+-- Which histories leave a secondary's state.
+use Rattle.std.specs.Prelude.{ℕ, zero, suc, ◌-◌, ◌≡◌, ◌<◌, ◌≤◌, nat_le, ◌==◌, true, false, List, [], ◌∷◌, length, drop, map, min, max, Option, Some, None}
+use Rattle.std.specs.Prelude.{slice_get}
+use Rattle.std.specs.List.{list_any}
+use Rattle.model.specs.Stream.{StreamItem, has_blocks, epoch_of, last_epoch, epoch_size, items_of_epoch, barriers_in, number_of, is_in}
+use Rattle.model.specs.Primary.{in_resync}
+use Rattle.model.specs.Secondary.{SecondaryConnection, SecondaryHistory, secondary_connection, items_taken, is_pending, pending}
+use Rattle.model.specs.SecondarySteps.{is_barrier_answer}
+use Rattle.model.specs.Settlement.{applied_items}
+use Rattle.laws.specs.Reflections.{touches}
+use Rattle.peerdisk.specs.Pending.{Pending}
+use Rattle.peerdisk.specs.Blocks.{flags}
+use Rattle.secondary_protocol.specs.Core.{Intake, EndState, SecondaryState}
+
+-- the highest number of a write, 0 where there is none
+abbrev pub highest_in : List StreamItem → ℕ
+highest_in [] = 0
+highest_in (item ∷ items) = max (number_of item) (highest_in items)
+
+-- what is kept of these items, for a device of so many blocks
+abbrev pub intake_of : ℕ → List StreamItem → Intake
+intake_of size items = record {
+  places = length items;
+  highest = highest_in items;
+  barriers = barriers_in items;
+  writes = epoch_size items (last_epoch items);
+  blocks = flags size (λ block. list_any (λ entry. touches entry.1 block) (items_of_epoch items (last_epoch items)));
+  resync = in_resync items;
+}
+
+-- the numbers after this one, so many of them
+abbrev pub numbers_after : ℕ → ℕ → List ℕ
+numbers_after n zero = []
+numbers_after n (suc count) = suc n ∷ numbers_after (suc n) count
+
+-- an item that waits for the disk, with its epoch
+abbrev pub pending_in : List StreamItem → ℕ × StreamItem → Pending StreamItem
+pending_in items entry = record { place = entry.0; epoch = epoch_of items entry.0; item = entry.1 }
+
+-- The open end is what the connection leaves. An epoch that was ended is acknowledged if it is one of the first so many.
+pub record LeavesEnd (e : EndState) (c : SecondaryConnection) : Type 0 where
+  pub is_open : c.closed ≡ false
+  pub plain : c.refused ≡ false
+  pub hello : e.hello ≡ c.hello
+  pub heard : e.heard ≡ min (length c.taken) 3
+  pub said : e.said ≡ min c.pushed 3
+  pub owed : c.pushed - 3 ≤ length c.due
+  pub due : e.due ≡ drop (c.pushed - 3) c.due
+  pub answered : (epoch : ℕ) → 0 < epoch → list_any (is_barrier_answer epoch) c.due ≡ nat_le epoch e.answered
+  pub within : e.answered ≤ barriers_in (items_taken c)
+  pub sizes : e.sizes ≡ map (epoch_size (items_taken c)) (numbers_after e.answered (barriers_in (items_taken c) - e.answered))
+
+-- a closed end, or an open one
+abbrev pub EndLeft : Option EndState → SecondaryConnection → Type 0
+EndLeft None c = c.closed ≡ true
+EndLeft (Some e) c = LeavesEnd e c
+
+-- The disk failed an item of this epoch: one of that epoch is gone, none of an earlier one is, and nothing waits but
+-- items of that epoch.
+pub record LeavesFailed (epoch : ℕ) (c : SecondaryConnection) : Type 0 where
+  pub place : ℕ
+  pub item : StreamItem
+  pub at : slice_get (items_taken c) place ≡ Some item
+  pub has_blocks : has_blocks item ≡ true
+  pub gone : list_any (λ k. k == place) c.gone ≡ true
+  pub epoch_is : epoch_of (items_taken c) place ≡ epoch
+  pub later : (other : ℕ) → list_any (λ k. k == other) c.gone ≡ true → epoch ≤ epoch_of (items_taken c) other
+  pub waiting : (other : ℕ) (one : StreamItem) → slice_get (items_taken c) other ≡ Some one → is_pending c (other, one) ≡ true
+      → epoch_of (items_taken c) other ≡ epoch
+  pub closed : c.closed ≡ true
+
+-- no item failed, or one of this epoch
+abbrev pub FailedLeft : Option ℕ → SecondaryConnection → Type 0
+FailedLeft None c = c.gone ≡ []
+FailedLeft (Some epoch) c = LeavesFailed epoch c
+
+-- The state is what the last connection leaves, at a device of so many blocks. The part applied names only places that were taken.
+pub record LeavesLast (size : ℕ) (s : SecondaryState) (c : SecondaryConnection) : Type 0 where
+  pub number : s.number ≡ c.number
+  pub intake : s.intake ≡ intake_of size (items_taken c)
+  pub named : (place offset : ℕ) → is_in c.applied place offset ≡ true → place < length (items_taken c)
+  pub pending : s.pending ≡ map (pending_in (items_taken c)) (pending c)
+  pub applied : s.items_applied ≡ applied_items c
+  pub failed : FailedLeft s.failed c
+  pub end : EndLeft s.end c
+
+-- the state is what the history leaves
+pub record Leaves (s : SecondaryState) (h : SecondaryHistory) : Type 0 where
+  pub settings : s.settings ≡ h.settings
+  pub tuple : s.tuple ≡ h.tuple
+  pub consistent : s.consistent ≡ h.consistent
+  pub last : LeavesLast h.settings.blocks s (secondary_connection h)
