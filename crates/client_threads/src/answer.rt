@@ -27,15 +27,15 @@ struct Pending {
 pub(crate) fn answer<R: Wait + Clock>(
     rt: &R,
     service: &Service,
-    mirror: &impl Device,
+    device: &impl Device,
     job: Job,
     receipts: &mut Vec<Receipt>,
 ) {
     let mut begun = Vec::new(service.alloc);
     let mut answered = Vec::new(service.alloc);
-    let first = begin(rt, service, mirror, job);
+    let first = begin(rt, service, device, job);
     if begun.try_reserve(TOGETHER).is_err() || answered.try_reserve(TOGETHER).is_err() {
-        release(rt, &end(rt, service, mirror, first, receipts));
+        release(rt, &end(rt, service, device, first, receipts));
         return;
     }
     // There is room for all that is pushed here.
@@ -44,23 +44,23 @@ pub(crate) fn answer<R: Wait + Clock>(
         let Ok(job) = service.queue.try_recv(rt) else {
             break;
         };
-        let _ = begun.push(begin(rt, service, mirror, job));
+        let _ = begun.push(begin(rt, service, device, job));
     }
     for pending in begun {
         if pending.syncs {
             release_all(rt, &mut answered);
         }
-        let _ = answered.push(end(rt, service, mirror, pending, receipts));
+        let _ = answered.push(end(rt, service, device, pending, receipts));
     }
     release_all(rt, &mut answered);
 }
 
 // Begins a request.
-fn begin<R: Wait + Clock>(rt: &R, service: &Service, mirror: &impl Device, job: Job) -> Pending {
+fn begin<R: Wait + Clock>(rt: &R, service: &Service, device: &impl Device, job: Job) -> Pending {
     let Job { request, client } = job;
     let syncs = request.fua || request.command == Command::Flush;
     Pending {
-        under_way: service.requests.begin(rt, mirror, request),
+        under_way: service.requests.begin(rt, device, request),
         client,
         syncs,
     }
@@ -70,7 +70,7 @@ fn begin<R: Wait + Clock>(rt: &R, service: &Service, mirror: &impl Device, job: 
 fn end<R: Wait + Clock>(
     rt: &R,
     service: &Service,
-    mirror: &impl Device,
+    device: &impl Device,
     pending: Pending,
     receipts: &mut Vec<Receipt>,
 ) -> Arc<Client, Global> {
@@ -79,7 +79,7 @@ fn end<R: Wait + Clock>(
         client,
         ..
     } = pending;
-    let (request, done) = service.requests.end(rt, mirror, under_way, receipts);
+    let (request, done) = service.requests.end(rt, device, under_way, receipts);
     match done {
         Ok(data) => client.reply(rt, &request.reply(None), data.as_slice()),
         Err(errno) => client.reply(rt, &request.reply(Some(errno)), &[]),

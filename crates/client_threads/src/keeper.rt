@@ -19,7 +19,7 @@ const LOOKS_A_SECOND: u64 = 50;
 pub(crate) fn keep<R: Wait + Clock>(
     rt: &R,
     service: &Service,
-    mirror: &impl Device,
+    device: &impl Device,
     cut_every: Option<u32>,
     over: &AtomicBool,
 ) {
@@ -33,16 +33,16 @@ pub(crate) fn keep<R: Wait + Clock>(
         if let Some(seconds) = cut_every
             && looks >= u64::from(seconds).saturating_mul(LOOKS_A_SECOND)
         {
-            mirror.cut();
+            device.cut();
             looks = 0;
         }
         // An end that is open, or a disk that has items to do, refuses this and changes nothing.
-        if mirror.reconnect(words.0, words.1).is_ok() {
+        if device.reconnect(words.0, words.1).is_ok() {
             words = service.words();
         }
-        most = most_since(most, mirror.marks());
+        most = most_since(most, device.marks());
         if service.reports.is_asked(rt)
-            && let Ok(report) = report(mirror, most)
+            && let Ok(report) = report(device, most)
         {
             service.reports.give(rt, report);
         }
@@ -57,11 +57,11 @@ fn most_since(most: u32, marks: u32) -> u32 {
 }
 
 // What the session tells of its nodes. While blocks are marked and the link is up, a resync goes on.
-fn report(mirror: &impl Device, most: u32) -> Result<Report, Refusal> {
-    let (primary, secondary) = mirror.status()?;
+fn report(device: &impl Device, most: u32) -> Result<Report, Refusal> {
+    let (primary, secondary) = device.status()?;
     let resync = if primary.as_str().starts_with("cs:SyncSource ") {
         Some(Resync {
-            left: mirror.marks(),
+            left: device.marks(),
             all: most,
         })
     } else {

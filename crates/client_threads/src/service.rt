@@ -25,7 +25,7 @@ pub struct Service {
     pub(crate) jobs: Sender<Job>,
     pub(crate) queue: Receiver<Job>,
     pub(crate) reports: Reports,
-    /// What clients ask of the mirror.
+    /// What clients ask of the device.
     pub requests: Requests,
     stop: AtomicBool,
     clients: AtomicU32,

@@ -23,22 +23,22 @@ const MOST_RECEIPTS: usize = 1_048_576;
 /// requests that are under way then has at most 8,192 blocks in some 300 ranges.
 const SESSION_WRITES: u64 = 1_000_000;
 
-/// Does the requests of clients over this mirror until the server ends or the session has accepted about a million
+/// Does the requests of clients over this device until the server ends or the session has accepted about a million
 /// writes, and returns the receipts of all their writes. When it returns, both disks are alike and the link has
 /// nothing left to do, or the server ends.
 pub fn work<R: Runtime>(
     rt: &R,
     service: &Service,
-    mirror: &(impl Device + Sync),
+    device: &(impl Device + Sync),
     cut_every: Option<u32>,
 ) -> Result<Vec<Receipt>, Refusal> {
     let over = AtomicBool::new(false);
     let (_, done) = thread::join(
         rt,
-        || { keep(rt, service, mirror, cut_every, &over) },
+        || { keep(rt, service, device, cut_every, &over) },
         || -> Result<Vec<Receipt>, Refusal> {
-            let done = do_requests(rt, service, mirror);
-            rest(rt, service, mirror);
+            let done = do_requests(rt, service, device);
+            rest(rt, service, device);
             over.store(true, Ordering::SeqCst);
             done
         },
@@ -51,14 +51,14 @@ pub fn work<R: Runtime>(
 fn do_requests<R: Runtime>(
     rt: &R,
     service: &Service,
-    mirror: &(impl Device + Sync),
+    device: &(impl Device + Sync),
 ) -> Result<Vec<Receipt>, Refusal> {
     let gathered = Mutex::new(Vec::with_capacity(service.alloc, MOST_RECEIPTS)?);
     let left = thread::map_indices(
         rt,
         service.alloc,
         WORKERS,
-        &|_| -> Vec<Receipt> { do_some(rt, service, mirror, &gathered) },
+        &|_| -> Vec<Receipt> { do_some(rt, service, device, &gathered) },
     )?;
     let mut all = gathered.into_inner();
     for receipts in left {
@@ -72,7 +72,7 @@ fn do_requests<R: Runtime>(
 fn do_some<R: Wait + Clock>(
     rt: &R,
     service: &Service,
-    mirror: &impl Device,
+    device: &impl Device,
     gathered: &Mutex<Vec<Receipt>>,
 ) -> Vec<Receipt> {
     let mut receipts = Vec::new(service.alloc);
@@ -85,7 +85,7 @@ fn do_some<R: Wait + Clock>(
             .recv_timeout(rt, Duration::from_millis(LOOK_MS))
         {
             Ok(job) => {
-                answer(rt, service, mirror, job, &mut receipts);
+                answer(rt, service, device, job, &mut receipts);
                 let _ = gathered.lock(rt).append(&mut receipts);
             }
             Err(_) if service.is_over() && service.clients() == 0 => break,
@@ -96,9 +96,9 @@ fn do_some<R: Wait + Clock>(
 }
 
 // Waits until both disks are alike and the link has nothing left to do, or the server ends and the link is down.
-fn rest<R: Wait + Clock>(rt: &R, service: &Service, mirror: &impl Device) {
+fn rest<R: Wait + Clock>(rt: &R, service: &Service, device: &impl Device) {
     for _ in rt.forever() {
-        if mirror.is_quiet() && (mirror.marks() == 0 || service.is_over()) {
+        if device.is_quiet() && (device.marks() == 0 || service.is_over()) {
             break;
         }
         thread::sleep(rt, Duration::from_millis(LOOK_MS));

@@ -5,6 +5,6 @@ mod plan;
 mod run;
 mod serve;
 
-pub use plan::{byte, words};
+pub use plan::{byte_of_turn, reconnect_words};
 pub use run::{Images, Path, RunOptions, Telling};
 pub use serve::ServeOptions;

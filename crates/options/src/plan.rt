@@ -35,14 +35,14 @@ impl RunOptions {
 }
 
 /// The byte that fills the block which a writer writes in a turn, both counted from 0.
-pub fn byte(writer: u32, turn: u32) -> u8
+pub fn byte_of_turn(writer: u32, turn: u32) -> u8
     ensures { result ≡ (writer + turn + 1) % 256 }
 {
     ((u64::from(writer) + u64::from(turn) + 1) % 256) as u8
 }
 
 /// The words of a reconnect, the first round being 1: the identifiers of its resync and of its loss.
-pub fn words(round: u32) -> (u64, u64)
+pub fn reconnect_words(round: u32) -> (u64, u64)
     ensures { result ≡ (2 * round + 2, 2 * round + 3) }
 {
     let round = u64::from(round);

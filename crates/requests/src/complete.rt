@@ -10,7 +10,7 @@ use primary::Receipt;
 /// Waits for all writes that were begun, one after another, and keeps their receipts. If any fails, the others are waited
 /// for too.
 pub(crate) fn complete_all(
-    mirror: &impl Device,
+    device: &impl Device,
     begun: Vec<Begun>,
     receipts: &mut Vec<Receipt>,
 ) -> Result<(), Errno>
@@ -18,7 +18,7 @@ pub(crate) fn complete_all(
 {
     let mut all = Ok(());
     for write in begun {
-        if let Err(errno) = complete(mirror, write, receipts) {
+        if let Err(errno) = complete(device, write, receipts) {
             all = Err(errno);
         }
     }
@@ -26,10 +26,10 @@ pub(crate) fn complete_all(
 }
 
 // Waits for a write, and keeps its receipt.
-fn complete(mirror: &impl Device, write: Begun, receipts: &mut Vec<Receipt>) -> Result<(), Errno>
+fn complete(device: &impl Device, write: Begun, receipts: &mut Vec<Receipt>) -> Result<(), Errno>
     ensures { OnOk result (HasMore range_of (span_of write ∷ []) receipts.old.items receipts.new.items) }
 {
-    let receipt = match mirror.complete(write) {
+    let receipt = match device.complete(write) {
         Ok(receipt) => receipt,
         Err(refusal) => return Err(errno_of(refusal)),
     };

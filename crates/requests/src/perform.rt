@@ -1,4 +1,4 @@
-//! Reading ranges of a mirror, and beginning to write them, one after another.
+//! Reading ranges of a device, and beginning to write them, one after another.
 ghost use Rattle.std.specs.Prelude.{◌≡◌, ◌*◌, ◌<◌, ◌^◌, ◌∷◌, [], length, vec_len, IfOk, OnOk};
 ghost use Rattle.nbd.specs.Pieces.{pair_of};
 ghost use Rattle.requests.specs.Receipts.{HasMore, span_of};
@@ -16,7 +16,7 @@ use std::time::Clock;
 /// Reads these ranges, which have `count` blocks together.
 pub(crate) fn read(
     alloc: Global,
-    mirror: &impl Device,
+    device: &impl Device,
     ranges: Ranges,
     count: u64,
 ) -> Result<Vec<u8>, Errno>
@@ -25,7 +25,7 @@ pub(crate) fn read(
 {
     let mut data = Vec::new(alloc);
     for range in ranges {
-        let mut bytes = mirror.read(range.first.0, range.count).map_err(errno_of)?;
+        let mut bytes = device.read(range.first.0, range.count).map_err(errno_of)?;
         data.append(&mut bytes).map_err(|_| Errno::NoMemory)?;
     }
     // A reply with more or fewer bytes would spoil all that follow it.
@@ -39,7 +39,7 @@ pub(crate) fn read(
 pub(crate) fn begin_write<R: Wait + Clock>(
     rt: &R,
     requests: &Requests,
-    mirror: &impl Device,
+    device: &impl Device,
     ranges: Ranges,
     payload: Bytes,
     begun: &mut Vec<Begun>,
@@ -49,7 +49,7 @@ pub(crate) fn begin_write<R: Wait + Clock>(
     let mut payload = payload;
     for range in ranges {
         let bytes = front(&mut payload, range.count)?;
-        begin_range(rt, requests, mirror, range, &bytes, begun)?;
+        begin_range(rt, requests, device, range, &bytes, begun)?;
     }
     Ok(())
 }
@@ -58,7 +58,7 @@ pub(crate) fn begin_write<R: Wait + Clock>(
 pub(crate) fn begin_zeroes<R: Wait + Clock>(
     rt: &R,
     requests: &Requests,
-    mirror: &impl Device,
+    device: &impl Device,
     ranges: Ranges,
     begun: &mut Vec<Begun>,
 ) -> Result<(), Errno>
@@ -66,7 +66,7 @@ pub(crate) fn begin_zeroes<R: Wait + Clock>(
 {
     for range in ranges {
         let bytes = zeros(requests.alloc, range.count)?;
-        begin_range(rt, requests, mirror, range, &bytes, begun)?;
+        begin_range(rt, requests, device, range, &bytes, begun)?;
     }
     Ok(())
 }
@@ -75,7 +75,7 @@ pub(crate) fn begin_zeroes<R: Wait + Clock>(
 fn begin_range<R: Wait + Clock>(
     rt: &R,
     requests: &Requests,
-    mirror: &impl Device,
+    device: &impl Device,
     range: Range,
     bytes: &Bytes,
     begun: &mut Vec<Begun>,
@@ -88,7 +88,7 @@ fn begin_range<R: Wait + Clock>(
     if begun.try_reserve(1).is_err() {
         return Err(Errno::NoMemory);
     }
-    let write = match mirror.begin(range.first.0, bytes) {
+    let write = match device.begin(range.first.0, bytes) {
         Ok(write) => write,
         Err(refusal) => return Err(errno_of(refusal)),
     };

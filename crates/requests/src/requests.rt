@@ -1,4 +1,4 @@
-//! Requests over a mirror.
+//! Requests over a device.
 ghost use Rattle.std.specs.Prelude.{◌≡◌, ◌*◌, [], vec_len, IfOk, OnOk};
 ghost use Rattle.nbd.specs.Pieces.{pieces};
 ghost use Rattle.nbd.specs.declared.command.Command.TheVariants as command;
@@ -65,11 +65,11 @@ impl Requests {
 
     /// Begins a request: the writes of a WRITE or WRITE_ZEROES, and nothing of any other command. Whoever has many requests
     /// begins them all, and then ends one after another.
-    pub fn begin<R: Wait + Clock>(&self, rt: &R, mirror: &impl Device, request: Request) -> UnderWay
+    pub fn begin<R: Wait + Clock>(&self, rt: &R, device: &impl Device, request: Request) -> UnderWay
         ensures { result ≡ request }
     {
         let mut begun = Vec::new(self.alloc);
-        let begins = self.begin_writes(rt, mirror, &request, &mut begun);
+        let begins = self.begin_writes(rt, device, &request, &mut begun);
         UnderWay {
             request,
             begun,
@@ -81,13 +81,13 @@ impl Requests {
     /// done once each of its ranges has its receipt, which is appended. With FUA, and for a FLUSH, both images are on
     /// stable storage then, and the peer has all writes that were done before, unless the link is down.
     ///
-    /// `Invalid` (EINVAL) for a range that the mirror refuses and for DISC, which is answered by nothing; `NoMemory` (ENOMEM)
+    /// `Invalid` (EINVAL) for a range that the device refuses and for DISC, which is answered by nothing; `NoMemory` (ENOMEM)
     /// if there is no memory; `InputOutput` (EIO) if a disk or a file failed, or the session has no room left. A part of the
     /// ranges may be written then, and have its receipts.
     pub fn end<R: Wait + Clock>(
         &self,
         rt: &R,
-        mirror: &impl Device,
+        device: &impl Device,
         under_way: UnderWay,
         receipts: &mut Vec<Receipt>,
     ) -> (Request, Result<Vec<u8>, Errno>)
@@ -103,9 +103,9 @@ impl Requests {
             begun,
             begins,
         } = under_way;
-        let completed = complete_all(mirror, begun, receipts);
+        let completed = complete_all(device, begun, receipts);
         let result = match (begins, completed) {
-            (Ok(()), Ok(())) => self.finish(rt, mirror, &request),
+            (Ok(()), Ok(())) => self.finish(rt, device, &request),
             (Err(errno), _) | (_, Err(errno)) => Err(errno),
         };
         (request, result)
@@ -115,7 +115,7 @@ impl Requests {
     fn begin_writes<R: Wait + Clock>(
         &self,
         rt: &R,
-        mirror: &impl Device,
+        device: &impl Device,
         request: &Request,
         begun: &mut Vec<Begun>,
     ) -> Result<(), Errno>
@@ -126,9 +126,9 @@ impl Requests {
             Command::Write => {
                 let ranges = ranges_of(request)?;
                 let payload = request.payload.clone().map_err(|_| Errno::NoMemory)?;
-                begin_write(rt, self, mirror, ranges, payload, begun)
+                begin_write(rt, self, device, ranges, payload, begun)
             }
-            Command::WriteZeroes => begin_zeroes(rt, self, mirror, ranges_of(request)?, begun),
+            Command::WriteZeroes => begin_zeroes(rt, self, device, ranges_of(request)?, begun),
             Command::Read | Command::Flush | Command::Disconnect => Ok(()),
         }
     }
@@ -137,7 +137,7 @@ impl Requests {
     fn finish<R: Wait + Clock>(
         &self,
         rt: &R,
-        mirror: &impl Device,
+        device: &impl Device,
         request: &Request,
     ) -> Result<Vec<u8>, Errno>
         ensures read { request.now.command ≡ command.Read → IfOk result (λ read. vec_len read ≡ request.now.block_count * 4096) }
@@ -145,25 +145,25 @@ impl Requests {
         match request.command {
             Command::Read => {
                 let count = u64::from(request.block_count);
-                return read(self.alloc, mirror, ranges_of(request)?, count);
+                return read(self.alloc, device, ranges_of(request)?, count);
             }
-            Command::Flush => self.sync(rt, mirror)?,
+            Command::Flush => self.sync(rt, device)?,
             Command::Disconnect => return Err(Errno::Invalid),
             Command::Write | Command::WriteZeroes => {}
         }
         if request.fua {
-            self.sync(rt, mirror)?;
+            self.sync(rt, device)?;
         }
         Ok(Vec::new(self.alloc))
     }
 
     // Has both images put on stable storage, once the peer has all that was answered before, unless the link is down. Under
     // protocol C it has that already.
-    fn sync<R: Wait + Clock>(&self, rt: &R, mirror: &impl Device) -> Result<(), Errno> {
+    fn sync<R: Wait + Clock>(&self, rt: &R, device: &impl Device) -> Result<(), Errno> {
         if self.protocol != Protocol::C {
             self.flushes.begin();
             for _ in rt.forever() {
-                if mirror.is_acknowledged() {
+                if device.is_acknowledged() {
                     break;
                 }
                 pause(rt);

@@ -58,7 +58,7 @@ impl Course {
 /// Tells what the options want, until the end. A failed write to `err` is no fault of the run.
 pub(crate) fn tell<R: Wait + Clock, E: Write>(
     rt: &R,
-    mirror: &impl Device,
+    device: &impl Device,
     options: &RunOptions,
     course: &Course,
     err: &mut E,
@@ -68,7 +68,7 @@ pub(crate) fn tell<R: Wait + Clock, E: Write>(
         if course.wait(rt) {
             break;
         }
-        let _ = tell_once(mirror, options, course, err);
+        let _ = tell_once(device, options, course, err);
         has_line = options.telling.progress;
     }
     if has_line {
@@ -77,7 +77,7 @@ pub(crate) fn tell<R: Wait + Clock, E: Write>(
 }
 
 fn tell_once<E: Write>(
-    mirror: &impl Device,
+    device: &impl Device,
     options: &RunOptions,
     course: &Course,
     err: &mut E,
@@ -86,14 +86,14 @@ fn tell_once<E: Write>(
         write!(err, "{EMPTY_LINE}")?;
     }
     if options.telling.status {
-        if let Ok(lines) = mirror.status() {
+        if let Ok(lines) = device.status() {
             tell_status(&lines, err)?;
         }
     }
     if options.telling.progress {
         let completed = course.completed.load(Ordering::SeqCst);
         let all = options.all_writes();
-        let marks = mirror.marks();
+        let marks = device.marks();
         write!(
             err,
             "{completed} of {all} writes are completed, {marks} blocks are out of sync"

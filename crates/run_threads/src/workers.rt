@@ -6,7 +6,7 @@ use crate::telling::{Course, tell};
 use blocks::{BLOCK_BYTES, Refusal};
 use bytes::Bytes;
 use halves::Device;
-use options::{RunOptions, byte, words};
+use options::{RunOptions, byte_of_turn, reconnect_words};
 use primary::Receipt;
 use std::alloc::Global;
 use std::io::Write;
@@ -28,7 +28,7 @@ pub fn work<
 >(
     rt: &R,
     alloc: Global,
-    mirror: &D,
+    device: &D,
     options: &RunOptions,
     err: &mut E,
 ) -> Result<Vec<Receipt>, Refusal>
@@ -37,15 +37,15 @@ pub fn work<
 {
     let course = Course::new();
     if !options.telling.status && !options.telling.progress {
-        return write_and_cut(rt, alloc, mirror, options, &course);
+        return write_and_cut(rt, alloc, device, options, &course);
     }
     let (_, worked) = thread::join(
         rt,
-        || { tell(rt, mirror, options, &course, err) },
+        || { tell(rt, device, options, &course, err) },
         || -> Result<Vec<Receipt>, Refusal>
             requires { IsSend R.row × IsSync R.row × IsSync D.row × (0 < options.now.blocks) }
         {
-            let worked = write_and_cut(rt, alloc, mirror, options, &course);
+            let worked = write_and_cut(rt, alloc, device, options, &course);
             course.end(rt);
             worked
         },
@@ -57,7 +57,7 @@ pub fn work<
 fn write_and_cut<R: Threads + Wait + Clock + Copy + Drop + Send + Sync + 'static, D: Device + Sync>(
     rt: &R,
     alloc: Global,
-    mirror: &D,
+    device: &D,
     options: &RunOptions,
     course: &Course,
 ) -> Result<Vec<Receipt>, Refusal>
@@ -66,21 +66,21 @@ fn write_and_cut<R: Threads + Wait + Clock + Copy + Drop + Send + Sync + 'static
 {
     let (cut, written) = thread::join(
         rt,
-        || -> Result<(), Refusal> { cut_all(rt, mirror, options.cuts) },
+        || -> Result<(), Refusal> { cut_all(rt, device, options.cuts) },
         || -> Result<Vec<Receipt>, Refusal>
             requires { IsSend R.row × IsSync R.row × IsSync D.row × (0 < options.now.blocks) }
-        { write_all(rt, alloc, mirror, options, course) },
+        { write_all(rt, alloc, device, options, course) },
     );
-    rest(rt, mirror);
+    rest(rt, device);
     let receipts = written?;
     cut?;
     Ok(receipts)
 }
 
 // Waits until the link has nothing left to do.
-fn rest<R: Wait + Clock>(rt: &R, mirror: &impl Device) {
+fn rest<R: Wait + Clock>(rt: &R, device: &impl Device) {
     for _ in rt.forever() {
-        if mirror.is_quiet() {
+        if device.is_quiet() {
             break;
         }
         thread::sleep(rt, Duration::from_millis(PAUSE_MS));
@@ -91,7 +91,7 @@ fn rest<R: Wait + Clock>(rt: &R, mirror: &impl Device) {
 fn write_all<R: Threads + Wait + Clock + Copy + Drop + Send + Sync + 'static>(
     rt: &R,
     alloc: Global,
-    mirror: &(impl Device + Sync),
+    device: &(impl Device + Sync),
     options: &RunOptions,
     course: &Course,
 ) -> Result<Vec<Receipt>, Refusal>
@@ -103,7 +103,7 @@ fn write_all<R: Threads + Wait + Clock + Copy + Drop + Send + Sync + 'static>(
         alloc,
         options.writers as usize,
         &|writer| -> Result<Vec<Receipt>, Refusal> {
-            write_turns(alloc, mirror, options, writer as u32, course)
+            write_turns(alloc, device, options, writer as u32, course)
         },
     )?;
     let mut all = Vec::new(alloc);
@@ -120,7 +120,7 @@ fn write_all<R: Threads + Wait + Clock + Copy + Drop + Send + Sync + 'static>(
 // Makes the writes of one writer, one after another.
 fn write_turns(
     alloc: Global,
-    mirror: &impl Device,
+    device: &impl Device,
     options: &RunOptions,
     writer: u32,
     course: &Course,
@@ -130,28 +130,28 @@ fn write_turns(
 {
     let mut receipts = Vec::with_capacity(alloc, options.writes as usize)?;
     for turn in 0..options.writes {
-        let bytes = Bytes::copy_from_slice(alloc, &[byte(writer, turn); BLOCK_BYTES])?;
-        receipts.push(mirror.write(options.block(writer, turn), &bytes)?)?;
+        let bytes = Bytes::copy_from_slice(alloc, &[byte_of_turn(writer, turn); BLOCK_BYTES])?;
+        receipts.push(device.write(options.block(writer, turn), &bytes)?)?;
         course.count();
     }
     Ok(receipts)
 }
 
 // Cuts the link and reconnects it, `cuts` times.
-fn cut_all<R: Wait + Clock>(rt: &R, mirror: &impl Device, cuts: u32) -> Result<(), Refusal> {
+fn cut_all<R: Wait + Clock>(rt: &R, device: &impl Device, cuts: u32) -> Result<(), Refusal> {
     for round in 1..=cuts {
-        mirror.cut();
-        reconnect(rt, mirror, round)?;
+        device.cut();
+        reconnect(rt, device, round)?;
         thread::sleep(rt, Duration::from_millis(PAUSE_MS));
     }
     Ok(())
 }
 
 // Reconnects once the secondary's disk has done its items.
-fn reconnect<R: Wait + Clock>(rt: &R, mirror: &impl Device, round: u32) -> Result<(), Refusal> {
-    let (sync, loss) = words(round);
+fn reconnect<R: Wait + Clock>(rt: &R, device: &impl Device, round: u32) -> Result<(), Refusal> {
+    let (sync, loss) = reconnect_words(round);
     for _ in rt.forever() {
-        match mirror.reconnect(sync, loss) {
+        match device.reconnect(sync, loss) {
             Err(Refusal::NotDrained) => thread::sleep(rt, Duration::from_millis(PAUSE_MS)),
             Err(refusal) => return Err(refusal),
             Ok(_) => return Ok(()),
