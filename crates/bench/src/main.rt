@@ -1,15 +1,13 @@
-//! How fast writes go through the parts, through both nodes and through sessions between threads, and frames through
-//! the packets and a link, each beside a plain copy of the same bytes. What became of them goes to standard output, the
-//! rates go to standard error.
+//! How fast writes go through the parts and through both nodes, and frames through the packets and a link, each beside a
+//! plain copy of the same bytes. What became of them goes to standard output, the rates go to standard error.
 //!
-//! `bench [parts|frames|links|writes|session [COUNT]]`: without words, a little of each. `bench idle SECONDS` leaves a
-//! session alone for so long. `rt run` builds it to be timed; what `rt try` runs is not optimized, and times nothing.
+//! `bench [parts|frames|links|writes [COUNT]]`: without words, a little of each. `rt run` builds it to be timed; what
+//! `rt try` runs is not optimized, and times nothing.
 #![tactic(auto)]
 
 mod frames;
 mod links;
 mod parts;
-mod sessions;
 mod writes;
 
 use std::env;
@@ -28,12 +26,6 @@ const FRAMES: u32 = 500;
 /// Writes through both nodes.
 const WRITES: u32 = 200;
 
-/// Writes of each writer of a session.
-const SESSION_WRITES: u32 = 100;
-
-/// How long a session is left alone, in seconds.
-const IDLE_S: u32 = 1;
-
 fn main(rt: HostRuntime) -> anyhow::Result<()> {
     let words = env::args(&rt)?.collect::<Vec<String>>(rt.alloc())?;
     let count = match words.get(2) {
@@ -45,15 +37,10 @@ fn main(rt: HostRuntime) -> anyhow::Result<()> {
         Some("frames") => frames::measure_all(&rt, count.unwrap_or(ACKNOWLEDGEMENTS)),
         Some("links") => links::measure_all(&rt, &rt, count.unwrap_or(FRAMES)),
         Some("writes") => writes::measure_all(&rt, count.unwrap_or(WRITES)),
-        Some("session") => sessions::measure_all(&rt, rt, count.unwrap_or(SESSION_WRITES)),
-        Some("idle") => sessions::idle(&rt, rt, count.unwrap_or(IDLE_S)),
-        Some(word) => anyhow::bail!(
-            "{word} is not measured: name parts, frames, links, writes, session or idle"
-        ),
-        None => {
-            measure_each(&rt, &rt)?;
-            sessions::measure_all(&rt, rt, SESSION_WRITES)
+        Some(word) => {
+            anyhow::bail!("{word} is not measured: name parts, frames, links or writes")
         }
+        None => measure_each(&rt, &rt),
     }
 }
 

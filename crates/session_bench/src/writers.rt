@@ -1,5 +1,5 @@
 //! The writers of a session that is measured.
-use super::run::Plan;
+use crate::run::Plan;
 use blocks::{BLOCK_BYTES, Refusal};
 use bytes::Bytes;
 use std::alloc::Global;

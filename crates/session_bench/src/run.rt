@@ -2,8 +2,8 @@
 ghost use Rattle.ruled_link.specs.Names as names;
 ghost use Rattle.volume.specs.Links.{AreEndsOf};
 
-use super::measure::{BLOCKS, Report};
-use super::writers::write_all;
+use crate::measure::{BLOCKS, Report};
+use crate::writers::write_all;
 use blocks::{MemStore, Protocol, Refusal, Settings, Tuple};
 use link::{FrameIn, FrameOut};
 use primary::Primary;

@@ -1,13 +1,8 @@
-//! How many writes a second go through a session between threads, and how long a writer waits for its receipt, over
-//! a link and over sockets, beside a loop in one thread that copies the same bytes.
-
-mod measure;
-mod run;
-mod writers;
-
+//! Sessions over a link and over sockets, under each protocol, with few writers and with many.
+use crate::measure::Report;
+use crate::run::{Path, Plan};
+use crate::{measure, run};
 use blocks::Protocol;
-use measure::Report;
-use run::{Path, Plan};
 use std::net::{Net, TcpListener, TcpStream};
 use std::time::Duration;
 use volume::Runtime;
