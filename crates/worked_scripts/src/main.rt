@@ -13,6 +13,8 @@ mod names;
 mod outcome;
 mod program;
 mod stop;
+#[cfg(test)]
+mod tests;
 mod worked_script;
 
 use std::process::ExitCode;
