@@ -1,9 +1,11 @@
-//! Why a script's files cannot be used.
+//! Why a script is not run.
 use std::{fmt, io};
 
-/// Why the files of a script cannot be used, with the script's name.
+/// Why a script is not run, with its name.
 #[derive(Drop)]
 pub(crate) enum Fault<'a> {
+    /// The name is empty, begins with a point or has a slash.
+    NotPlain(&'a str),
     /// The file of this name with this ending cannot be read.
     Unread(&'a str, &'static str, io::Error),
     /// The file `NAME.status` has no number from 0 to 255.
@@ -13,6 +15,7 @@ pub(crate) enum Fault<'a> {
 impl fmt::Display for Fault<'_> {
     fn fmt<W: fmt::Write>(&self, f: &mut fmt::Formatter<W>) -> fmt::Result {
         match self {
+            Fault::NotPlain(name) => write!(f, "{name:?}: not a plain name"),
             Fault::Unread(name, ending, error) => {
                 write!(f, "{name}: {name}.{ending} could not be read: {error}")
             }

@@ -3,18 +3,15 @@
 //! `stdin` and the line `NAME ok` to `stdout`, and raise the count at the end of `stdout`. A script that is to fail also
 //! has `data/NAME.err`, its standard error, and `data/NAME.status`, its exit status.
 //!
-//! The files of the last scripts, `differs_..`, are wrong on purpose: they show how each difference is told. So the stored run
-//! ends with the status 1.
+//! The files of the scripts `differs_..` are wrong on purpose, and after them come a name without files and names that are not
+//! plain: they show how each difference and each fault is told. So the stored run ends with the status 1.
 #![tactic(auto)]
 
 mod difference;
 mod fault;
-mod names;
 mod outcome;
 mod program;
 mod stop;
-#[cfg(test)]
-mod tests;
 mod worked_script;
 
 use std::process::ExitCode;

@@ -1,7 +1,6 @@
 //! The program: the scripts that its standard input names, one after another.
 ghost use Rattle.std.specs.Prelude.{◌≤◌};
 
-use crate::names;
 use crate::stop::Stop;
 use crate::worked_script::WorkedScript;
 use numbers::Status;
@@ -10,8 +9,8 @@ use std::io::{Read, Write};
 use std::rt::Files;
 
 /// Runs the scripts that `input` names, one a line, from files in the current folder. Prints for each script whether its
-/// outcome is as its files expect, and returns the exit status: 0 if all outcomes are; 1 if one is not, a file cannot
-/// be read or the output cannot be written; 2 if there is no name or one that is not plain, and then no script runs.
+/// outcome is as its files expect, and returns the exit status: 0 if all outcomes are; 1 if one is not, a name is not plain, a
+/// file cannot be read or the output cannot be written; 2 if there is no name.
 pub fn run_on<H: Files + AllocGlobal, R: Read, W: Write, E: Write>(
     rt: &H,
     input: &mut R,
@@ -29,7 +28,7 @@ pub fn run_on<H: Files + AllocGlobal, R: Read, W: Write, E: Write>(
     }
 }
 
-/// Reads and checks all names before the first script runs.
+/// Reads all names before the first script runs.
 fn run<H: Files + AllocGlobal, R: Read, W: Write>(
     rt: &H,
     input: &mut R,
@@ -49,7 +48,9 @@ fn run_named<H: Files + AllocGlobal, W: Write>(
     let Ok(text) = std::str::from_utf8(names) else {
         return Err(Stop::NotUtf8);
     };
-    names::check(text)?;
+    if text.is_empty() {
+        return Err(Stop::NoNames);
+    }
     run_each(rt, text, out).map_err(Stop::Unwritten)
 }
 
@@ -75,7 +76,7 @@ fn run_each<H: Files + AllocGlobal, W: Write>(
     }
 }
 
-/// Runs one script. Prints `NAME ok`, what differs, or which file cannot be used, and returns whether it is ok.
+/// Runs one script. Prints `NAME ok`, what differs, or why it is not run, and returns whether it is ok.
 fn is_as_expected<H: Files + AllocGlobal, W: Write>(
     rt: &H,
     name: &str,

@@ -2,7 +2,7 @@
 use numbers::Status;
 use std::{fmt, io};
 
-/// Why the program stops. A line of standard input is named by its number, from 1.
+/// Why the program stops.
 #[derive(Drop)]
 pub(crate) enum Stop {
     /// The names cannot be read.
@@ -11,8 +11,6 @@ pub(crate) enum Stop {
     NotUtf8,
     /// There is no name.
     NoNames,
-    /// The name is empty, begins with a point or has a slash.
-    NotPlain(usize),
     /// The output cannot be written.
     Unwritten(io::Error),
 }
@@ -21,7 +19,7 @@ impl Stop {
     pub(crate) fn status(&self) -> Status {
         match self {
             Stop::Unread(_) | Stop::Unwritten(_) => Status::Failed,
-            Stop::NotUtf8 | Stop::NoNames | Stop::NotPlain(_) => Status::Misused,
+            Stop::NotUtf8 | Stop::NoNames => Status::Misused,
         }
     }
 }
@@ -32,7 +30,6 @@ impl fmt::Display for Stop {
             Stop::Unread(error) => write!(f, "the names could not be read: {error}"),
             Stop::NotUtf8 => write!(f, "the names are not UTF-8"),
             Stop::NoNames => write!(f, "standard input names no script"),
-            Stop::NotPlain(line) => write!(f, "line {line}: not a plain name"),
             Stop::Unwritten(error) => write!(f, "the output could not be written: {error}"),
         }
     }

@@ -16,11 +16,15 @@ pub(crate) struct WorkedScript {
 
 impl WorkedScript {
     /// Reads `NAME.script` and `NAME.out`, and if they exist `NAME.err` and `NAME.status`. Without `NAME.err` the expected
-    /// standard error is empty, and without `NAME.status` the expected status is 0.
+    /// standard error is empty, and without `NAME.status` the expected status is 0. The name is plain: its files lie in the
+    /// current folder.
     pub(crate) fn read<'a, H: Files + AllocGlobal>(
         rt: &H,
         name: &'a str,
     ) -> Result<WorkedScript, Fault<'a>> {
+        if !is_plain(name) {
+            return Err(Fault::NotPlain(name));
+        }
         let commands = required(rt, name, "script")?;
         let expected = expected(rt, name)?;
         Ok(WorkedScript { commands, expected })
@@ -35,6 +39,11 @@ impl WorkedScript {
     pub(crate) fn expected(&self) -> &Outcome {
         &self.expected
     }
+}
+
+/// Whether the files of a name lie in the current folder, and are not hidden.
+fn is_plain(name: &str) -> bool {
+    !name.is_empty() && !name.starts_with('.') && !name.contains('/')
 }
 
 /// The outcome that the files of a script expect.
