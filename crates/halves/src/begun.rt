@@ -1,5 +1,5 @@
 //! A write between its acceptance and its receipt.
-ghost use Rattle.std.specs.Prelude.{◌≡◌, ◌*◌, ◌%◌, length, OnErr, OnOk, IfErr};
+ghost use Rattle.std.specs.Prelude.{◌≡◌, ◌*◌, ◌%◌, length, OnErr, IfErr, IfOk};
 ghost use Rattle.blocks.specs.declared.refusal.Refusal.TheVariants.{UnknownJob};
 
 use blocks::{BLOCK_BYTES, Refusal};
@@ -44,14 +44,15 @@ impl Begun {
         self.number
     }
 
-    /// `UnknownJob` (16) if the receipt is of other blocks than were written.
-    pub fn check(&self, receipt: &Receipt) -> Result<(), Refusal>
-        ensures own { OnOk result ((receipt.now.first ≡ self.now.first) × (receipt.now.count ≡ self.now.count)) }
-        ensures other { OnErr result ((receipt.now.first ≡ self.now.first) × (receipt.now.count ≡ self.now.count) → ⊥) }
+    /// Ends the write with this receipt, and returns the receipt. `UnknownJob` (16) if it is of other blocks than were
+    /// written.
+    pub fn end(self, receipt: Receipt) -> Result<Receipt, Refusal>
+        ensures own { IfOk result (λ ended. (ended ≡ receipt) × ((ended.first ≡ self.first) × (ended.count ≡ self.count))) }
+        ensures other { OnErr result ((receipt.first ≡ self.first) × (receipt.count ≡ self.count) → ⊥) }
         ensures refused { IfErr result (λ refusal. refusal ≡ UnknownJob) }
     {
         if receipt.first().0 == self.first && receipt.count() == self.count {
-            Ok(())
+            Ok(receipt)
         } else {
             Err(Refusal::UnknownJob)
         }

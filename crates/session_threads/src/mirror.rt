@@ -33,8 +33,7 @@ impl<R: Wait + Clock, A: PrimaryHalf, B: SecondaryHalf> Device for Mirror<R, A, 
 
     fn complete(&self, begun: Begun) -> Result<Receipt, Refusal> {
         let receipt = self.completed(begun.number())?;
-        begun.check(&receipt)?;
-        Ok(receipt)
+        begun.end(receipt)
     }
 
     fn read(&self, first: u64, count: u64) -> Result<Vec<u8>, Refusal> {
