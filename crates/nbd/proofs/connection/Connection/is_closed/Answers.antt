@@ -1,0 +1,6 @@
+use Rattle.std.proofs.Common.{rules, arith}
+use Rattle.std.proofs.lemmas.Grind.{common_steps}
+use Rattle.nbd.proofs.connection.Connection.is_closed.Goals as goal
+
+pub returns-in_default : goal.returns-in_default
+returns-in_default c = search rules

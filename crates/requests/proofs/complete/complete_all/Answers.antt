@@ -1,0 +1,6 @@
+use Rattle.std.proofs.Common.{rules, arith}
+use Rattle.std.proofs.lemmas.Grind.{common_steps}
+use Rattle.requests.proofs.complete.complete_all.Goals as goal
+
+pub loop-write-preserved : goal.loop-write-preserved
+loop-write-preserved g c = grind (arith, common_steps)

@@ -1,0 +1,5 @@
+use Rattle.std.proofs.Common.{rules}
+use Rattle.resync.proofs.under_way.Resync.end.Goals as goal
+
+pub returns : goal.returns
+returns c = search rules

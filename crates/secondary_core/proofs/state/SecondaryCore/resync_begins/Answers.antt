@@ -1,0 +1,5 @@
+use Rattle.std.proofs.Common.{rules}
+use Rattle.secondary_core.proofs.state.SecondaryCore.resync_begins.Goals as goal
+
+pub returns : goal.returns
+returns c = search rules
