@@ -16,7 +16,7 @@ pub record ActivityState : Type 0 where
 abbrev pub is_active : ℕ → List Active → Bool
 is_active extent active = list_any (λ a. extent == a.extent) active
 
--- how many unreleased writes the extent has: none, where it is not active
+-- how many unreleased writes the extent has: none if it is not active
 abbrev pub writes_of : ℕ → List Active → ℕ
 writes_of extent [] = 0
 writes_of extent (a ∷ active) = if extent == a.extent then a.writes else writes_of extent active
@@ -53,7 +53,7 @@ staying extent s =
 abbrev pub begun : ℕ → ActivityState → ActivityState
 begun extent s = record s { active = record { extent = extent; writes = writes_of extent s.active + 1 } ∷ staying extent s }
 
--- the active extents with one unreleased write less of this one
+-- the active extents, with one unreleased write fewer in this one
 abbrev pub one_less : ℕ → List Active → List Active
 one_less extent [] = []
 one_less extent (a ∷ active) = if extent == a.extent then record a { writes = a.writes - 1 } ∷ active else a ∷ one_less extent active

@@ -2,7 +2,7 @@
 use Rattle.std.specs.Prelude.{ℕ, ◌==◌, List, [], ◌∷◌, map, Option, Some, None, if◌then◌else◌}
 use Rattle.activitylog.specs.Activity.{Active, has_idle}
 
--- the active extents that stand in the entries
+-- the active extents in the entries
 abbrev pub active_of : List (ℕ × ℕ) → List Active
 active_of entries = map (λ e. record { extent = e.0; writes = e.1 }) entries
 

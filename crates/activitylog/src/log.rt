@@ -12,17 +12,17 @@ use std::alloc::Global;
 use std::marker::Model;
 use std::num::NonZeroUsize;
 
-/// The activity log (DRBD User's Guide, "The activity log"): at most `slots` extents are active, each with
-/// the number of its unreleased writes. Where all slots are taken, the extent that was least recently begun
-/// and has no unreleased write makes room (DRBD's `lru_cache`).
+/// The activity log (DRBD User's Guide, "The activity log"): at most `slots` extents are active, each with the number
+/// of its unreleased writes. If all slots are taken, the least recently begun extent among those with no unreleased
+/// write makes room (DRBD's `lru_cache`).
 ///
-/// `end` takes constant time, and so does `begin`, but where an extent has to make room: then, and in
-/// `can_begin`, it may go over all active extents, 1,024 at most.
+/// `end` takes constant time, and so does `begin` unless an extent has to make room. Then `begin` may go over all
+/// active extents, 1,024 at most, and so may `can_begin`.
 #[derive(Drop)]
 pub struct ActivityLog {
     slots: usize,
-    // The unreleased writes of each active extent. It has room for one more than there are slots: a new
-    // extent comes in before another goes, so that nothing changes where there is no memory.
+    // The number of unreleased writes of each active extent. It has room for one extent above `slots`: a new extent
+    // comes in before another goes, so that nothing changes if there is no memory.
     active: LruCache<u64, u32>,
 }
 
@@ -40,9 +40,9 @@ impl Model for ActivityLog {
 }
 
 impl ActivityLog {
-    /// A log of 1 to 1024 slots, with nothing active.
+    /// Returns a log of 1 to 1024 slots, with nothing active.
     ///
-    /// `NoMemory` (7) comes where there is no memory.
+    /// `NoMemory` (7) if there is no memory.
     pub fn new(alloc: Global, slots: u32) -> Result<ActivityLog, Refusal>
         requires some { 0 < slots }
         requires few { slots ≤ 1024 }
@@ -55,8 +55,8 @@ impl ActivityLog {
         Ok(ActivityLog { slots, active })
     }
 
-    /// Whether a write may begin in the extent: it is active, or a slot is free, or some active extent has
-    /// no unreleased write.
+    /// Returns whether a write may begin in the extent: it is active, or a slot is free, or some active extent has no
+    /// unreleased write.
     pub fn can_begin(&self, extent: Extent) -> bool
         ensures { result ≡ can_begin extent.0 self.now }
     {
@@ -65,11 +65,11 @@ impl ActivityLog {
             || oldest_idle(&self.active).is_some()
     }
 
-    /// A write begins in the extent, which is active from now on until the write is released, and the last
+    /// Begins a write in the extent. The extent is now active, stays so until the write is released, and is the last
     /// to make room for another.
     ///
-    /// `ActivityFull` (4) comes where the extent is not active, no slot is free, and every active extent has
-    /// an unreleased write; else `NoMemory` (7), where there is no memory. Then nothing changes.
+    /// `ActivityFull` (4) if the extent is not active, no slot is free, and every active extent has an unreleased
+    /// write; else `NoMemory` (7) if there is no memory. In both cases nothing changes.
     pub fn begin(&mut self, extent: Extent) -> Result<(), Refusal>
         requires { writes_of extent.0 self.old.active + 1 < 2 ^ 32 }
         ensures begun { OnOk result (self.new ≡ begun extent.0 self.old) }
@@ -92,7 +92,7 @@ impl ActivityLog {
         Ok(())
     }
 
-    /// A write of the extent is released. It takes no memory.
+    /// Records the release of a write of the extent. It takes no memory.
     pub fn end(&mut self, extent: Extent)
         requires { 0 < writes_of extent.0 self.old.active }
         ensures { self.new ≡ ended extent.0 self.old }
@@ -102,14 +102,14 @@ impl ActivityLog {
         }
     }
 
-    /// How many unreleased writes the extent has. It takes constant time.
+    /// Returns how many unreleased writes the extent has. It takes constant time.
     pub fn writes(&self, extent: Extent) -> u32
         ensures { result ≡ writes_of extent.0 self.now.active }
     {
         self.active.peek(&extent.0).copied().unwrap_or(0)
     }
 
-    /// How many extents are active: no more than there are slots.
+    /// Returns how many extents are active: no more than there are slots.
     pub fn active(&self) -> usize
         ensures count { result ≡ length self.now.active }
         ensures few { result ≤ self.now.slots }
@@ -118,8 +118,8 @@ impl ActivityLog {
     }
 }
 
-/// Where the extent is active, it has one more unreleased write and is the most recently begun. Answers
-/// whether it is active.
+/// Counts another unreleased write of the extent and makes it the most recently begun, if it is active. Returns
+/// whether it is.
 fn one_more(active: &mut LruCache<u64, u32>, extent: u64) -> bool
     requires { IfSome (lookup (nat_eq extent) active.old.entries) (λ writes. writes + 1 < 2 ^ 32) }
     ensures { MatchOption (lookup (nat_eq extent) active.old.entries)
@@ -133,7 +133,7 @@ fn one_more(active: &mut LruCache<u64, u32>, extent: u64) -> bool
     true
 }
 
-/// The extent that was least recently begun and has no unreleased write, if there is one.
+/// Returns the least recently begun extent among those with no unreleased write, if there is one.
 fn oldest_idle(active: &LruCache<u64, u32>) -> Option<u64>
     ensures { result ≡ oldest_idle (active_of active.now.entries) }
 {

@@ -1,4 +1,4 @@
-//! A bell: what threads wait on that found nothing to do.
+//! Bells: threads that found nothing to do wait on them.
 #![tactic(auto)]
 
 use std::sync::atomic::{AtomicU64, Ordering};
@@ -6,31 +6,32 @@ use std::sync::{Condvar, Mutex, Wait};
 use std::thread;
 use std::time::{Clock, Duration};
 
-/// How often a thread yields in one wait, as long as the bell does not ring.
+/// How often a thread yields in one wait, unless the bell rings.
 const YIELDS: u32 = 20;
 
-/// How often a thread that found nothing waits so, before it sleeps.
+/// How often a thread that found nothing waits like this before it sleeps.
 const LOOKS: u32 = 3;
 
-/// The longest sleep, as a power of two in milliseconds: 16 ms. (A sleep ends at a ring.)
+/// The longest sleep, as a power of two in milliseconds: 16 ms. A ring ends a sleep.
 const LONGEST_SLEEP: u32 = 4;
 
-/// What threads sleep on until there may be something for them. No promise rests on a ring: each sleep ends by
-/// itself, and whoever wakes looks again.
+/// A bell: threads sleep on it until there may be something for them. Nothing depends on a ring: each sleep ends by
+/// itself, and a thread that wakes looks again.
 #[derive(Drop)]
 pub struct Bell {
     rings: AtomicU64,
     // Threads that look again before they sleep.
     watchers: AtomicU64,
     sleepers: AtomicU64,
-    // 1 from when a sleeper is woken until one is awake or another goes to sleep, so that no ring in between wakes another.
+    // 1 from when a sleeper is woken until one is awake or another goes to sleep, so that no ring in between wakes
+    // another.
     waking: AtomicU64,
     lock: Mutex<()>,
     rung: Condvar,
 }
 
 impl Bell {
-    /// A bell that nobody sleeps on.
+    /// Creates a bell that no thread sleeps on.
     pub fn new() -> Bell {
         Bell {
             rings: AtomicU64::new(0),
@@ -42,19 +43,19 @@ impl Bell {
         }
     }
 
-    /// How often it rang by now. Whoever looks for something to do asks this first, so that no ring is missed
-    /// that comes while it looks.
+    /// Returns how often the bell has rung. A thread asks this before it looks for something to do, so that it misses
+    /// no ring that comes while it looks.
     pub fn rings(&self) -> u64 {
         self.rings.load(Ordering::SeqCst)
     }
 
-    /// Counts a thread that from now on does whatever there is, as long as the bell is used, and waits only when it has
-    /// found nothing.
+    /// Counts a watcher: a thread that from now on does whatever there is, as long as the bell is used, and waits only
+    /// when it has found nothing.
     pub fn watch(&self) {
         self.watchers.fetch_add(1, Ordering::SeqCst);
     }
 
-    /// Wakes one sleeper, unless a watcher is awake, which looks again before it sleeps.
+    /// Wakes one sleeper, unless a watcher is awake: a watcher looks again before it sleeps.
     pub fn ring_one<R: Wait>(&self, rt: &R) {
         self.rings.fetch_add(1, Ordering::SeqCst);
         if self.needs_waking() {
@@ -72,10 +73,9 @@ impl Bell {
         }
     }
 
-    /// Waits a moment, or until it rings. It returns at once if it has rung since it was asked for `rings`. `looks` is
-    /// how often the thread has waited since it last found something: the first waits yield, the later ones sleep, from
-    /// a millisecond up. A thread that yields watches the bell alone, and keeps out of the way of the one that has the
-    /// lock.
+    /// Waits a moment, or until the bell rings. Returns at once if it has rung since `rings` was read. `looks` is how
+    /// often the thread has waited since it last found something: the first waits yield, the later ones sleep, from a
+    /// millisecond up. A thread that yields reads only the bell, and so does not hinder the thread that has the lock.
     pub fn wait<R: Wait + Clock>(&self, rt: &R, rings: u64, looks: u32) {
         if looks < LOOKS {
             self.yield_until_rung(rings);
@@ -83,7 +83,7 @@ impl Bell {
         }
         let power = (looks - LOOKS).min(LONGEST_SLEEP);
         self.sleepers.fetch_add(1, Ordering::SeqCst);
-        // A ring may have come when nobody slept any more. What rang by now is seen below.
+        // A ring may have come when no thread slept any more. A ring that came before now is seen below.
         self.waking.store(0, Ordering::SeqCst);
         let guard = self.lock.lock(rt);
         if self.rings.load(Ordering::SeqCst) == rings {
@@ -94,7 +94,7 @@ impl Bell {
         self.waking.store(0, Ordering::SeqCst);
     }
 
-    // Whether all watchers sleep, and none has been woken since.
+    // Returns whether all watchers sleep and none has been woken since.
     fn needs_waking(&self) -> bool {
         let sleepers = self.sleepers.load(Ordering::SeqCst);
         sleepers > 0
@@ -102,7 +102,7 @@ impl Bell {
             && self.waking.swap(1, Ordering::SeqCst) == 0
     }
 
-    // Yields until it rings, `YIELDS` times at most.
+    // Yields until the bell rings, `YIELDS` times at most.
     fn yield_until_rung(&self, rings: u64) {
         for _ in 0..YIELDS {
             if self.rings() != rings {

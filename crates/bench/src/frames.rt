@@ -1,5 +1,5 @@
-//! How fast a decoder takes a stream of DATA frames in small pieces, beside a plain copy of the same bytes, and
-//! how many acknowledgements a second are encoded and decoded.
+//! The rate at which a decoder takes a stream of DATA frames in small pieces, beside a plain copy of the same bytes,
+//! and the rate at which acknowledgements are encoded and decoded.
 ghost use Rattle.std.specs.Prelude.{◌<◌, ◌≤◌};
 
 use blocks::Block;
@@ -11,10 +11,10 @@ use std::time::{Duration, Instant};
 /// Bytes of a piece, about what one packet of a network carries.
 const PIECE_BYTES: usize = 1400;
 
-/// Bytes of block data in a stream, 64 MiB.
+/// Bytes of block data in a stream: 64 MiB.
 const DATA_BYTES: usize = 64 << 20;
 
-/// A stream of 64 MiB of block data, in frames of `blocks` blocks.
+/// Returns a stream of 64 MiB of block data, in frames of `blocks` blocks.
 fn stream_of(alloc: Global, blocks: usize) -> anyhow::Result<Vec<u8>>
     requires some { 0 < blocks }
     requires few { blocks ≤ 32 }
@@ -34,7 +34,7 @@ fn stream_of(alloc: Global, blocks: usize) -> anyhow::Result<Vec<u8>>
     Ok(stream)
 }
 
-/// Feeds a stream to a decoder, and counts the packets.
+/// Feeds a stream to a decoder in pieces. Returns the number of packets.
 fn decode_pieces(alloc: Global, stream: &[u8]) -> anyhow::Result<u64> {
     let mut decoder = Decoder::new(alloc);
     let mut packets = Vec::new(alloc);
@@ -56,7 +56,7 @@ fn copy_pieces(buffer: &mut Vec<u8>, stream: &[u8]) -> anyhow::Result<()> {
     Ok(())
 }
 
-/// Bytes in a microsecond, which are megabytes in a second; 0 where the clock shows no time.
+/// Returns the bytes in a microsecond, which are megabytes in a second; 0 if the clock shows no time.
 fn rate(bytes: usize, time: Duration) -> u128 {
     match time.as_micros() {
         0 => 0,
@@ -64,7 +64,7 @@ fn rate(bytes: usize, time: Duration) -> u128 {
     }
 }
 
-/// How long it takes to copy a stream. A first copy makes the buffer's memory present.
+/// Returns how long a copy of a stream takes. A first copy makes the buffer's memory present.
 fn time_copy(rt: &HostRuntime, stream: &[u8]) -> anyhow::Result<Duration> {
     let mut buffer = Vec::with_capacity(rt.alloc(), stream.len())?;
     copy_pieces(&mut buffer, stream)?;
@@ -73,7 +73,7 @@ fn time_copy(rt: &HostRuntime, stream: &[u8]) -> anyhow::Result<Duration> {
     Ok(start.elapsed(rt)?)
 }
 
-/// How many packets are decoded from a stream, and how long that takes.
+/// Returns how many packets are decoded from a stream, and how long that takes.
 fn time_decoder(rt: &HostRuntime, stream: &[u8]) -> anyhow::Result<(u64, Duration)> {
     let start = Instant::now(rt)?;
     let count = decode_pieces(rt.alloc(), stream)?;
@@ -96,7 +96,7 @@ fn measure(rt: &HostRuntime, blocks: usize) -> anyhow::Result<()>
     Ok(())
 }
 
-/// So many in a second; 0 where the clock shows no time.
+/// Returns how many there are in a second if `count` took this time; 0 if the clock shows no time.
 fn frequency(count: u32, time: Duration) -> u128 {
     match time.as_micros() {
         0 => 0,
@@ -104,7 +104,7 @@ fn frequency(count: u32, time: Duration) -> u128 {
     }
 }
 
-/// Encodes this number of acknowledgements and decodes each frame, and counts those that are read.
+/// Encodes this number of acknowledgements and decodes each frame. Returns how many were read as acknowledgements.
 fn acknowledge(alloc: Global, acknowledgements: u32) -> anyhow::Result<u32> {
     let mut count: u32 = 0;
     for place in 0..acknowledgements {
@@ -136,7 +136,7 @@ fn measure_acknowledgements(rt: &HostRuntime, acknowledgements: u32) -> anyhow::
     Ok(())
 }
 
-/// Decodes frames of few blocks and of many, and takes this number of acknowledgements through both.
+/// Measures frames of few blocks and of many, and this number of acknowledgements.
 pub(crate) fn measure_all(rt: &HostRuntime, acknowledgements: u32) -> anyhow::Result<()> {
     measure(rt, 1)?;
     measure(rt, 8)?;

@@ -1,5 +1,5 @@
-//! How fast frames of one block, and acknowledgements, go through a link between two threads, and through one
-//! in one thread, beside a plain copy of the bytes of a frame of one block.
+//! The rate of frames of one block, and of acknowledgements, through a link between two threads, and through one in one
+//! thread, beside a plain copy of the bytes of a frame of one block.
 
 mod frames;
 mod measure;
@@ -8,7 +8,7 @@ use crate::links::frames::Sample;
 use std::sync::Wait;
 use std::thread::Threads;
 
-/// Sends this number of frames each way that is measured.
+/// Measures each way of a frame with this number of frames.
 pub(crate) fn measure_all(
     rt: &HostRuntime,
     threads: &(impl Threads + Wait + Sync),

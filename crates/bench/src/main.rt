@@ -1,8 +1,8 @@
-//! How fast writes go through the parts and through both nodes, and frames through the packets and a link, each beside a
-//! plain copy of the same bytes. What became of them goes to standard output, the rates go to standard error.
+//! The rate of writes through the parts and through both nodes, and of frames through the packets and a link, each
+//! beside a plain copy of the same bytes. The counts go to standard output, the rates to standard error.
 //!
-//! `bench [parts|frames|links|writes [COUNT]]`: without words, a little of each. `rt run` builds it to be timed; what
-//! `rt try` runs is not optimized, and times nothing.
+//! `bench [parts|frames|links|writes [COUNT]]`: without words, it measures a little of each. `rt run` builds it to be
+//! timed; what `rt try` runs is not optimized, and times nothing.
 #![tactic(auto)]
 
 mod frames;
@@ -14,7 +14,7 @@ use std::env;
 use std::sync::Wait;
 use std::thread::Threads;
 
-/// Writes through the parts, where it is not told how many.
+/// Writes through the parts, if no COUNT is given.
 const PART_WRITES: u32 = 20_000;
 
 /// Acknowledgements that are encoded and decoded.

@@ -1,5 +1,5 @@
-//! What one write's way through the parts of a primary costs, beside a plain copy of one block that is not
-//! in the cache.
+//! The cost of one write's way through the parts of a primary, beside a plain copy of one block that is not in the
+//! cache.
 ghost use Rattle.std.specs.Prelude.{◌≡◌, ◌<◌, ◌≤◌, ◌*◌, length};
 
 mod way;
@@ -13,11 +13,11 @@ const BLOCK_BYTES: usize = 4096;
 /// Blocks of the buffer that copies are taken from: 256 MiB, several times what a processor's cache holds.
 const SOURCE_BLOCKS: usize = 65_536;
 
-/// From one copied block to the next: odd, so that each block has its turn, and far, so that none is
+/// The distance from one copied block to the next: odd, so that each block has its turn, and far, so that none is
 /// fetched ahead.
 const STRIDE: usize = 20_011;
 
-/// Copies `count` blocks, each from another part of the buffer, and answers the sum of a byte of each.
+/// Copies `count` blocks, each from another part of the buffer. Returns the sum of a byte of each.
 fn copy_blocks(source: &[u8], block: &mut [u8], count: u32) -> u64
     requires source { length source.now ≡ 65536 * 4096 }
     requires block { length block.old ≡ 4096 }
@@ -31,7 +31,7 @@ fn copy_blocks(source: &[u8], block: &mut [u8], count: u32) -> u64
     sum
 }
 
-/// Nanoseconds of each one where `count` took this time; 0 where there is none.
+/// Returns the nanoseconds of each one if `count` took this time; 0 if `count` is 0.
 fn each(time: Duration, count: u32) -> u128 {
     match count {
         0 => 0,
@@ -39,7 +39,7 @@ fn each(time: Duration, count: u32) -> u128 {
     }
 }
 
-/// Copies `count` blocks. Answers the sum of a byte of each, and how long that took.
+/// Copies `count` blocks. Returns the sum of a byte of each, and how long that took.
 fn copied(rt: &HostRuntime, source: &[u8], count: u32) -> anyhow::Result<(u64, Duration)>
     requires { length source.now ≡ 65536 * 4096 }
 {
@@ -49,7 +49,7 @@ fn copied(rt: &HostRuntime, source: &[u8], count: u32) -> anyhow::Result<(u64, D
     Ok((sum, start.elapsed(rt)?))
 }
 
-/// Takes `writes` writes through the parts. Answers how long that took.
+/// Takes `writes` writes through the parts. Returns how long that took.
 fn written(rt: &HostRuntime, way: &mut Way, writes: u32) -> anyhow::Result<Duration> {
     let start = Instant::now(rt)?;
     for _ in 0..writes {
@@ -58,7 +58,7 @@ fn written(rt: &HostRuntime, way: &mut Way, writes: u32) -> anyhow::Result<Durat
     Ok(start.elapsed(rt)?)
 }
 
-/// Takes writes through the parts, and prints what that cost beside these copies of as many blocks.
+/// Takes writes through the parts, and prints what that cost beside `copied`, the copies of as many blocks.
 fn compare(
     rt: &HostRuntime,
     way: &mut Way,

@@ -1,5 +1,5 @@
-//! How many writes a second go through the events of a pair, in one thread, beside a loop that copies the same
-//! bytes as often as the pair must.
+//! The rate of writes through the events of a pair, in one thread, beside a loop that copies the same bytes as often as
+//! the pair must.
 
 mod copies;
 mod image;
@@ -11,16 +11,16 @@ use blocks::Protocol;
 use measure::{Plan, measure};
 use workload::Workload;
 
-/// Blocks of a device that lies in a processor's cache in part, 32 MiB.
+/// Blocks of a device that is in a processor's cache in part: 32 MiB.
 const FEW_BLOCKS: u32 = 8_192;
 
-/// Blocks of a device that does not, 256 MiB.
+/// Blocks of a device that is not: 256 MiB.
 const MANY_BLOCKS: u32 = 65_536;
 
-/// Writes that are in flight at a time.
+/// Writes in flight at a time.
 const FEW_WRITES: u32 = 16;
 
-/// The same, where the link is filled.
+/// Writes in flight at a time that fill the link.
 const MANY_WRITES: u32 = 1_024;
 
 /// Measures a protocol on both devices, with few writes in flight and with many.

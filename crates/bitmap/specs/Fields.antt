@@ -1,4 +1,4 @@
--- What the words and counts of a bitmap say.
+-- The words and counts of a bitmap as marks.
 use Rattle.std.specs.Prelude.{ℕ, zero, suc, ◌≡◌, ◌+◌, ◌/◌, ◌≤◌, Bool, false, List, [], ◌∷◌, length, slice_index}
 use Rattle.bitmap.specs.Marks.{bit_of, count, count_in}
 

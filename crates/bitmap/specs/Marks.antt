@@ -7,12 +7,12 @@ use Rattle.blocks.specs.Ranges.{below}
 abbrev pub marked : List Bool → ℕ → Bool
 marked marks block = unwrap_or (slice_get marks block) false
 
--- the marks from the block `from` on, with those of such blocks too
+-- the marks from the block `from` on, with the blocks of `such` marked too
 abbrev pub marking_from : ℕ → (ℕ → Bool) → List Bool → List Bool
 marking_from from such [] = []
 marking_from from such (mark ∷ marks) = (mark || such from) ∷ marking_from (suc from) such marks
 
--- such blocks are marked too
+-- marks the blocks of `such` too
 abbrev pub marking : (ℕ → Bool) → List Bool → List Bool
 marking such marks = marking_from 0 such marks
 

@@ -1,4 +1,4 @@
-//! Which blocks of a device are marked: those that the peer may lack.
+//! The bitmap of a device: the marked blocks, which the peer may lack.
 #![tactic(auto)]
 
 mod marks;

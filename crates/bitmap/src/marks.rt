@@ -8,15 +8,15 @@ use blocks::{Block, EXTENT_BLOCKS, Extent, Range, Refusal};
 use std::alloc::Global;
 use std::marker::Model;
 
-/// Blocks of a word.
+/// Blocks per word.
 const WORD_BLOCKS: u64 = 64;
 
-/// Which blocks of a device are marked (DRBD's quick-sync bitmap). Proofs see a `bool` for each block.
+/// The marked blocks of a device (DRBD's quick-sync bitmap). Proofs see a `bool` for each block.
 ///
-/// It has its full size from the start, a bit for each block and a count for each extent, and no later
-/// call takes memory. `is_marked`, `clear`, `len` and the counts take constant time, `mark` at most 32
-/// steps; `first_from` passes over an extent without marks, and over 64 blocks without marks, in one step.
-/// Only `mark_all` and `from_marks` go over the whole device.
+/// It has its full size from the start, a bit for each block and a count for each extent, and no later call takes
+/// memory. `is_marked`, `clear`, `len` and the counts take constant time, `mark` at most 32 steps; `first_from`
+/// passes over an extent without marks, and over 64 blocks without marks, in one step. Only `mark_all` and
+/// `from_marks` go over the whole device.
 #[derive(Drop)]
 pub struct Bitmap {
     blocks: u64,
@@ -38,9 +38,9 @@ impl Model for Bitmap {
 }
 
 impl Bitmap {
-    /// The bitmap of a device, with these marks. There are at most 262,144 blocks.
+    /// Returns the bitmap of a device with these marks. There are at most 262,144 blocks.
     ///
-    /// `NoMemory` (7) comes where there is no memory.
+    /// `NoMemory` (7) if there is no memory.
     pub fn from_marks(alloc: Global, marks: &[bool]) -> Result<Bitmap, Refusal>
         requires { length marks.now ≤ 262144 }
         ensures made { IfOk result (λ bitmap. bitmap ≡ marks.now) }
@@ -55,7 +55,7 @@ impl Bitmap {
         Ok(bitmap)
     }
 
-    // The bitmap of `blocks` blocks, none of them marked.
+    // Returns the bitmap of `blocks` blocks, none of them marked.
     fn without_marks(alloc: Global, blocks: u64) -> Result<Bitmap, Refusal>
         requires { blocks ≤ 262144 }
         ensures made { IfOk result (λ bitmap. bitmap ≡ replicate blocks false) }
@@ -71,7 +71,7 @@ impl Bitmap {
         })
     }
 
-    /// How many blocks the device has.
+    /// Returns how many blocks the device has.
     pub fn len(&self) -> u64
         ensures { result ≡ length self.now }
     {
@@ -94,7 +94,7 @@ impl Bitmap {
         self.mark_span(0, blocks);
     }
 
-    /// The block, which lies inside the device, is marked no more. It takes no memory.
+    /// Clears the mark of the block, which lies inside the device. It takes no memory.
     pub fn clear(&mut self, block: Block)
         requires { block.0 < length self.old }
         ensures { self.new ≡ slice_set self.old block.0 false }
@@ -102,7 +102,7 @@ impl Bitmap {
         self.set(block.0, false);
     }
 
-    /// Whether the block is marked. No block past the device's end is.
+    /// Returns whether the block is marked. No block past the device's end is.
     pub fn is_marked(&self, block: Block) -> bool
         ensures { result ≡ marked self.now block.0 }
     {
@@ -110,7 +110,7 @@ impl Bitmap {
             && self.words[(block.0 / WORD_BLOCKS) as usize] >> (block.0 % WORD_BLOCKS) & 1 == 1
     }
 
-    /// The first marked block from this one on.
+    /// Returns the first marked block from this one on.
     pub fn first_from(&self, from: Block) -> Option<Block>
         ensures { option_map (λ b. b.0) result ≡ first_marked from.0 self.now }
     {
@@ -129,22 +129,22 @@ impl Bitmap {
         None
     }
 
-    /// How many blocks are marked.
+    /// Returns how many blocks are marked.
     pub fn count(&self) -> u32
         ensures { result ≡ count self.now }
     {
         self.total
     }
 
-    /// How many blocks of the extent are marked: none of an extent past the device's end.
+    /// Returns how many blocks of the extent are marked: none of an extent past the device's end.
     pub fn count_in(&self, extent: Extent) -> u32
         ensures { result ≡ count_in self.now extent.0 }
     {
         self.counts.get(extent.0 as usize).copied().unwrap_or(0)
     }
 
-    /// The marks, 64 to a word: block `b` is bit `b % 64` of word `b / 64`, and the rest of the last word
-    /// is zero.
+    /// Returns the marks, 64 to a word: block `b` is bit `b % 64` of word `b / 64`, and the rest of the last word is
+    /// zero.
     pub fn words(&self) -> &[u64]
         ensures { IsWords result.now self.now }
     {
@@ -162,7 +162,7 @@ impl Bitmap {
         }
     }
 
-    // Marks the block, or clears it.
+    // Sets the block's mark, or clears it.
     fn set(&mut self, block: u64, mark: bool)
         requires { block < length self.old }
         ensures { self.new ≡ slice_set self.old block mark }

@@ -1,8 +1,8 @@
--- A disk that fails where it is armed.
+-- A disk that fails in the calls for which it is armed.
 use Rattle.std.specs.Prelude.{ℕ, ◌+◌, ◌-◌, ◌==◌, Bool, false, ◌&&◌, List, take, if◌then◌else◌, Option, Some, None, is_none}
 use Rattle.blocks.specs.Contents.{overwritten}
 
--- after `passes` writes that succeed, the next one puts only its first `kept` blocks and fails
+-- after `passes` writes that succeed, the next one writes only its first `kept` blocks and fails
 pub record WriteArming : Type 0 where
   pub passes : ℕ
   pub kept : ℕ
@@ -24,8 +24,8 @@ abbrev pub write_fails : Option WriteArming → Bool
 write_fails None = false
 write_fails (Some arming) = arming.passes == 0
 
--- the disk after a write of these blocks from `first` on: whole where it passes, and else the first of them alone,
--- which is counted, and nothing is armed any more
+-- the disk after a write of these blocks from `first` on: all of them if the write passes; else only the first of them,
+-- the fault is counted, and no fault of a write is armed any more
 abbrev pub written_by : Option WriteArming → ℕ → List (List ℕ) → FaultState → FaultState
 written_by None first blocks s = record s { disk = overwritten s.disk first blocks }
 written_by (Some arming) first blocks s =
@@ -41,7 +41,7 @@ abbrev pub read_fails : Option ℕ → Bool
 read_fails None = false
 read_fails (Some passes) = passes == 0
 
--- the disk after a read: a fault is counted, and nothing is armed any more
+-- the disk after a read: a fault is counted, and then no fault of a read is armed any more
 abbrev pub read_by : Option ℕ → FaultState → FaultState
 read_by None s = s
 read_by (Some passes) s =

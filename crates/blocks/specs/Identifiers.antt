@@ -1,4 +1,4 @@
--- Generation identifiers: when a word is fresh, how a tuple is turned, and the decision over two tuples. After the DRBD
+-- Generation identifiers: when a word is fresh, how a tuple changes, and the decision over two tuples. After the DRBD
 -- User's Guide, "Generation identifiers"; the rules themselves are this project's.
 use Rattle.std.specs.Prelude.{ℕ, nat_lt, ◌==◌, Bool, ◌&&◌, ◌||◌, not, if◌then◌else◌, List, [], ◌∷◌, Result, Ok, Err}
 use Rattle.std.specs.List.{list_any}
@@ -42,7 +42,7 @@ sync_end t = into_history 0 t
 abbrev pub is_historical : ℕ → Tuple → Bool
 is_historical word t = nat_lt 0 word && ((word == t.first_historical) || (word == t.second_historical))
 
--- whether an identifier that is not zero stands in both tuples
+-- whether an identifier that is not zero is in both tuples
 abbrev pub share_identifier : Tuple → Tuple → Bool
 share_identifier a b =
     list_any (λ word. nat_lt 0 word && stands_in word b) (a.current ∷ a.bitmap ∷ a.first_historical ∷ a.second_historical ∷ [])

@@ -1,7 +1,7 @@
 -- Positions of items in the streams of connections.
 use Rattle.std.specs.Prelude.{ℕ, suc, ◌==◌, Bool, ◌&&◌}
 
--- Where an item of a stream stands: the index of its connection among those opened, and its place in the connection's stream.
+-- The position of an item: the index of its connection among those opened, and its place in that connection's stream.
 pub record StreamPosition : Type 0 where
   pub index : ℕ
   pub place : ℕ

@@ -1,4 +1,4 @@
--- The ranges of the settings, and what they are where nothing else is asked for.
+-- The ranges of the settings, and their default values.
 use Rattle.std.specs.Prelude.{◌≤◌, ◌<◌}
 use Rattle.blocks.specs.declared.settings.Settings.{Settings}
 use Rattle.blocks.specs.declared.settings.Protocol.TheVariants.{C}

@@ -10,16 +10,16 @@ pub const BLOCK_BYTES: usize = 4096;
 /// extent of a device may be shorter.
 pub const EXTENT_BLOCKS: u64 = 1024;
 
-/// The most blocks that a device has: 1 GiB (this project's limit).
+/// The most blocks that a device may have: 1 GiB (this project's limit).
 pub const MAX_BLOCKS: u32 = 262_144;
 
-/// The number of a block, from 0. Any number may stand here: whether a device has the block is tested
-/// where it is used.
+/// The number of a block, from 0. Any number is allowed here: whether a device has the block is tested where it is
+/// used.
 #[derive(Clone, Copy, Debug, PartialEq, Eq, PartialOrd, Ord, Hash)]
 pub struct Block(pub u64);
 
 impl Block {
-    /// The extent that the block lies in.
+    /// Returns the extent that the block lies in.
     pub fn extent(self) -> Extent
         ensures { result.0 ≡ self.0 / EXTENT_BLOCKS }
     {

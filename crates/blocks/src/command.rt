@@ -1,7 +1,7 @@
 //! The frames of a link, by name.
 use std::fmt;
 
-/// What a frame says. The names are those of DRBD's `drbd_protocol.h`, without their prefix `P_`.
+/// The command of a frame. The names are those of DRBD's `drbd_protocol.h`, without their prefix `P_`.
 #[derive(Clone, Copy, Debug, PartialEq, Eq)]
 pub enum Command {
     /// A write.

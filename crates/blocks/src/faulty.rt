@@ -1,4 +1,4 @@
-//! A disk that fails where a test wants it to.
+//! A disk that fails in the calls for which a test arms it.
 ghost use Rattle.std.specs.Prelude.{◌≡◌, ◌+◌, ◌*◌, ◌<◌, ◌≤◌, length, slice_get, Option, None, Some, OnOk, OnErr, is_err};
 ghost use Rattle.blocks.specs.Contents.{blocks_of, IsTorn};
 ghost use Rattle.blocks.specs.Faults.{written, write_fails, after_read, read_fails, is_steady};
@@ -8,8 +8,8 @@ use crate::tally::Tally;
 use crate::{BLOCK_BYTES, Block, MemStore, Range, Store, StoreFault};
 use std::marker::Model;
 
-/// A disk in memory that fails only where it is armed, and counts its faults. None of its calls takes
-/// memory.
+/// A disk in memory that fails only in the calls for which it is armed, and counts its faults. None of its calls
+/// takes memory.
 #[derive(Drop)]
 pub struct FaultStore {
     disk: MemStore,
@@ -19,7 +19,7 @@ pub struct FaultStore {
     read_arming: Option<u64>,
 }
 
-/// After `passes` writes that succeed, the next one puts only its first `kept` blocks and fails.
+/// After `passes` writes that succeed, the next one writes only its first `kept` blocks and fails.
 #[derive(Clone, Copy)]
 struct WriteArming {
     passes: u64,
@@ -41,7 +41,7 @@ impl Model for FaultStore {
 }
 
 impl FaultStore {
-    /// A disk that nothing is armed on.
+    /// Returns a disk on which no fault is armed.
     pub fn new(disk: MemStore) -> FaultStore
         ensures { result ≡ record { disk = disk; faults = 0; write_arming = None; read_arming = None } }
     {
@@ -53,7 +53,7 @@ impl FaultStore {
         }
     }
 
-    /// The bytes of a block, where they lie. It is no read, so it never fails.
+    /// Returns the bytes of a block, in the disk's buffer. This is not a read, so it never fails.
     pub fn block(&self, block: Block) -> &[u8]
         requires inside { block.0 < length self.now.disk }
         ensures { slice_get self.now.disk block.0 ≡ Some result.now }
@@ -61,29 +61,29 @@ impl FaultStore {
         self.disk.block(block)
     }
 
-    /// The next write puts only its first `kept` blocks, all if it has fewer, and fails.
+    /// Makes the next write fail: it writes only its first `kept` blocks, all if it has fewer.
     pub fn arm(&mut self, kept: u64)
         ensures { self.new ≡ record self.old { write_arming = Some (record { passes = 0; kept = kept }) } }
     {
         self.arm_after(0, kept);
     }
 
-    /// The next `passes` writes succeed. The one after them puts only its first `kept` blocks, all if it has
-    /// fewer, and fails; the later ones succeed.
+    /// Makes the write after the next `passes` ones fail: it writes only its first `kept` blocks, all if it has
+    /// fewer. The writes before and after it succeed.
     pub fn arm_after(&mut self, passes: u64, kept: u64)
         ensures { self.new ≡ record self.old { write_arming = Some (record { passes = passes; kept = kept }) } }
     {
         self.write_arming = Some(WriteArming { passes, kept });
     }
 
-    /// The next read fails.
+    /// Makes the next read fail.
     pub fn arm_read(&mut self)
         ensures { self.new ≡ record self.old { read_arming = Some 0 } }
     {
         self.arm_read_after(0);
     }
 
-    /// The next `passes` reads succeed. The one after them fails; the later ones succeed.
+    /// Makes the read after the next `passes` ones fail. The reads before and after it succeed.
     pub fn arm_read_after(&mut self, passes: u64)
         ensures { self.new ≡ record self.old { read_arming = Some passes } }
     {

@@ -1,5 +1,5 @@
-//! The words that every layer of the mirror speaks: blocks and ranges of a device, the stores that hold
-//! them, the settings of a pair, refusals, identifiers, and what a step reports.
+//! The types that every layer of the mirror uses: blocks and ranges of a device, the stores that hold them, the
+//! settings of a pair, refusals, identifiers, and what a step reports.
 #![tactic(auto)]
 
 mod block;

@@ -31,8 +31,8 @@ impl Model for MemStore {
 }
 
 impl MemStore {
-    /// A disk of `blocks` blocks, 1 to 262,144, each filled with zeros. `NoMemory` (7) where its buffer
-    /// cannot be had.
+    /// Returns a disk of `blocks` blocks, 1 to 262,144, each filled with zeros. `NoMemory` (7) if its buffer cannot
+    /// be allocated.
     pub fn zeroed(alloc: Global, blocks: u32) -> Result<MemStore, Refusal>
         requires some { 0 < blocks }
         requires few { blocks ≤ 262144 }
@@ -47,8 +47,8 @@ impl MemStore {
         Ok(MemStore { bytes })
     }
 
-    /// The disk that an image holds. `BadSetting` (15) where the image is not 1 to 262,144 whole blocks;
-    /// it is dropped then. It takes no memory.
+    /// Returns the disk that an image holds. `BadSetting` (15) if the image is not 1 to 262,144 whole blocks; then it
+    /// is dropped. It takes no memory.
     pub fn from_image(image: Vec<u8>) -> Result<MemStore, Refusal>
         ensures accepted { IsOk result ↔ IsImage image.items }
         ensures contents { IfOk result (λ s. s ≡ blocks_of 4096 image.items) }
@@ -63,7 +63,7 @@ impl MemStore {
 }
 
 impl MemStore {
-    /// The bytes of a block, where they lie.
+    /// Returns the bytes of a block, in the disk's buffer.
     pub fn block(&self, block: Block) -> &[u8]
         requires inside { block.0 < length self.now }
         ensures { slice_get self.now block.0 ≡ Some result.now }
@@ -117,7 +117,7 @@ impl Store for MemStore {
     }
 }
 
-/// Puts bytes over others, from `at` on.
+/// Overwrites the buffer with these bytes, from `at` on.
 fn put(buffer: &mut [u8], at: usize, bytes: &[u8])
     requires { at + length bytes.now ≤ length buffer.old }
     ensures { buffer.new ≡ take at buffer.old ++ bytes.now ++ drop (at + length bytes.now) buffer.old }
@@ -125,7 +125,7 @@ fn put(buffer: &mut [u8], at: usize, bytes: &[u8])
     buffer[at..at + bytes.len()].copy_from_slice(bytes);
 }
 
-/// Copies bytes out, from `at` on, as many as the buffer holds.
+/// Fills the buffer with the bytes from `at` on.
 fn get(bytes: &[u8], at: usize, buffer: &mut [u8])
     requires { at + length buffer.old ≤ length bytes.now }
     ensures { buffer.new ≡ take (length buffer.old) (drop at bytes.now) }

@@ -4,8 +4,8 @@ ghost use Rattle.std.specs.Prelude.{◌≡◌, Option, None, false};
 use crate::{Block, Command, Refusal};
 use std::fmt;
 
-/// What the primary decides from the two tuples of identifiers, once it has the peer's (this project's
-/// rule, after the DRBD User's Guide, "Generation identifiers").
+/// The primary's decision from the two tuples of identifiers, once it has the peer's (this project's rule, after the
+/// DRBD User's Guide, "Generation identifiers").
 #[derive(Clone, Copy, Debug, PartialEq, Eq)]
 pub enum Decision {
     /// The disks agree.
@@ -26,7 +26,7 @@ impl fmt::Display for Decision {
     }
 }
 
-/// What a step was about.
+/// The subject of a step.
 #[derive(Clone, Copy, Debug, PartialEq, Eq)]
 pub enum What {
     /// Nothing that has a name.
@@ -37,14 +37,14 @@ pub enum What {
     Block(Block, u32),
     /// The peer's identifiers were taken, and this was decided.
     Decided(Decision),
-    /// A frame went over the link; an item of the stream has its place.
+    /// A frame went over the link; it has a place if it is an item of the stream.
     Frame(Command, Option<u32>),
 }
 
-/// What a step did.
+/// The report of a step that was done.
 #[derive(Clone, Copy, Debug, PartialEq, Eq)]
 pub struct Done {
-    /// What it was about.
+    /// Its subject.
     pub what: What,
     /// The number of the write that it completed.
     pub completed: Option<u64>,
@@ -55,7 +55,7 @@ pub struct Done {
 }
 
 impl Done {
-    /// A step that did nothing more than what it was about.
+    /// Returns the report of a step that did nothing beyond its subject.
     pub fn about(what: What) -> Done
         ensures { result ≡ record { what = what; completed = None; barrier = None; synced = false } }
     {
@@ -68,7 +68,7 @@ impl Done {
     }
 }
 
-/// The answer to an event.
+/// The reply to an event.
 #[derive(Clone, Copy, Debug, PartialEq, Eq)]
 pub enum Reply {
     /// The step was done.

@@ -4,7 +4,7 @@ ghost use Rattle.blocks.specs.Positions.{connection_of};
 
 use std::marker::Model;
 
-/// Where an item of a stream stands: its connection, and its place there.
+/// The position of an item: its connection, and its place in the connection's stream.
 #[derive(Clone, Copy, Debug, PartialEq, Eq)]
 pub struct StreamPosition {
     connection: u32,
@@ -25,7 +25,7 @@ impl Model for StreamPosition {
 }
 
 impl StreamPosition {
-    /// The place in the stream of the connection with this number, which is counted from 1.
+    /// Returns the position at this place in the stream of the connection with this number, which is counted from 1.
     pub fn new(connection: u32, place: u32) -> StreamPosition
         requires counted { 0 < connection }
         ensures { result ≡ record { index = connection - 1; place = place } }
@@ -33,14 +33,14 @@ impl StreamPosition {
         StreamPosition { connection, place }
     }
 
-    /// The connection's number, counted from 1.
+    /// Returns the connection's number, counted from 1.
     pub fn connection(self) -> u32
         ensures { result ≡ connection_of self }
     {
         self.connection
     }
 
-    /// The place in the connection's stream, counted from 0.
+    /// Returns the place in the connection's stream, counted from 0.
     pub fn place(self) -> u32
         ensures { result ≡ self.place }
     {

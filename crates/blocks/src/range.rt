@@ -21,10 +21,10 @@ pub struct Range {
 }
 
 impl Range {
-    /// The range of `count` blocks from `first` on, in a device of `blocks` blocks.
+    /// Returns the range of `count` blocks from `first` on, in a device of `blocks` blocks.
     ///
-    /// `BadRange` (1) comes for an empty range, one of more than 32 blocks, one past the device's end, and
-    /// one over two extents (this project's rule). It takes no memory.
+    /// `BadRange` (1) if the range is empty, has more than 32 blocks, goes past the device's end, or covers two
+    /// extents (this project's rule). It takes no memory.
     pub fn new(first: u64, count: u64, blocks: u32) -> Result<Range, Refusal>
         ensures accepted { IsOk result ↔ IsRange blocks first count }
         ensures range { IfOk result (λ r. (r.first.0 ≡ first) × (r.count ≡ count)) }
@@ -43,14 +43,14 @@ impl Range {
         })
     }
 
-    /// Whether the block is one of the range.
+    /// Returns whether the block is one of the range.
     pub fn contains(&self, block: Block) -> bool
         ensures { IsTrue result ↔ ((self.now.first.0 ≤ block.0) × (block.0 < self.now.first.0 + self.now.count)) }
     {
         self.first.0 <= block.0 && block.0 - self.first.0 < self.count
     }
 
-    /// Whether the two ranges share a block.
+    /// Returns whether the two ranges share a block.
     pub fn meets(&self, other: &Range) -> bool
         ensures { result ≡ ranges_meet self.now.first.0 self.now.count other.now.first.0 other.now.count }
     {

@@ -5,7 +5,7 @@ ghost use Rattle.blocks.specs.Numbered.{number_of, is_busy, closes_end};
 use std::alloc::{AllocError, AllocFailed};
 use thiserror::Error;
 
-/// Why a call did nothing, or why an end of a link closed (this project's table).
+/// The reason why a call did nothing, or why an end of a link closed (this project's table).
 #[derive(Clone, Copy, Debug, PartialEq, Eq, Error)]
 pub enum Refusal {
     #[error("not 1 to 32 whole blocks inside the device and one extent, or a fault that keeps too many blocks")]
@@ -75,7 +75,7 @@ pub enum Refusal {
 }
 
 impl Refusal {
-    /// The refusal's number, by which a script names it.
+    /// Returns the refusal's number, by which a script names it.
     pub fn number(&self) -> u8
         ensures { result ≡ number_of self.now }
     {
@@ -115,7 +115,8 @@ impl Refusal {
         }
     }
 
-    /// Whether the same call may be taken later, as the pair goes on: it waits for a write, the link, the disk or the peer.
+    /// Returns whether the same call may succeed later, as the pair goes on: it waits for a write, the link, the disk
+    /// or the peer.
     pub fn is_busy(&self) -> bool
         ensures { result ≡ is_busy self.now }
     {
@@ -133,8 +134,8 @@ impl Refusal {
         )
     }
 
-    /// Whether the end that took the refused frame is closed by it: the frame has a fault, the peer could not have sent it,
-    /// or its hello does not fit.
+    /// Returns whether the refused frame closes the end that took it: the frame has a fault, the peer could not have
+    /// sent it, or its hello does not fit.
     pub fn closes_end(&self) -> bool
         ensures { result ≡ closes_end self.now }
     {

@@ -59,7 +59,7 @@ impl Settings {
         pending: 1024,
     };
 
-    /// Whether each setting is in its range; else `BadSetting` (15). It takes no memory.
+    /// Checks that each setting is in its range. `BadSetting` (15) if one is not. It takes no memory.
     pub fn check(&self) -> Result<(), Refusal>
         ensures accepted { IsOk result ↔ IsInRange self.now }
         ensures refused { IfErr result (λ e. e ≡ BadSetting) }

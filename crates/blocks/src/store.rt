@@ -6,7 +6,7 @@ ghost use Rattle.blocks.specs.declared.block.TheConstants.{BLOCK_BYTES};
 use crate::{Block, Range};
 use std::fmt;
 
-/// A disk failed in a call.
+/// The failure of a disk in a call.
 #[derive(Clone, Copy, Debug, PartialEq, Eq)]
 pub struct StoreFault;
 
@@ -16,8 +16,7 @@ impl fmt::Display for StoreFault {
     }
 }
 
-/// A node's disk: a row of blocks of 4,096 bytes. It keeps what was written, and only its own calls
-/// change it.
+/// A node's disk: a sequence of blocks of 4,096 bytes. It keeps what was written, and only its own calls change it.
 pub trait Store {
     /// What it holds, block by block.
     ghost contents: { Self → List (List ℕ) };
@@ -28,12 +27,12 @@ pub trait Store {
     /// Whether it is known that its calls do not fail.
     ghost steady: { Self → Bool } = { λ _. false };
 
-    /// How many blocks it has.
+    /// Returns how many blocks it has.
     fn blocks(&self) -> u32
         ensures { result ≡ length (contents self.now) };
 
-    /// Writes the bytes to the blocks of the range, and changes no other. A fault leaves each block of the
-    /// range as it was or as it was to be. It takes no memory.
+    /// Writes the bytes to the blocks of the range, and changes no other. A fault leaves each block of the range with
+    /// its old bytes or its new ones. It takes no memory.
     fn write(&mut self, range: Range, bytes: &[u8]) -> Result<(), StoreFault>
         requires inside { range.first.0 + range.count ≤ length (contents self.old) }
         requires whole { length bytes.now ≡ BLOCK_BYTES * range.count }

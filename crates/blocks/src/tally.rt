@@ -4,8 +4,7 @@ ghost use Rattle.std.specs.Borrow.{ftrue};
 
 use std::marker::Model;
 
-/// How often something happened: a store counts its faults so. It takes no bytes, and its calls do nothing when the
-/// program runs.
+/// A count of events, like the faults of a store. It takes no bytes, and its calls do nothing when the program runs.
 #[derive(Drop)]
 pub struct Tally {
     pub ghost count: { ℕ },
@@ -19,14 +18,14 @@ impl Model for Tally {
 unsafe impl Send for Tally {}
 
 impl Tally {
-    /// It has not happened yet.
+    /// Returns a count of 0.
     pub fn new() -> Tally
         ensures { result.count ≡ 0 }
     {
         Tally {}
     }
 
-    /// It happened once more.
+    /// Returns the count that is higher by 1.
     pub fn more(&self) -> Tally
         ensures { result.count ≡ self.now.count + 1 }
     {

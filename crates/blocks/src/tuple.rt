@@ -3,8 +3,7 @@ ghost use Rattle.std.specs.Prelude.{◌≡◌};
 
 use std::fmt;
 
-/// The four generation identifiers of a node's disk (DRBD User's Guide, "Generation identifiers"). Zero
-/// stands for none.
+/// The four generation identifiers of a node's disk (DRBD User's Guide, "Generation identifiers"). Zero means none.
 #[derive(Clone, Copy, Debug, PartialEq, Eq)]
 pub struct Tuple {
     /// The present generation of the data.
@@ -18,7 +17,7 @@ pub struct Tuple {
 }
 
 impl Tuple {
-    /// The tuple of these words, from the newest to the oldest; zero stands for none.
+    /// Returns the tuple of these words, from the newest to the oldest; zero means none.
     pub fn new(current: u64, bitmap: u64, first: u64, second: u64) -> Tuple
         ensures current { result.current ≡ current }
         ensures bitmap { result.bitmap ≡ bitmap }
@@ -34,7 +33,7 @@ impl Tuple {
     }
 }
 
-/// The tuple's four words, parted by commas.
+/// The tuple's four words, separated by commas.
 impl fmt::Display for Tuple {
     fn fmt<W: fmt::Write>(&self, f: &mut fmt::Formatter<W>) -> fmt::Result {
         let Tuple {

@@ -11,14 +11,15 @@ pub record BeginsPushed (taken : List Received) (pushed : List Packet) : Type 0 
   pub each : taken ≡ map (λ p. Ok p) front
   pub begins : IsBeginning front pushed
 
--- Both sides tell each frame as one packet or fault; and where the frames taken begin the frames sent, so do their packets.
+-- Both sides have one packet or fault for each frame; and if the frames taken are a beginning of the frames sent, so
+-- are their packets.
 pub record AreTold (out : PacketSenderState) (inn : PacketReceiverState) : Type 0 where
   pub begins : IsBeginning inn.frames out.frames → BeginsPushed inn.taken out.pushed
   pub pushed : length out.pushed ≡ length out.frames
   pub taken : length inn.taken ≡ length inn.frames
 
--- The connections of an end by their numbers, the present one and those before it. Nothing went on a connection that the end
--- never had.
+-- The connections of an end by their numbers, the present one and those before it. Nothing went on a connection that
+-- the end never had.
 
 -- the packets pushed on an earlier connection, and their frames
 abbrev pub pushed_past : ℕ → List PushedBefore → List Packet
@@ -52,6 +53,6 @@ taken_at number i = if i.number == number then i.taken else taken_past number i.
 abbrev pub came_at : ℕ → PacketReceiverState → List (List ℕ)
 came_at number i = if i.number == number then i.frames else came_past number i.past
 
--- Where the frames taken on a connection begin the frames sent on it, so do their packets.
+-- If the frames taken on a connection are a beginning of the frames sent on it, so are their packets.
 abbrev pub AreToldEverywhere : PacketSenderState → PacketReceiverState → Type 0
 AreToldEverywhere out inn = (number : ℕ) → IsBeginning (came_at number inn) (sent_at number out) → BeginsPushed (taken_at number inn) (pushed_at number out)

@@ -1,4 +1,4 @@
--- A queue is lent from a sending side to a taking side, and comes back.
+-- A queue that a sending side lends to a taking side, and gets back.
 use Rattle.std.specs.Prelude.{ℕ, ◌≡◌, ◌-◌, ◌≤◌, ◌++◌, Option, Some, None, [], length, is_some, IfSome}
 use Rattle.std.specs.Option.{option_map}
 use Rattle.link.specs.Directions.{QueueState}
@@ -19,25 +19,25 @@ empty_handed i = record i { queued = Some []; capacity = None }
 abbrev pub taking_from : QueueState → PacketReceiverState → PacketReceiverState
 taking_from q i = record i { queued = Some q.frames; capacity = Some q.capacity }
 
--- what a sending side and its queue are to each other while it is here
+-- how a sending side and its queue agree while the queue is here
 pub record IsQueueOf (q : QueueState) (o : PacketSenderState) : Type 0 where
   pub frames : o.frames ≡ q.taken ++ q.frames
   pub room : o.room ≡ Some (q.capacity - length q.frames)
   pub waiting : o.waiting ≡ Some (length q.frames)
   pub within : length q.frames ≤ q.capacity
 
--- the queue went out, where it was here
+-- the sending side gave its queue away, if it was here
 pub record GivenOut (queue : Option QueueState) (old new : Option PacketSenderState) : Type 0 where
   pub there : (o : PacketSenderState) → old ≡ Some o → is_some queue ≡ is_some o.waiting
   pub none : old ≡ None → queue ≡ None
   pub whose : (o : PacketSenderState) (q : QueueState) → old ≡ Some o → queue ≡ Some q → IsQueueOf q o
   pub left : new ≡ option_map without_queue old
 
--- it is back
+-- the sending side has its queue back
 abbrev pub LaidBack : QueueState → Option PacketSenderState → Option PacketSenderState → Type 0
 LaidBack q old new = new ≡ option_map (with_queue q) old
 
--- the queue that was taken from went out, where it lay here
+-- the taking side gave the queue away, if it was here
 pub record GivenBack (queue : Option QueueState) (old new : Option PacketReceiverState) : Type 0 where
   pub there : (i : PacketReceiverState) → old ≡ Some i → is_some queue ≡ is_some i.capacity
   pub none : old ≡ None → queue ≡ None
@@ -45,6 +45,6 @@ pub record GivenBack (queue : Option QueueState) (old new : Option PacketReceive
       → (q.taken ≡ i.frames) × ((i.queued ≡ Some q.frames) × (i.capacity ≡ Some q.capacity))
   pub left : new ≡ option_map empty_handed old
 
--- it lies here now
+-- the taking side has the queue now
 abbrev pub LaidIn : QueueState → Option PacketReceiverState → Option PacketReceiverState → Type 0
 LaidIn q old new = new ≡ option_map (taking_from q) old

@@ -16,7 +16,7 @@ use Rattle.model.specs.Frames as frames
 abbrev pub named : Acknowledgement → frames.Acknowledged
 named ack = record { first = ack.first.0; number = ack.number; count = ack.count; place = ack.place }
 
--- a packet, where the bytes of a write are its blocks of 4096 bytes
+-- a packet; the bytes of a write become its blocks of 4096 bytes
 abbrev pub meaning : Packet → frames.Packet
 meaning (packet.Protocol protocol) = ProtocolFrame protocol
 meaning (packet.Sizes blocks) = SizesFrame blocks

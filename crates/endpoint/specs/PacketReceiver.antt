@@ -15,8 +15,8 @@ pub record TakenBefore : Type 0 where
   pub frames : List (List ℕ)
 
 -- The number of the present connection, what was taken on it, the connections before, and whether there is room for the
--- longest frame. Where the link knows: the frames to be taken next, and how many its queue holds where that lies here.
--- Of the frames taken only what is said of both ends speaks.
+-- longest frame. If the link knows them: the frames to be taken next, and how many its queue holds if that is here. The
+-- frames taken matter only to what is said of both ends.
 pub record PacketReceiverState : Type 0 where
   pub number : ℕ
   pub taken : List Received
@@ -26,11 +26,11 @@ pub record PacketReceiverState : Type 0 where
   pub capacity : Option ℕ
   pub frames : List (List ℕ)
 
--- what a frame is received as that was taken after so many others
+-- what a frame is received as that was taken after `taken` others
 abbrev pub received_after : ℕ → List ℕ → Received
 received_after taken frame = received (in_hello (hello_after taken) frame (frame_read frame))
 
--- what frames are received as of which the first was taken after so many others
+-- what frames are received as, the first of them after `taken` others
 abbrev pub received_from : ℕ → List (List ℕ) → List Received
 received_from taken [] = []
 received_from taken (frame ∷ frames) = received_after taken frame ∷ received_from (suc taken) frames
@@ -39,7 +39,7 @@ received_from taken (frame ∷ frames) = received_after taken frame ∷ received
 abbrev pub taken_before : Past → TakenBefore
 taken_before past = record { number = past.number; taken = received_from 0 past.frames; frames = past.frames }
 
--- what a link's end says, as packets and faults
+-- a link's end, as packets and faults
 abbrev pub incoming : InEnd → PacketReceiverState
 incoming s = record {
   number = s.number;
@@ -51,7 +51,7 @@ incoming s = record {
   frames = s.taken;
 }
 
--- this was taken, in a frame, and there is still room for the longest or not
+-- the side after this was taken; these are all frames then, and there is still room for the longest or not
 abbrev pub with_received : Received → List (List ℕ) → Bool → PacketReceiverState → PacketReceiverState
 with_received one frames ready s = record s {
   taken = s.taken ++ one ∷ [];
@@ -60,7 +60,7 @@ with_received one frames ready s = record s {
   frames = frames;
 }
 
--- a connection begins
+-- the side at the beginning of a connection
 abbrev pub taking_anew : ℕ → PacketReceiverState → PacketReceiverState
 taking_anew number s = record s {
   number = number;
@@ -69,6 +69,6 @@ taking_anew number s = record s {
   frames = [];
 }
 
--- the frames taken and then those to be taken are the same row as before, where the link knows them
+-- the frames taken and then those to be taken are the same sequence as before, if the link knows them
 abbrev pub SameRow : PacketReceiverState → PacketReceiverState → Type 0
 SameRow old new = IfSome old.queued (λ before. IfSome new.queued (λ after. new.frames ++ after ≡ old.frames ++ before))

@@ -14,8 +14,8 @@ pub record PushedBefore : Type 0 where
   pub frames : List (List ℕ)
 
 -- The number of the present connection, the packets pushed on it, the connections before, a packet that went in part
--- (as a list of one at most). Where the link knows: how many it can take yet, and how many wait in its queue where that
--- lies here. Of the frames of the packets pushed only what is said of both ends speaks.
+-- (as a list of one at most). If the link knows them: how many more it can take, and how many wait in its queue if that
+-- is here. The frames of the packets pushed matter only to what is said of both ends.
 pub record PacketSenderState : Type 0 where
   pub number : ℕ
   pub pushed : List Packet
@@ -29,7 +29,7 @@ pub record PacketSenderState : Type 0 where
 abbrev pub pushed_before : Past → PushedBefore
 pushed_before past = record { number = past.number; pushed = meant_in past.frames; frames = past.frames }
 
--- what a link's end says, as packets
+-- a link's end, as packets
 abbrev pub outgoing : OutEnd → PacketSenderState
 outgoing s = record {
   number = s.number;
@@ -41,7 +41,7 @@ outgoing s = record {
   frames = s.sent;
 }
 
--- one packet more was pushed, in this frame
+-- the side after another packet was pushed in this frame
 abbrev pub with_pushed : Packet → List ℕ → PacketSenderState → PacketSenderState
 with_pushed packet frame s = record s {
   pushed = s.pushed ++ packet ∷ [];
@@ -51,7 +51,7 @@ with_pushed packet frame s = record s {
   frames = s.frames ++ frame ∷ [];
 }
 
--- a connection begins
+-- the side at the beginning of a connection
 abbrev pub pushing_anew : ℕ → PacketSenderState → PacketSenderState
 pushing_anew number s = record s {
   number = number;
@@ -61,7 +61,8 @@ pushing_anew number s = record s {
   frames = [];
 }
 
--- Whatever went out, or went in part, is the spelling of a packet; and the count is of the frames sent, as far as 64 bits count.
+-- Whatever went out, or went in part, is the spelling of a packet; and the count is that of the frames sent, up to the
+-- greatest number of 64 bits.
 pub record IsOutgoing (count : ℕ) (s : OutEnd) : Type 0 where
   pub sent : AllByRecursion IsSpelled s.sent
   pub past : AllByRecursion (λ before. AllByRecursion IsSpelled before.frames) s.past

@@ -10,15 +10,15 @@ ghost use Rattle.endpoint.specs.PacketSender.{PushedBefore};
 use crate::{PacketReceiver, PacketSender};
 use link::{FrameIn, FrameOut};
 
-/// Where the frames taken begin the frames sent, what was taken is packets, and they begin the packets that
-/// were pushed: on the present connection, and on each that is over. The frames sent are whole, as a reader
-/// cuts them off a row of bytes. It does nothing.
+/// Proof hint: if the frames taken are a prefix of the frames sent, then what was taken is packets, and these are a
+/// prefix of the packets pushed: on the current connection, and on each earlier one. The frames sent are whole, as
+/// a reader cuts them from a byte stream. It does nothing.
 pub fn joined<O: FrameOut, I: FrameIn>(outgoing: &PacketSender<O>, incoming: &PacketReceiver<I>)
     ensures present { AreTold outgoing.now incoming.now }
     ensures past { (i j : ℕ) (taken : TakenBefore) (pushed : PushedBefore)
         → slice_get incoming.now.past i ≡ Some taken → slice_get outgoing.now.past j ≡ Some pushed
         → IsBeginning taken.frames pushed.frames → BeginsPushed taken.taken pushed.pushed }
-    // The same by the numbers of the connections, whichever of them the two ends had.
+    // The same by connection numbers, whichever connections the two ends had.
     ensures everywhere { AreToldEverywhere outgoing.now incoming.now }
     ensures whole { AllByRecursion IsCut outgoing.now.frames }
     ensures whole_before { (j : ℕ) (pushed : PushedBefore)

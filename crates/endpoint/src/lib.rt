@@ -1,5 +1,4 @@
-//! Packets through the ends of a link: the sending side and the taking side of a node, over any
-//! link.
+//! Packets through the ends of a link: the sending side and the receiving side of a node, over any link.
 #![tactic(auto)]
 
 mod ends;

@@ -1,4 +1,4 @@
-//! The taking side.
+//! The receiving side.
 ghost use Rattle.std.specs.Prelude.{◌≡◌, ◌<◌, ◌≤◌, ◌↔◌, [], true, false, min, length, IsErr, OnOk, OnErr, IfOk, IfErr, IfSome};
 ghost use Rattle.packets.specs.Frames.{is_fault};
 ghost use Rattle.packets.specs.Spelling.{IsSpellable};
@@ -17,7 +17,7 @@ use std::marker::Model;
 #[derive(Drop)]
 pub struct PacketReceiver<I: FrameIn> {
     pub(crate) end: I,
-    // How far the peer's hello has come on the present connection.
+    // How far the peer's hello has come on the current connection.
     hello: Hello,
 }
 
@@ -33,7 +33,7 @@ impl<I: FrameIn> Model for PacketReceiver<I> {
 }
 
 impl<I: FrameIn> PacketReceiver<I> {
-    /// Over an end that has taken nothing yet.
+    /// Creates a receiver over an end that has taken nothing yet.
     pub fn new(end: I) -> PacketReceiver<I>
         requires { (I.state end).taken ≡ [] }
         ensures { result ≡ incoming (I.state end) }
@@ -44,7 +44,7 @@ impl<I: FrameIn> PacketReceiver<I> {
         }
     }
 
-    /// The end of the link by itself, and how far the peer's hello has come on the present connection.
+    /// Returns the end of the link, and how far the peer's hello has come on the current connection.
     pub fn into_end(self) -> (I, Hello)
         ensures same { self ≡ incoming (I.state result.0) }
         ensures hello { result.1 ≡ min (length (I.state result.0).taken) 3 }
@@ -52,7 +52,7 @@ impl<I: FrameIn> PacketReceiver<I> {
         (self.end, self.hello)
     }
 
-    /// Over an end through which frames came, as `into_end` gives it.
+    /// Creates a receiver over an end through which frames came, as `into_end` returns it.
     pub fn over(end: I, hello: Hello) -> PacketReceiver<I>
         requires hello { hello ≡ min (length (I.state end).taken) 3 }
         ensures { result ≡ incoming (I.state end) }
@@ -60,7 +60,7 @@ impl<I: FrameIn> PacketReceiver<I> {
         PacketReceiver { end, hello }
     }
 
-    /// Makes room for the longest frame. `NoMemory` (7) where it cannot be had.
+    /// Makes room for the longest frame. `NoMemory` (7) if there is none.
     pub fn ready(&mut self) -> Result<(), Refusal>
         ensures ready { OnOk result (self.new ≡ record self.old { is_ready = true }) }
         ensures unchanged { OnErr result (self.new ≡ self.old) }
@@ -69,10 +69,10 @@ impl<I: FrameIn> PacketReceiver<I> {
         self.end.ready()
     }
 
-    /// Takes the next frame, and gives its packet, or the fault that stands in its place (20 to 23). While
-    /// the hello goes on, a frame of another command than the hello's next one is 21 before its fields are
-    /// judged. `NothingThere` (13) where there is no frame. A packet has a spelling, so its fields are as
-    /// those of a frame have to be. It takes no memory.
+    /// Takes the next frame, and returns its packet, or the fault that was read in its place (20 to 23). During the
+    /// hello, a frame of another command than the hello's next one is 21 before its fields are judged.
+    /// `NothingThere` (13) if there is no frame. A packet can be encoded, so its fields are as those of a frame
+    /// have to be. It takes no memory.
     pub fn take(&mut self) -> Result<Result<Packet, Refusal>, Refusal>
         requires { self.old.is_ready ≡ true }
         ensures taken { IfOk result (λ read.
@@ -81,7 +81,7 @@ impl<I: FrameIn> PacketReceiver<I> {
         ensures faults { IfOk result (λ read. IfErr read (λ e. is_fault e ≡ true)) }
         // A packet without blocks leaves the room for a longer one.
         ensures still_ready { IfOk result (λ read. IfOk read (λ p. has_blocks p ≡ false → self.new.is_ready ≡ true)) }
-        // Where the link knows its queue, there is nothing only where it is empty.
+        // If the link knows its queue, there is no frame exactly if the queue is empty.
         ensures exact { IfSome self.old.queued (λ frames. IsErr result ↔ (frames ≡ [])) }
         ensures row { SameRow self.old self.new }
         ensures refused { IfErr result (λ e. e ≡ NothingThere) }
@@ -93,8 +93,7 @@ impl<I: FrameIn> PacketReceiver<I> {
         Ok(read(frame, expected))
     }
 
-    /// Begins the connection of this number. What is on its way of those before is dropped. It takes no
-    /// memory.
+    /// Begins connection `number`. Drops what is on its way from earlier connections. It takes no memory.
     pub fn restart(&mut self, number: u32)
         requires { self.old.number < number }
         ensures { self.new ≡ record (taking_anew number self.old) {

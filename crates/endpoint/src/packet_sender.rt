@@ -16,7 +16,7 @@ use std::marker::Model;
 #[derive(Drop)]
 pub struct PacketSender<O: FrameOut> {
     pub(crate) end: O,
-    // How many packets were pushed on the present connection, as far as 64 bits count.
+    // How many packets were pushed on the current connection, as far as 64 bits count.
     pub(crate) count: u64,
 }
 
@@ -31,7 +31,7 @@ impl<O: FrameOut> Model for PacketSender<O> {
 }
 
 impl<O: FrameOut> PacketSender<O> {
-    /// Over an end that has sent nothing yet.
+    /// Creates a sender over an end that has sent nothing yet.
     pub fn new(end: O) -> PacketSender<O>
         requires unused { (O.state end).sent ≡ [] }
         requires first { (O.state end).past ≡ [] }
@@ -41,8 +41,8 @@ impl<O: FrameOut> PacketSender<O> {
         PacketSender { end, count: 0 }
     }
 
-    /// The end of the link by itself, and how many packets were pushed on the present connection, as far as 64
-    /// bits count.
+    /// Returns the end of the link, and how many packets were pushed on the current connection, as far as 64 bits
+    /// count.
     pub fn into_end(self) -> (O, u64)
         ensures same { self ≡ outgoing (O.state result.0) }
         ensures spelled { IsOutgoing result.1 (O.state result.0) }
@@ -50,7 +50,7 @@ impl<O: FrameOut> PacketSender<O> {
         (self.end, self.count)
     }
 
-    /// Over an end through which spellings of packets went, as `into_end` gives it.
+    /// Creates a sender over an end through which encoded packets went, as `into_end` returns it.
     pub fn over(end: O, count: u64) -> PacketSender<O>
         requires spelled { IsOutgoing count (O.state end) }
         ensures { result ≡ outgoing (O.state end) }
@@ -58,14 +58,14 @@ impl<O: FrameOut> PacketSender<O> {
         PacketSender { end, count }
     }
 
-    /// Sends a packet. `NoMemory` (7) where a packet with blocks finds no memory for its frame, and then
-    /// `LinkFull` (11), where the link is full. What went of it by then stays on its way, and the next push
-    /// has to be of it.
+    /// Sends a packet. `NoMemory` (7) if a packet with blocks finds no memory for its frame, else `LinkFull` (11)
+    /// if the link is full. The part of it that was sent by then stays on its way, and the next push has to be of
+    /// the same packet.
     pub fn push(&mut self, alloc: Global, packet: Packet) -> Result<(), Refusal>
         requires spellable { IsSpellable packet }
         requires again { IfSome self.old.partly (λ begun. begun ≡ meaning packet ∷ []) }
         ensures pushed { OnOk result (self.new ≡ with_pushed (meaning packet) (spelling packet) self.old) }
-        // Where the link knows its room, it is full only where there is none.
+        // If the link knows its room, it is full exactly if there is none.
         ensures exact { IfSome self.old.room (λ n. n ≡ 0 → IsErr result) }
         ensures full { IfErr result (λ e. e ≡ LinkFull → IfSome self.old.room (λ n. n ≡ 0)) }
         ensures refused { IfErr result (λ e. e ≢ LinkFull → (e ≡ NoMemory) × (has_blocks packet ≡ true)) }
@@ -80,7 +80,7 @@ impl<O: FrameOut> PacketSender<O> {
         Ok(())
     }
 
-    /// Begins the connection of this number. A packet that went in part is given up. It takes no memory.
+    /// Begins connection `number`. Gives up a packet that was sent in part. It takes no memory.
     pub fn restart(&mut self, number: u32)
         requires { self.old.number < number }
         ensures { self.new ≡ record (pushing_anew number self.old) {
@@ -92,7 +92,8 @@ impl<O: FrameOut> PacketSender<O> {
         self.count = 0;
     }
 
-    /// How many packets were pushed on the present connection: 18,446,744,073,709,551,615 where they are more.
+    /// Returns how many packets were pushed on the current connection: 18,446,744,073,709,551,615 if there were
+    /// more.
     pub fn pushed(&self) -> u64
         ensures { result ≡ min (length self.now.pushed) 18446744073709551615 }
     {

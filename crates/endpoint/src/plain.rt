@@ -1,5 +1,5 @@
-//! The ends of a link that stays in one thread: a direction's queue is lent from the sending side to the
-//! taking side for one take. None of this takes memory.
+//! The ends of a link that stays in one thread: a direction's queue is lent from the sending side to the receiving
+//! side for one take. None of this takes memory.
 ghost use Rattle.std.specs.Prelude.{◌≡◌, ◌-◌, ◌≤◌, ◌++◌, [], length, Some, None, is_some, IfSome};
 
 use crate::{PacketReceiver, PacketSender};
@@ -30,7 +30,7 @@ impl PacketSender<PlainOut> {
 }
 
 impl PacketReceiver<PlainIn> {
-    /// Hands out the queue, if it lies here. Until it is back, this side counts as empty.
+    /// Hands out the queue, if it is here. Until it is back, this side counts as empty.
     pub fn give_queue(&mut self) -> Option<Queue>
         ensures there { is_some result ≡ is_some self.old.capacity }
         ensures left { self.new ≡ record self.old { queued = Some []; capacity = None } }

@@ -1,4 +1,4 @@
--- What the fields of a stream's epochs stand for, and what is kept about them.
+-- The fields of a stream's epochs as plain values, and their invariant.
 use Rattle.std.specs.Prelude.{◌-◌, ◌≡◌, ◌<◌, ◌≤◌, true}
 use Rattle.std.specs.VecDeque.{deque_len, deque_capacity}
 use Rattle.epochs.specs.Epochs.{EpochsState, EpochsValue}
@@ -16,12 +16,12 @@ state_of e = record {
   resync = e.resync;
 }
 
--- the fields, with the room for more
+-- the fields as plain values, with the room for more
 abbrev pub value_of : Inside → EpochsValue
 value_of e = record { state = state_of e; spare = deque_capacity e.sizes - deque_len e.sizes }
 
--- Each barrier has a place, and is acknowledged once; the last epoch is not full; where it has an item, there is a place for its
--- barrier, and room for its size.
+-- Each barrier has a place, and is acknowledged once; the last epoch is not full; if it has an item, there is a place
+-- for its barrier, and room for its size.
 pub record IsKept (e : Inside) : Type 0 where
   pub barriers : e.ended ≤ e.places
   pub acknowledged : deque_len e.sizes ≤ e.ended

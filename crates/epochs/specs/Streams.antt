@@ -2,21 +2,22 @@
 use Rattle.std.specs.Prelude.{ℕ, suc, ◌≡◌, ◌<◌, ◌≤◌, ◌==◌, Bool, false, ◌||◌, List, [], ◌∷◌, length, map, All, Option, Some, None, MatchOption}
 use Rattle.epochs.specs.Epochs.{EpochsState, empty, placed, completing, uncounted}
 
--- What a call puts into a stream: a write, by its number; a resync item; a barrier, by its number; a SYNC_UUID or UUIDS.
+-- What a call puts into a stream: a write, by its number; a resync item; a barrier, by its number; a SYNC_UUID or
+-- UUIDS.
 pub data Item : Type 0 where
   WriteItem : (number : ℕ) → Item
   ResyncItem : Item
   BarrierItem : (number : ℕ) → Item
   IdentifiersItem : Item
 
--- The calls that make a stream. Completion is told of a write by its number, and of a resync item by 0.
+-- The calls that make a stream. Completion is reported for a write by its number, and for a resync item by 0.
 pub data Call : Type 0 where
   PlaceWrite : (number : ℕ) → Call
   PlaceResync : Call
   Uuids : Call
   Completed : (number : ℕ) → Call
 
--- An item as it stands in the stream: the place that was answered for it, if one was, and whether its completion was told.
+-- An item in the stream, with the place that was returned for it, if one was, and whether its completion was reported.
 pub data Entry : Type 0 where
   Stands : (item : Item) (place : Option ℕ) (done : Bool) → Entry
 
@@ -32,11 +33,11 @@ is_numbered told ResyncItem = told == 0
 is_numbered told (BarrierItem number) = false
 is_numbered told IdentifiersItem = false
 
--- the item's completion is told
+-- reports the item's completion
 abbrev pub tell : ℕ → Entry → Entry
 tell number (Stands item place done) = Stands item place (is_numbered number item || done)
 
--- whether its completion was told
+-- whether its completion was reported
 abbrev pub is_done : Entry → Bool
 is_done (Stands item place done) = done
 
@@ -45,11 +46,11 @@ abbrev pub with_barrier : Option ℕ → List Entry → List Entry
 with_barrier None stream = stream
 with_barrier (Some number) stream = Stands (BarrierItem number) None false ∷ stream
 
--- the stream after an item for which this place was answered
+-- the stream after an item for which this place was returned
 abbrev pub with_item : Item → ℕ → List Entry → List Entry
 with_item item place stream = Stands item (Some place) false ∷ stream
 
--- what a call makes of a stream
+-- the stream after a call
 abbrev pub called : Call → Made → Made
 called (PlaceWrite number) m =
     let answer = placed number m.state in
@@ -64,7 +65,7 @@ called (Completed number) m =
     let answer = completing number m.state in
     record { state = answer.1; stream = with_barrier answer.0 (map (tell number) m.stream) }
 
--- what calls make of an empty stream, the last call first
+-- the stream that calls make of an empty one, the last call first
 abbrev pub made : ℕ → List Call → Made
 made max_epoch [] = record { state = empty max_epoch; stream = [] }
 made max_epoch (call ∷ before) = called call (made max_epoch before)
@@ -109,26 +110,28 @@ barriers_of (Stands ResyncItem place done ∷ before) = barriers_of before
 barriers_of (Stands (BarrierItem number) place done ∷ before) = suc (barriers_of before)
 barriers_of (Stands IdentifiersItem place done ∷ before) = barriers_of before
 
--- the item's number is the one that comes next: a write's is above those before it, a barrier's is one more than there are
+-- the item's number is the one that comes next: a write's is above those before it, a barrier's is the number of those
+-- before it plus one
 abbrev pub FollowsOn : Item → List Entry → Type 0
 FollowsOn (WriteItem number) before = All (λ earlier. earlier < number) (writes_of before)
 FollowsOn ResyncItem before = Unit {0}
 FollowsOn (BarrierItem number) before = number ≡ suc (barriers_of before)
 FollowsOn IdentifiersItem before = Unit {0}
 
--- An entry as it has to be after those before it: it stands at the place that was answered, its number comes next, and the
--- epoch that goes on with it has no more writes than it may.
+-- A lawful entry after those before it: it is at the place that was returned, its number comes next, and the epoch that
+-- goes on with it has no more writes than it may.
 pub record IsLawfulAfter (max_epoch : ℕ) (item : Item) (place : Option ℕ) (done : Bool) (before : List Entry) : Type 0 where
   pub placed : MatchOption place (Unit {0}) (λ answered. answered ≡ length before)
   pub number : FollowsOn item before
   pub short : length (writes_of (last_epoch (Stands item place done ∷ before))) ≤ max_epoch
 
--- each entry is as it has to be
+-- each entry is lawful
 abbrev pub IsLawful : ℕ → List Entry → Type 0
 IsLawful max_epoch [] = Unit {0}
 IsLawful max_epoch (Stands item place done ∷ before) = IsLawfulAfter max_epoch item place done before × IsLawful max_epoch before
 
--- Every list of calls whose write numbers rise makes a lawful stream, and of no item of its last epoch was completion told.
+-- Every list of calls whose write numbers rise makes a lawful stream, and no item of its last epoch has its completion
+-- reported.
 abbrev pub StreamsAreLawful : Type 0
 StreamsAreLawful = (max_epoch : ℕ) (calls : List Call) → 0 < max_epoch → CallsRise calls
     → IsLawful max_epoch (made max_epoch calls).stream × All (λ e. is_done e ≡ false) (last_epoch (made max_epoch calls).stream)

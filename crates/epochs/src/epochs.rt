@@ -1,4 +1,4 @@
-//! Which place an item of a stream has, and when an epoch ends.
+//! The places of a stream's items, and the ends of its epochs.
 ghost use Rattle.std.specs.Prelude.{◌≡◌, ◌+◌, ◌<◌, ◌≤◌, IsOk, IfOk, IfErr, OnOk, OnErr};
 ghost use Rattle.epochs.specs.Epochs.{acknowledging, completing, empty, is_awaited, placed, unacknowledged, uncounted};
 ghost use Rattle.blocks.specs.declared.refusal.Refusal.TheVariants.{NoMemory};
@@ -8,9 +8,9 @@ use std::alloc::Global;
 use std::collections::VecDeque;
 use std::marker::Model;
 
-/// The places and epochs of one connection's stream (DRBD's write epochs; when one ends is this project's
-/// rule). An epoch has up to `max_epoch` writes; a barrier ends it and stands in the stream itself. Each
-/// call takes constant time, and the memory is four bytes for each epoch that is not acknowledged.
+/// The places and epochs of one connection's stream (DRBD's write epochs; the rule for their ends is this project's).
+/// An epoch has up to `max_epoch` writes; a barrier ends it and is itself an item of the stream. Each call takes
+/// constant time, and the memory is four bytes for each unacknowledged epoch.
 #[derive(Drop)]
 pub struct Epochs {
     max_epoch: u32,
@@ -35,7 +35,7 @@ impl Model for Epochs {
 }
 
 impl Epochs {
-    /// An empty stream, whose epochs have up to `max_epoch` writes, 1 to 20,000.
+    /// Returns an empty stream, whose epochs have up to `max_epoch` writes, 1 to 20,000.
     pub fn new(alloc: Global, max_epoch: u32) -> Epochs
         requires some { 0 < max_epoch }
         requires few { max_epoch ≤ 20000 }
@@ -52,7 +52,7 @@ impl Epochs {
         }
     }
 
-    /// The stream is empty again. It takes no memory.
+    /// Empties the stream. It takes no memory.
     pub fn restart(&mut self)
         ensures { self.new.state ≡ empty self.old.state.max_epoch }
     {
@@ -64,8 +64,8 @@ impl Epochs {
         self.resync = false;
     }
 
-    /// Makes room for the size of one more epoch, so that the next item takes no memory. `NoMemory` (7) where
-    /// it cannot be had.
+    /// Makes room for the size of another epoch, so that the next item takes no memory. `NoMemory` (7) if it cannot
+    /// be allocated.
     pub fn reserve(&mut self) -> Result<(), Refusal>
         ensures same { self.new.state ≡ self.old.state }
         ensures room { OnOk result (0 < self.new.spare) }
@@ -76,11 +76,11 @@ impl Epochs {
         Ok(())
     }
 
-    /// Puts an item into the stream: the write with this number, or for 0 a resync item. Answers its
-    /// place, and the number of the barrier that follows it where the epoch has all its writes now.
+    /// Puts an item into the stream: the write with this number, or for 0 a resync item. Returns its place, and the
+    /// number of the barrier that follows it if the epoch is full now.
     ///
-    /// `NoMemory` (7) where there is no room for the epoch's size, and none can be had; the call makes that
-    /// room, so no later one takes memory.
+    /// `NoMemory` (7) if there is no room for the epoch's size and none can be allocated. The call makes that room,
+    /// so `completed` takes no memory.
     pub fn place(&mut self, number: u64) -> Result<(u32, Option<u32>), Refusal>
         requires room { self.old.state.places < 4294967290 }
         // The numbers of writes rise.
@@ -112,8 +112,7 @@ impl Epochs {
         Ok((place, Some(self.ended)))
     }
 
-    /// Puts a SYNC_UUID or UUIDS item into the stream, which no epoch counts. Answers its place. It takes
-    /// no memory.
+    /// Puts a SYNC_UUID or UUIDS item into the stream, which no epoch counts. Returns its place. It takes no memory.
     pub fn uuids(&mut self) -> u32
         requires { self.old.state.places < 4294967290 }
         ensures { (result, self.new.state) ≡ uncounted self.old.state }
@@ -122,8 +121,8 @@ impl Epochs {
         self.places - 1
     }
 
-    /// The write with this number, or for 0 a resync item, is completed. Where it is in the last epoch,
-    /// that ends: answers its barrier's number. It takes no memory.
+    /// Records that the write with this number, or for 0 a resync item, is completed. If it is in the last epoch,
+    /// ends that epoch and returns its barrier's number. It takes no memory.
     pub fn completed(&mut self, number: u64) -> Option<u32>
         ensures { (result, self.new.state) ≡ completing number self.old.state }
     {
@@ -143,8 +142,7 @@ impl Epochs {
         Some(self.ended)
     }
 
-    /// Whether the number is that of the oldest barrier that is not acknowledged, and the size is its
-    /// epoch's.
+    /// Returns whether the number is that of the oldest unacknowledged barrier, and the size is its epoch's.
     pub fn is_awaited(&self, number: u32, size: u32) -> bool
         ensures { result ≡ is_awaited number size self.now.state }
     {
@@ -152,8 +150,8 @@ impl Epochs {
         oldest && self.sizes.front() == Some(&size)
     }
 
-    /// The peer acknowledged a barrier. `BadBarrierAck` (24) unless the number is that of the oldest
-    /// barrier that is not acknowledged, and the size is its epoch's. It takes no memory.
+    /// Records the peer's acknowledgement of a barrier. `BadBarrierAck` (24) unless the number is that of the oldest
+    /// unacknowledged barrier, and the size is its epoch's. It takes no memory.
     pub fn acknowledge(&mut self, number: u32, size: u32) -> Result<(), Refusal>
         ensures { (result, self.new.state) ≡ acknowledging number size self.old.state }
     {
@@ -164,21 +162,21 @@ impl Epochs {
         Ok(())
     }
 
-    /// The number of the last epoch, from 1.
+    /// Returns the number of the last epoch, counted from 1.
     pub fn last(&self) -> u32
         ensures { result ≡ self.now.state.ended + 1 }
     {
         self.ended + 1
     }
 
-    /// How many epochs with an item are not acknowledged.
+    /// Returns how many epochs with an item are not acknowledged.
     pub fn unacknowledged(&self) -> u64
         ensures { result ≡ unacknowledged self.now.state }
     {
         self.sizes.len() as u64 + u64::from(self.size > 0 || self.resync)
     }
 
-    /// How many items the stream has.
+    /// Returns how many items the stream has.
     pub fn places(&self) -> u32
         ensures { result ≡ self.now.state.places }
     {

@@ -1,4 +1,4 @@
-//! A disk of the program's own: whatever keeps blocks can be a node's disk once it is a `Store`.
+//! A disk of the program's own: whatever keeps blocks can be a node's disk if it is a `Store`.
 ghost use Rattle.std.specs.Prelude.{if◌then◌else◌, is_some};
 
 use blocks::{Block, MemStore, Range, Store, StoreFault};
@@ -8,7 +8,7 @@ use blocks::{Block, MemStore, Range, Store, StoreFault};
 #[derive(Drop)]
 pub(crate) struct LooseDisk {
     pub(crate) disk: MemStore,
-    // How many writes pass before the fault; none once it is over.
+    // How many writes pass before the fault; `None` after it.
     pub(crate) passes: Option<u64>,
 }
 

@@ -1,5 +1,5 @@
 //! How another program uses the crates: two nodes over a link, one of them with a disk of the program's own, ten
-//! writes, a link that is lost, and the resync. It prints how each write was completed.
+//! writes, a lost link, and the resync. It prints how each write was completed.
 #![tactic(auto)]
 
 mod disk;
@@ -20,10 +20,10 @@ use std::sync::Wait;
 /// Protocol C over eight blocks: a write is completed once both disks have it.
 const SETTINGS: Settings = Settings::STANDARD;
 
-/// The longest frames that a direction of the link holds.
+/// How many of the longest frames a direction of the link holds.
 const FRAMES: u32 = 4;
 
-/// The most turns that both nodes may take until they rest.
+/// How many turns both nodes may take at most until they rest.
 const TURNS: u32 = 1_000;
 
 type Local<R> = Primary<RuledOut<R>, RuledIn<R>, MemStore>;
@@ -34,7 +34,7 @@ fn main(rt: HostRuntime) -> anyhow::Result<()> {
     mirrored(&rt, &rt, rt.alloc())
 }
 
-/// Ten writes: the peer gets four before the link is lost, and the others by a resync.
+/// Makes ten writes: the peer gets four before the link is lost, and the others by a resync.
 fn mirrored<R: Wait + Copy + Drop>(out: &impl Print, rt: R, alloc: Global) -> anyhow::Result<()> {
     // Two disks that begin alike have the same generation identifiers.
     let alike = Tuple::new(1, 0, 0, 0);
@@ -47,13 +47,13 @@ fn mirrored<R: Wait + Copy + Drop>(out: &impl Print, rt: R, alloc: Global) -> an
     };
     let mut peer = Peer::<R>::new(alloc, SETTINGS, disk, alike)?;
 
-    // The peer's disk fails the fifth write, and with that its end of the link closes.
+    // The peer's disk fails the fifth write, which closes the peer's end of the link.
     link_up(rt, alloc, &mut local, &mut peer, (2, 3))?;
     fill(alloc, &mut local, 0, 6)?;
     work(&mut local, &mut peer, TURNS)?;
     println!(out; "peer open: {}", peer.is_open())?;
 
-    // The primary's end closes too, which completes what waited for the peer; it goes on alone.
+    // The primary's end closes too, which completes what waited for the peer; the primary goes on alone.
     println!(out; "completed by the close: {}", local.close()?)?;
     fill(alloc, &mut local, 4, 4)?;
     work(&mut local, &mut peer, TURNS)?;
@@ -66,7 +66,7 @@ fn mirrored<R: Wait + Copy + Drop>(out: &impl Print, rt: R, alloc: Global) -> an
     confirmed(out, &mut local)
 }
 
-/// Opens both nodes over a new link. They exchange their hellos, and copy what was marked. Returns whether they rest.
+/// Opens both nodes over a new link, which exchange their hellos and copy the marked blocks. Returns whether they rest.
 fn link_up<R: Wait + Copy + Drop>(
     rt: R,
     alloc: Global,
@@ -79,7 +79,7 @@ fn link_up<R: Wait + Copy + Drop>(
     work(local, peer, TURNS)
 }
 
-/// Submits writes of one block each, from this block on.
+/// Submits `count` writes of one block each, from block `first` on.
 fn fill<R: Wait + Drop>(
     alloc: Global,
     local: &mut Local<R>,

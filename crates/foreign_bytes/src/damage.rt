@@ -11,7 +11,7 @@ const PLACES: usize = 3;
 /// Bytes of a header and the fields behind it, which are damaged more often than a block's contents.
 const FIELDS: usize = 32;
 
-/// The stream, with bytes changed, cut, doubled or swapped at one to three places, if it is to be damaged.
+/// Returns the stream; if it `is_to_be` damaged, with bytes changed, cut, doubled or swapped at one to three places.
 pub(crate) fn damaged<G: Rng>(
     alloc: Global,
     stream: &Vec<u8>,
@@ -35,7 +35,7 @@ pub(crate) fn damaged<G: Rng>(
     Ok(bytes)
 }
 
-// A number below another one; 0 if that is 0.
+// Returns a random number below `limit`; 0 if that is 0.
 fn below<G: Rng>(random: &mut G, limit: usize) -> usize
     ensures { 0 < limit → result < limit }
 {
@@ -45,7 +45,7 @@ fn below<G: Rng>(random: &mut G, limit: usize) -> usize
     (random.next_u64() % limit as u64) as usize
 }
 
-// A place in the stream: half of the time one near the front of a frame.
+// Picks a place in the stream: half of the time one near the front of a frame.
 fn place<G: Rng>(alloc: Global, bytes: &Vec<u8>, random: &mut G) -> Result<usize, AllocError> {
     if below(random, 2) == 0 {
         return Ok(below(random, bytes.len()));
@@ -58,7 +58,7 @@ fn place<G: Rng>(alloc: Global, bytes: &Vec<u8>, random: &mut G) -> Result<usize
     Ok(front.saturating_add(below(random, FIELDS)))
 }
 
-// Where frames begin.
+// Returns the places where frames begin.
 fn fronts(alloc: Global, bytes: &Vec<u8>) -> Result<Vec<usize>, AllocError> {
     let mut fronts = Vec::new(alloc);
     let mut at = 0usize;
@@ -74,7 +74,7 @@ fn fronts(alloc: Global, bytes: &Vec<u8>) -> Result<Vec<usize>, AllocError> {
     Ok(fronts)
 }
 
-// A byte is another one.
+// Flips a bit of the byte at this place.
 fn changed<G: Rng>(bytes: Vec<u8>, at: usize, random: &mut G) -> Vec<u8> {
     let mut bytes = bytes;
     if let Some(byte) = bytes.get_mut(at) {
@@ -83,7 +83,7 @@ fn changed<G: Rng>(bytes: Vec<u8>, at: usize, random: &mut G) -> Vec<u8> {
     bytes
 }
 
-// The bytes without those of a range.
+// Returns the bytes without those of a range.
 fn without(alloc: Global, bytes: &Vec<u8>, at: usize, count: usize) -> Result<Vec<u8>, AllocError> {
     let (front, end) = ends(bytes, at, count);
     let mut rest = Vec::with_capacity(alloc, bytes.len())?;
@@ -92,7 +92,7 @@ fn without(alloc: Global, bytes: &Vec<u8>, at: usize, count: usize) -> Result<Ve
     Ok(rest)
 }
 
-// The bytes with those of a range twice.
+// Returns the bytes with those of a range twice.
 fn doubled(alloc: Global, bytes: &Vec<u8>, at: usize, count: usize) -> Result<Vec<u8>, AllocError> {
     let (front, end) = ends(bytes, at, count);
     let mut more = Vec::with_capacity(alloc, bytes.len())?;
@@ -101,7 +101,7 @@ fn doubled(alloc: Global, bytes: &Vec<u8>, at: usize, count: usize) -> Result<Ve
     Ok(more)
 }
 
-// Two bytes have changed places.
+// Swaps two bytes, if both are inside.
 fn swapped(bytes: Vec<u8>, at: usize, distance: usize) -> Vec<u8> {
     let mut bytes = bytes;
     let other = at.saturating_add(distance);
@@ -111,7 +111,7 @@ fn swapped(bytes: Vec<u8>, at: usize, distance: usize) -> Vec<u8> {
     bytes
 }
 
-// The range, as far as it is inside.
+// Returns the range, as far as it is inside.
 fn ends(bytes: &Vec<u8>, at: usize, count: usize) -> (usize, usize)
     ensures { (result.0 ≤ result.1) × (result.1 ≤ vec_len bytes.now) }
 {

@@ -1,4 +1,4 @@
-//! Feeding a node with a stream through a pump.
+//! Streams that are fed to a node through a pump.
 use crate::nodes::{
     RowEnds, RowLocal, RowPeer, open_local, open_peer, submit, work_local, work_peer,
 };
@@ -11,17 +11,18 @@ use std::sync::Wait;
 use std::sync::atomic::AtomicBool;
 use std::time::Clock;
 
-/// What came of a stream.
+/// The outcome of a stream.
 #[derive(Clone, Copy, Debug, PartialEq, Eq)]
 pub(crate) struct Fed {
-    /// How many frames were taken, the refused one among them.
+    /// How many frames were taken, the refused one included.
     pub(crate) frames: u64,
-    /// Whether each reply was one that a frame may have, and the end is closed that refused one.
+    /// Whether the pump came to its end, each reply was one that a frame may have, and the end that refused a frame is
+    /// closed.
     pub(crate) is_sound: bool,
 }
 
 impl Fed {
-    // Notes what a frame came to. Returns whether there may be another one.
+    // Records the outcome of a call. Returns whether there may be another frame.
     fn note(&mut self, came: Came, is_closed: bool) -> bool {
         self.is_sound &= came != Came::Strange && is_closed;
         if came == Came::Taken || came == Came::Refused {
@@ -30,7 +31,7 @@ impl Fed {
         came == Came::Taken
     }
 
-    /// What came of both streams.
+    /// Adds the outcomes of two streams.
     pub(crate) fn and(self, other: Fed) -> Fed {
         Fed {
             frames: self.frames.saturating_add(other.frames),
@@ -39,20 +40,20 @@ impl Fed {
     }
 }
 
-/// What a frame came to.
+/// The outcome of a call that takes a frame.
 #[derive(Clone, Copy, Debug, PartialEq, Eq)]
 enum Came {
-    /// It was taken.
+    /// A frame was taken.
     Taken,
-    /// It was refused, and its end is to be closed from then on.
+    /// A frame was refused, and its end must be closed from then on.
     Refused,
-    /// There is none now; the node may have to do something first.
+    /// There is no frame now; the node may have to do something first.
     NotNow,
     /// No frame may have this reply.
     Strange,
 }
 
-// What a reply says of a frame.
+// Judges a call by its reply.
 fn judged(reply: Result<Done, Refusal>) -> Came {
     let Err(refusal) = reply else {
         return Came::Taken;
@@ -64,7 +65,7 @@ fn judged(reply: Result<Done, Refusal>) -> Came {
     }
 }
 
-/// Feeds a secondary.
+/// Feeds a secondary with a stream.
 pub(crate) fn feed_secondary<R: Wait + Clock + Copy + Drop>(
     rt: R,
     alloc: Global,
@@ -87,7 +88,7 @@ fn feed_peer<R: Wait + Clock + Drop>(
     Ok(take_all(peer, rows, stream.len(), is_whole))
 }
 
-// Has a secondary take frames as long as there are any: each has a byte at least.
+// Has a secondary take frames while there are any: each has a byte at least.
 fn take_all<R: Wait + Drop>(
     peer: &mut RowPeer<R>,
     rows: &mut RowEnds<R>,
@@ -113,7 +114,7 @@ fn take_all<R: Wait + Drop>(
     fed
 }
 
-/// Feeds a primary, which writes meanwhile.
+/// Feeds a primary with a stream, while it writes.
 pub(crate) fn feed_primary<R: Wait + Clock + Copy + Drop>(
     rt: R,
     alloc: Global,
@@ -136,7 +137,7 @@ fn feed_local<R: Wait + Clock + Drop>(
     take_acks(alloc, local, rows, stream.len(), is_whole)
 }
 
-// Has a primary write, and take frames as long as there are any.
+// Has a primary write, and take frames while there are any.
 fn take_acks<R: Wait + Drop>(
     alloc: Global,
     local: &mut RowLocal<R>,
@@ -174,7 +175,7 @@ fn drop_sent<R: Wait + Drop>(rows: &mut RowEnds<R>) {
     }
 }
 
-// Pumps a stream into a node's row. Returns whether the pump came to its end.
+// Pumps a stream into a node's row. Returns whether the pump came to the stream's end.
 fn pump<R: Wait + Clock + Drop>(
     rt: R,
     alloc: Global,

@@ -1,8 +1,8 @@
-//! Feeds both nodes of a mirror with bytes that nobody sent: the recorded streams of a session, in which bytes are
+//! Feeds both nodes of a mirror with bytes that no node sent: the recorded streams of a session, in which bytes are
 //! changed, cut, doubled and swapped.
 //!
-//! `foreign_bytes [SEED [FRAMES]]`: damages the streams by the seed (1) until FRAMES (1,000) were taken. It
-//! prints how many, and fails at a reply that no frame may have. With seed 0 the streams stay as they were.
+//! `foreign_bytes [SEED [FRAMES]]`: damages the streams by the seed (1) until FRAMES (1,000) frames were taken. It
+//! prints how many, and fails at a reply that no frame may have. With seed 0 the streams are not damaged.
 #![tactic(auto)]
 
 mod damage;
@@ -33,7 +33,7 @@ fn main(rt: HostRuntime) -> anyhow::Result<()> {
     Ok(())
 }
 
-// The seed and the number of frames that the program's words give.
+// Returns the seed and the number of frames that the program's words give.
 fn asked(rt: &HostRuntime) -> anyhow::Result<(u64, u64)> {
     let words = env::args(rt)?.collect::<Vec<String>>(rt.alloc())?;
     read(words.get(1), words.get(2))
@@ -50,7 +50,7 @@ fn number(word: Option<&String>, standard: u64) -> anyhow::Result<u64> {
     }
 }
 
-// Feeds both nodes until this many frames were taken, and returns how many.
+// Feeds both nodes until this many frames were taken. Returns how many.
 fn feed_all<R: Wait + Clock + Copy + Drop>(
     rt: R,
     alloc: Global,
@@ -85,7 +85,7 @@ fn feed_recorded<R: Wait + Clock + Copy + Drop>(
     Ok(taken)
 }
 
-// Feeds each node once. Both streams are damaged before the first one is fed.
+// Feeds each node once. Damages both streams before it feeds the first one.
 fn feed_both<R: Wait + Clock + Copy + Drop>(
     rt: R,
     alloc: Global,

@@ -40,13 +40,13 @@ pub(crate) type RowPeer<R> = Peer<RuledOut<R>, RuledIn<R>, MemStore>;
 /// The other ends of a node's two rows.
 #[derive(Drop)]
 pub(crate) struct RowEnds<R: Wait + Drop> {
-    /// What the node sent comes out here.
+    /// Gives what the node sent.
     pub(crate) sent: PieceIn<R>,
-    /// What it is to take goes in here.
+    /// Takes what the node is to receive.
     pub(crate) to_take: PieceOut<R>,
 }
 
-// Two rows: a node's ends, and the others.
+// Makes two rows. Returns the node's ends, and the other ends.
 fn rows<R: Wait + Copy + Drop>(
     rt: R,
     alloc: Global,
@@ -61,7 +61,7 @@ fn rows<R: Wait + Copy + Drop>(
     }
 }
 
-/// An opened primary over a disk filled with zeros.
+/// Opens a primary over a disk filled with zeros.
 pub(crate) fn open_local<R: Wait + Copy + Drop>(
     rt: R,
     alloc: Global,
@@ -75,7 +75,7 @@ pub(crate) fn open_local<R: Wait + Copy + Drop>(
     }
 }
 
-/// An opened secondary over a disk filled with zeros.
+/// Opens a secondary over a disk filled with zeros.
 pub(crate) fn open_peer<R: Wait + Copy + Drop>(
     rt: R,
     alloc: Global,
@@ -88,7 +88,8 @@ pub(crate) fn open_peer<R: Wait + Copy + Drop>(
     }
 }
 
-/// Submits the write of this number, from 0, if there is one and it is accepted. Returns the number of the next one.
+/// Submits the write of this number, counted from 0, if there is one. Returns the number of the next write, which is
+/// the same one if it was not accepted.
 pub(crate) fn submit<R: Wait + Drop>(
     alloc: Global,
     node: &mut RowLocal<R>,
@@ -106,7 +107,7 @@ pub(crate) fn submit<R: Wait + Drop>(
     }
 }
 
-// The contents of a write: one to four blocks.
+// Returns the contents of a write: one to four blocks.
 fn contents(alloc: Global, write: u64) -> Result<Bytes, Refusal>
     requires { write < 24 }
 {
@@ -115,7 +116,7 @@ fn contents(alloc: Global, write: u64) -> Result<Bytes, Refusal>
     Ok(Bytes::from_vec(bytes)?)
 }
 
-/// Does what a primary can do without a frame. What has nothing to do is refused, and changes nothing.
+/// Does what a primary can do without a frame. A call that has nothing to do is refused, and changes nothing.
 pub(crate) fn work_local<R: Wait + Drop>(node: &mut RowLocal<R>) {
     let _ = node.write_next();
     let _ = node.resync_next();

@@ -1,4 +1,4 @@
-//! The streams of a session.
+//! The recorded streams of a session.
 use crate::nodes::{
     RowEnds, RowLocal, RowPeer, open_local, open_peer, submit, work_local, work_peer,
 };
@@ -43,7 +43,7 @@ impl Recorded {
         Ok(recorded)
     }
 
-    // Has both nodes do what they can, and notes what goes over the link.
+    // Has both nodes do what they can, and records what goes over the link.
     fn record<R: Wait + Drop>(
         &mut self,
         alloc: Global,
@@ -64,7 +64,7 @@ impl Recorded {
     }
 }
 
-// Carries what one node sent to where the other one takes it, and adds its bytes to those that went.
+// Carries what one node sent to the row of the other one, and adds its bytes to `went`.
 fn carry<R: Wait + Drop>(
     sent: &mut PieceIn<R>,
     to_take: &mut PieceOut<R>,

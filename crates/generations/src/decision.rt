@@ -1,18 +1,18 @@
-//! The decision of a primary over the tuples of both nodes.
+//! The decision of a primary from the tuples of both nodes.
 ghost use Rattle.std.specs.Prelude.{◌≡◌};
 ghost use Rattle.blocks.specs.Identifiers.{decision, is_historical, share_identifier};
 
 use crate::words::stands_in;
 use blocks::{Decision, Refusal, Tuple};
 
-/// What the primary with the tuple `own` does with the peer whose tuple is `peer`: the first case that
-/// holds decides. A primary is never the target of a resync.
+/// Returns what the primary with the tuple `own` does with the peer whose tuple is `peer`: the first case that holds
+/// decides. A primary is never the target of a resync.
 ///
-/// A peer with no data gets all; one with the same data nothing; one with the primary's data of the time
-/// since which the bitmap records gets the marked blocks; one with older data of the primary's gets all.
-/// `PrimaryStale` (30) comes where the peer has newer data, `SplitBrain` (31) where both went on from
-/// common data, `Unrelated` (32) where they have none (after the DRBD User's Guide, "Generation
-/// identifiers"; the cases and their order are this project's rule). It takes no memory.
+/// A peer with no data gets all blocks. One with the same data gets none. One with the data from which on the
+/// primary's bitmap records changes gets the marked blocks. One with older data of the primary's gets all.
+/// `PrimaryStale` (30) if the peer has newer data, `SplitBrain` (31) if both went on from common data, `Unrelated`
+/// (32) if they have no common data (after the DRBD User's Guide, "Generation identifiers"; the cases and their order
+/// are this project's rule). It takes no memory.
 pub fn decide(own: &Tuple, peer: &Tuple) -> Result<Decision, Refusal>
     ensures { result ≡ decision own.now peer.now }
 {
@@ -40,14 +40,14 @@ pub fn decide(own: &Tuple, peer: &Tuple) -> Result<Decision, Refusal>
     Err(Refusal::Unrelated)
 }
 
-/// Whether the word is not zero and one of the tuple's two historical ones.
+/// Returns whether the word is not zero and is one of the tuple's two historical ones.
 fn is_historical(word: u64, tuple: &Tuple) -> bool
     ensures { result ≡ is_historical word tuple.now }
 {
     word > 0 && (word == tuple.first_historical || word == tuple.second_historical)
 }
 
-/// Whether an identifier that is not zero stands in both tuples.
+/// Returns whether an identifier that is not zero is in both tuples.
 fn share_identifier(own: &Tuple, peer: &Tuple) -> bool
     ensures { result ≡ share_identifier own.now peer.now }
 {

@@ -1,5 +1,5 @@
-//! Generation identifiers: which words are new, how a node's tuple is turned, and what a primary does with
-//! a peer after comparing the two tuples.
+//! Generation identifiers: the test of a new word, the changes of a node's tuple, and what a primary does with a peer
+//! after comparing the two tuples.
 #![tactic(auto)]
 
 mod decision;

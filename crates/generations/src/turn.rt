@@ -1,4 +1,4 @@
-//! How a node's tuple changes.
+//! The changes of a node's tuple.
 ghost use Rattle.std.specs.Prelude.{◌≡◌};
 ghost use Rattle.blocks.specs.Identifiers.{into_history, lost, sync_end, sync_start};
 
@@ -13,8 +13,8 @@ pub struct Generations {
 }
 
 impl Generations {
-    /// The primary has lost its peer: its data go on under `word`, and the bitmap records from the old
-    /// identifier on. Where it records already, nothing changes.
+    /// Starts a new data generation under `word`, as the primary has lost its peer: the bitmap records from the old
+    /// identifier on. If it records already, nothing changes.
     pub fn lost(&mut self, word: u64)
         ensures { self.new.tuple ≡ lost word self.old.tuple }
     {
@@ -24,7 +24,7 @@ impl Generations {
         }
     }
 
-    /// A resync starts at its source: `word` is the bitmap identifier from now on, and the one before goes
+    /// Records that a resync starts at its source: makes `word` the bitmap identifier, and moves the previous one
     /// into the history.
     pub fn sync_start(&mut self, word: u64)
         ensures { self.new.tuple ≡ sync_start word self.old.tuple }
@@ -32,21 +32,21 @@ impl Generations {
         self.into_history(word);
     }
 
-    /// A resync ends at its source: the bitmap identifier goes into the history, and there is none any more.
+    /// Records that a resync ends at its source: moves the bitmap identifier into the history, and leaves none.
     pub fn sync_end(&mut self)
         ensures { self.new.tuple ≡ sync_end self.old.tuple }
     {
         self.into_history(0);
     }
 
-    /// A target whose resync ended takes over its source's tuple.
+    /// Takes over the source's tuple, as the target's resync has ended.
     pub fn adopt(&mut self, tuple: Tuple)
         ensures { self.new.tuple ≡ tuple }
     {
         self.tuple = tuple;
     }
 
-    // The bitmap identifier becomes the newest of the history, if there is one, and gives way to `bitmap`.
+    // Makes the bitmap identifier the newest of the history, if there is one, and replaces it by `bitmap`.
     fn into_history(&mut self, bitmap: u64)
         ensures { self.new.tuple ≡ into_history bitmap self.old.tuple }
     {

@@ -1,4 +1,4 @@
-//! Whether a word may begin a generation.
+//! The test of a word that is to begin a generation.
 ghost use Rattle.std.specs.Prelude.{◌≡◌, ◌↔◌, IsTrue, IsOk, IfErr};
 ghost use Rattle.generations.specs.Known.{IsFresh};
 ghost use Rattle.blocks.specs.Identifiers.{is_fresh, stands_in};
@@ -6,8 +6,8 @@ ghost use Rattle.blocks.specs.declared.refusal.Refusal.TheVariants.{UsedIdentifi
 
 use blocks::{Refusal, Tuple};
 
-/// Whether the word may begin a new generation: it is not zero, and it stands in no place of the tuples that
-/// are known (this project's rule). Else `UsedIdentifier` (33). It takes no memory.
+/// Checks that the word may begin a new generation: it is not zero, and none of the known tuples has it (this
+/// project's rule). `UsedIdentifier` (33) if it may not. It takes no memory.
 pub fn fresh(word: u64, known: &[Tuple]) -> Result<(), Refusal>
     ensures accepted { IsOk result ↔ IsFresh word known.now }
     ensures fresh { IsOk result ↔ IsTrue (is_fresh word known.now) }
@@ -19,7 +19,7 @@ pub fn fresh(word: u64, known: &[Tuple]) -> Result<(), Refusal>
     Ok(())
 }
 
-/// Whether the word is one of the tuple's four. It takes no memory.
+/// Returns whether the word is one of the tuple's four. It takes no memory.
 pub fn stands_in(word: u64, tuple: &Tuple) -> bool
     ensures { result ≡ stands_in word tuple.now }
 {

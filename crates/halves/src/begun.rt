@@ -7,7 +7,7 @@ use bytes::Bytes;
 use primary::Receipt;
 use std::marker::Model;
 
-/// A write that was begun, and whose receipt is not yet had.
+/// A write that was begun and has no receipt yet.
 #[derive(Debug, Drop)]
 pub struct Begun {
     number: u64,
@@ -24,7 +24,7 @@ impl Model for Begun {
 }
 
 impl Begun {
-    /// The write that was accepted under this number, of these whole blocks from the first one on.
+    /// Creates the write that was accepted under this number, of these whole blocks from `first` on.
     pub fn new(number: u64, first: u64, bytes: &Bytes) -> Begun
         requires whole { length bytes.now % 4096 ≡ 0 }
         ensures number { result.number ≡ number }
@@ -37,15 +37,15 @@ impl Begun {
         }
     }
 
-    /// Its number.
+    /// Returns its number.
     pub fn number(&self) -> u64
         ensures { result ≡ self.now.number }
     {
         self.number
     }
 
-    /// Ends the write with this receipt, and returns the receipt. `UnknownJob` (16) if it is of other blocks than were
-    /// written.
+    /// Ends the write with this receipt, and returns the receipt. `UnknownJob` (16) if the receipt is for other blocks
+    /// than the write's.
     pub fn end(self, receipt: Receipt) -> Result<Receipt, Refusal>
         ensures own { IfOk result (λ ended. (ended ≡ receipt) × ((ended.first ≡ self.first) × (ended.count ≡ self.count))) }
         ensures other { OnErr result ((receipt.first ≡ self.first) × (receipt.count ≡ self.count) → ⊥) }

@@ -6,64 +6,64 @@ use blocks::Refusal;
 use bytes::Bytes;
 use primary::Receipt;
 
-/// A mirrored device, whichever session keeps it. Any number of threads may call it at a time.
+/// A mirrored device, over any session. Any number of threads may call it at a time.
 pub trait Device {
-    /// Writes whole blocks from the first one on, and returns the receipt once the write is completed as the
-    /// protocol says. Any number of writers may call it at a time.
+    /// Writes whole blocks from `first` on, and returns the receipt once the write is completed as the protocol says.
+    /// Any number of writers may call it at a time.
     ///
-    /// It asks again on `Conflict` (2), `LogFull` (3) and `ActivityFull` (4), waits while the write is open, and
-    /// returns every other refusal of `Primary::submit` and `Primary::take_completed`: `BadRange` (1),
-    /// `JournalFull` (5), `StreamFull` (6), `NoMemory` (7), `LocalFault` (8), `NotConnected` (12). A receipt of
-    /// another range would be `UnknownJob` (16).
+    /// It tries again on `Conflict` (2), `LogFull` (3) and `ActivityFull` (4), waits while the write is open, and
+    /// returns every other refusal of `Primary::submit` and `Primary::take_completed`: `BadRange` (1), `JournalFull`
+    /// (5), `StreamFull` (6), `NoMemory` (7), `LocalFault` (8), `NotConnected` (12). A receipt of another range would
+    /// be `UnknownJob` (16).
     fn write(&self, first: u64, bytes: &Bytes) -> Result<Receipt, Refusal>
         ensures own { IfOk result (λ receipt. (receipt.first ≡ first) × (receipt.count * 4096 ≡ length bytes.now)) };
 
-    /// Begins a write of whole blocks from the first one on: it is accepted, and sent if there is room for it. Whoever has
-    /// many writes to do begins them all, and then waits for one after another.
+    /// Begins a write of whole blocks from `first` on: it is accepted, and sent if there is room for it. A caller with
+    /// many writes begins them all, and then waits for one after another.
     ///
-    /// It asks again on `Conflict` (2), `LogFull` (3) and `ActivityFull` (4), and returns every other refusal of
+    /// It tries again on `Conflict` (2), `LogFull` (3) and `ActivityFull` (4), and returns every other refusal of
     /// `Primary::submit`: `BadRange` (1), `JournalFull` (5), `StreamFull` (6), `NoMemory` (7), `NotConnected` (12).
     fn begin(&self, first: u64, bytes: &Bytes) -> Result<Begun, Refusal>
         ensures range { IfOk result (λ begun. (begun.first ≡ first) × (begun.count * 4096 ≡ length bytes.now)) };
 
     /// Waits until a write that was begun is completed as the protocol says, and returns its receipt.
     ///
-    /// It returns the refusals of `Primary::take_completed` but `NotCompleted` (9): `LocalFault` (8), and `UnknownJob` (16)
-    /// for a write of another session. A receipt of another range would be `UnknownJob` (16), too.
+    /// It returns the refusals of `Primary::take_completed` except `NotCompleted` (9): `LocalFault` (8), and
+    /// `UnknownJob` (16) for a write of another session. A receipt of another range would be `UnknownJob` (16), too.
     fn complete(&self, begun: Begun) -> Result<Receipt, Refusal>
         ensures own { IfOk result (λ receipt. (receipt.first ≡ begun.first) × (receipt.count ≡ begun.count)) };
 
     /// Reads blocks of the local disk, 1 to 32 inside the device and inside one extent.
     ///
-    /// `BadRange` (1) if they are not that, else `NoMemory` (7) if there is no room for their bytes, else
-    /// `ReadFault` (14) if the disk fails.
+    /// `BadRange` (1) if they are not, else `NoMemory` (7) if there is no memory for their bytes, else `ReadFault` (14)
+    /// if the disk fails.
     fn read(&self, first: u64, count: u64) -> Result<Vec<u8>, Refusal>;
 
     /// Closes both ends of the link. Writers go on without it; writes under way are completed by the close.
     fn cut(&self);
 
-    /// Opens both ends anew under fresh words, and returns the connection's number, the first being 1. The
-    /// threads do the hello; if it is refused, both ends close.
+    /// Opens both ends again under fresh words, and returns the connection's number, the first being 1. The threads
+    /// exchange the hellos; if one is refused, both ends close.
     ///
-    /// `NotConnected` (12) if the session goes over streams: it has one connection, and this is asked first. Else
-    /// `NotDrained` (36) if an end is not closed, or if the secondary has items to do; ask again. Else
-    /// `UsedIdentifier` (33) if a word is zero, stands in a tuple that is known, or both are one; `StreamFull`
-    /// (6) after 4,294,967,295 connections; `NoMemory` (7). Then nothing has changed. If the secondary refuses
-    /// at last, the primary closes again before its stream began, and the number is used up.
+    /// `NotConnected` (12) if the session goes over streams: it has one connection, and this is checked first. Else
+    /// `NotDrained` (36) if an end is not closed, or if the secondary has items to do; the caller tries again. Else
+    /// `UsedIdentifier` (33) if a word is zero or occurs in a known tuple, or if both words are equal; `StreamFull` (6)
+    /// after 4,294,967,295 connections; `NoMemory` (7). Then nothing has changed. If the secondary refuses at last, the
+    /// primary closes again before its stream began, and the number is used up.
     fn reconnect(&self, sync: u64, loss: u64) -> Result<u32, Refusal>;
 
-    /// The status lines of the primary and of the secondary, without newlines. Each is its node's at a moment of
-    /// the call, and these are two moments. `NoMemory` (7) if there is no room for them.
+    /// Returns the status lines of the primary and of the secondary, without newlines. Each is its node's at a moment
+    /// of the call, and these are two moments. `NoMemory` (7) if there is no memory for them.
     fn status(&self) -> Result<(String, String), Refusal>;
 
-    /// How many blocks the primary has marked.
+    /// Returns how many blocks the primary has marked.
     fn marks(&self) -> u32;
 
-    /// Whether the link has nothing left to do: the primary's end is closed, or its stream has begun, no block is
-    /// marked, and every epoch is acknowledged.
+    /// Returns whether the link has nothing more to do: the primary's end is closed, or its connection is established,
+    /// no block is marked, and every epoch is acknowledged.
     fn is_quiet(&self) -> bool;
 
-    /// Whether the peer has acknowledged every epoch, so that its disk has all that was written, or the primary's end is
-    /// closed.
+    /// Returns whether the peer has acknowledged every epoch, so that its disk has all that was written, or the
+    /// primary's end is closed.
     fn is_acknowledged(&self) -> bool;
 }

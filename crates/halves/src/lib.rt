@@ -1,5 +1,5 @@
-//! A session as others see it: the device by which callers know it, and its two halves; what it starts from and runs on, and a
-//! write that is under way.
+//! The interfaces of a session: the device that its callers use, its two halves, what it starts from and runs on, and a
+//! write under way.
 #![tactic(auto)]
 
 mod begun;

@@ -1,8 +1,8 @@
 //! The beginning of a session.
 use blocks::{Settings, Tuple};
 
-/// What a session starts from: the settings of both nodes, the generation identifiers of each disk, the marks
-/// of the local one, a truth value for each block, and the first connection's two words.
+/// What a session starts from: the settings of both nodes, the generation identifiers of each disk, the marks of the
+/// local one (a truth value for each block), and the first connection's two words.
 #[derive(Drop)]
 pub struct Parts {
     pub settings: Settings,

@@ -6,13 +6,13 @@ use primary::Receipt;
 use std::alloc::Global;
 use turns::{LocalRole, Turn};
 
-/// The primary's half of a session, over whichever link and disk it has. Each call takes the node's lock, does what
-/// it says, and lets the lock go. Its refusals are those of the node's call of that name.
+/// The primary's half of a session, over any link and disk. Each call locks the node, does what it says, and unlocks
+/// the node. Its refusals are those of the node's call of the same name.
 pub trait PrimaryHalf {
     /// Accepts a write and returns its number.
     fn submit(&self, first: u64, bytes: &Bytes) -> Result<u64, Refusal>;
 
-    /// The receipt of a write, once.
+    /// Returns the receipt of a write, once.
     fn take_completed(&self, number: u64) -> Result<Receipt, Refusal>;
 
     /// Reads blocks of the local disk.
@@ -24,40 +24,40 @@ pub trait PrimaryHalf {
     /// Takes the next frame.
     fn ack_in(&self) -> Result<Done, Refusal>;
 
-    /// Does a turn of a thread, and rings for the writers if it concerns them.
+    /// Does a turn of a thread, and wakes the writers if it concerns them.
     fn turn(&self, role: LocalRole) -> Turn;
 
     /// Closes the end, if it is open.
     fn close(&self);
 
-    /// Closes the end, if its connection is this one or an earlier one.
+    /// Closes the end if its connection is this one or an earlier one.
     fn close_lost(&self, connection: u32);
 
-    /// Opens the end anew and returns the connection's number.
+    /// Opens the end again and returns the connection's number.
     fn reopen(&self, sync: u64, loss: u64) -> Result<u32, Refusal>;
 
-    /// Whether the disk has a write to do.
+    /// Returns whether the disk has a write to do.
     fn has_unfinished(&self) -> bool;
 
-    /// Whether the link has nothing left to do: the end is closed, or its stream has begun, no block is marked, and
-    /// every epoch is acknowledged.
+    /// Returns whether the link has nothing more to do: the end is closed, or its connection is established, no block
+    /// is marked, and every epoch is acknowledged.
     fn is_quiet(&self) -> bool;
 
-    /// Whether the peer has acknowledged every epoch, or the end is closed.
+    /// Returns whether the peer has acknowledged every epoch, or the end is closed.
     fn is_acknowledged(&self) -> bool;
 
-    /// How many blocks are marked.
+    /// Returns how many blocks are marked.
     fn marks(&self) -> u32;
 
-    /// The node's status line, without a newline. `NoMemory` (7) if there is no room for it.
+    /// Returns the node's status line, without a newline. `NoMemory` (7) if there is no memory for it.
     fn status_line(&self, alloc: Global) -> Result<String, Refusal>;
 
-    /// What the threads of the half wait on.
+    /// Returns the bell that the half's threads wait on.
     fn work(&self) -> &Bell;
 
-    /// What writers wait on.
+    /// Returns the bell that writers wait on.
     fn writers(&self) -> &Bell;
 
-    /// What a pump waits on that carries away what the node sends.
+    /// Returns the bell of the pump that carries away what the node sends.
     fn sent(&self) -> &Bell;
 }

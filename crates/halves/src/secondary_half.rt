@@ -4,8 +4,8 @@ use blocks::{Done, Refusal};
 use std::alloc::Global;
 use turns::{PeerRole, Turn};
 
-/// The secondary's half of a session, over whichever link and disk it has. Each call takes the node's lock, does
-/// what it says, and lets the lock go. Its refusals are those of the node's call of that name.
+/// The secondary's half of a session, over any link and disk. Each call locks the node, does what it says, and unlocks
+/// the node. Its refusals are those of the node's call of the same name.
 pub trait SecondaryHalf {
     /// Takes the next frame.
     fn receive(&self) -> Result<Done, Refusal>;
@@ -19,24 +19,24 @@ pub trait SecondaryHalf {
     /// Closes the end, if it is open.
     fn close(&self);
 
-    /// Closes the end, if its connection is this one or an earlier one.
+    /// Closes the end if its connection is this one or an earlier one.
     fn close_lost(&self, connection: u32);
 
-    /// Whether the end may open again.
+    /// Checks that the end may open again.
     fn may_reopen(&self) -> Result<(), Refusal>;
 
-    /// Opens the end anew under the connection's number.
+    /// Opens the end again under the connection's number.
     fn reopen(&self, number: u32) -> Result<(), Refusal>;
 
-    /// Whether the disk has an item to do.
+    /// Returns whether the disk has an item to do.
     fn has_unfinished(&self) -> bool;
 
-    /// The node's status line, without a newline. `NoMemory` (7) if there is no room for it.
+    /// Returns the node's status line, without a newline. `NoMemory` (7) if there is no memory for it.
     fn status_line(&self, alloc: Global) -> Result<String, Refusal>;
 
-    /// What the threads of the half wait on.
+    /// Returns the bell that the half's threads wait on.
     fn work(&self) -> &Bell;
 
-    /// What a pump waits on that carries away what the node sends.
+    /// Returns the bell of the pump that carries away what the node sends.
     fn sent(&self) -> &Bell;
 }

@@ -19,8 +19,8 @@ left_by p s peer = record {
   marks = p.marks;
 }
 
--- After a grounded history this opening is sound whatever identifiers the peer's disk is given: the marks cover every block on
--- which the disks differ.
+-- After a grounded history this opening is sound whatever identifiers the peer's disk is given: the marks cover every
+-- block on which the disks differ.
 abbrev pub JoinedRunsLeaveAnOpening : Type 0
 JoinedRunsLeaveAnOpening =
     JoinedRuns IsSoundOpening (λ p s. IsGrounded p s → is_at_rest p s ≡ true → (peer : Tuple) → IsSoundOpening (left_by p s peer))

@@ -20,12 +20,12 @@ opening_of parts local peer = record {
   marks = λ block. unwrap_or (slice_get parts.marks.items block) false;
 }
 
--- the identifiers of a disk of which nothing is known
+-- the identifiers of an unknown disk
 abbrev pub unknown : Tuple
 unknown = record { current = 0; bitmap = 0; first_historical = 0; second_historical = 0 }
 
--- The parts that two nodes leave: the primary's settings, identifiers and marks; and the peer's identifiers, if its disk is
--- consistent.
+-- The parts that two nodes leave: the primary's settings, identifiers and marks; and the peer's identifiers, if its
+-- disk is consistent.
 pub record IsLeft (parts : Parts) (p : PrimaryHistory) (s : SecondaryHistory) : Type 0 where
   pub settings : parts.settings ≡ p.settings
   pub own : parts.own ≡ p.tuple

@@ -1,9 +1,9 @@
-//! The law that the next session may start from what is left.
+//! The law that the next session may start from what the last one leaves.
 ghost use Rattle.handover.specs.Left.{JoinedRunsLeaveAnOpening};
 
-/// Two joined nodes at rest leave a sound opening, if their history was grounded: both disks have their blocks, the primary's
-/// data have an identifier, and the marks cover every block on which the disks differ, so that no identifiers of the peer's
-/// disk can claim too much.
+/// States that two joined nodes at rest leave a sound opening if their history was grounded: both disks have their
+/// blocks, the primary's data have an identifier, and the marks cover every block on which the disks differ, so
+/// that no identifiers of the peer's disk can claim too much.
 pub fn what_is_left()
     ensures opening { JoinedRunsLeaveAnOpening }
 {}

@@ -21,7 +21,7 @@ use primary::Primary;
 use secondary::Secondary;
 use std::alloc::Global;
 
-/// The identifiers of a disk that nobody knows.
+/// The identifiers of a disk about which nothing is known.
 const UNKNOWN: Tuple = Tuple {
     current: 0,
     bitmap: 0,
@@ -29,13 +29,13 @@ const UNKNOWN: Tuple = Tuple {
     second_historical: 0,
 };
 
-/// What the next session over the disks of these two nodes starts from, under two fresh words: the settings, the primary's
-/// identifiers and its marks, and the secondary's identifiers, if its disk is consistent. If it is not, nothing is known of
-/// that disk, and it is copied whole.
+/// Returns what the next session over the disks of these two nodes starts from, under two fresh words: the
+/// settings, the primary's identifiers and its marks, and the secondary's identifiers, if its disk is consistent.
+/// If it is not, nothing is known of that disk, and it is copied whole.
 ///
-/// Returns `NotDrained` (36) unless both ends are closed, nothing is pending at the secondary, and the primary's disk has
-/// done or failed every write; else `BadSetting` (15) if the nodes have different settings; else `NoMemory` (7) if there is no
-/// room for the marks.
+/// `NotDrained` (36) unless both ends are closed, nothing is pending at the secondary, and the primary's disk has
+/// done or failed every write; else `BadSetting` (15) if the nodes have different settings; else `NoMemory` (7) if
+/// there is no room for the marks.
 pub fn parts_after<
     O: FrameOut + Drop,
     I: FrameIn + Drop,
@@ -87,7 +87,8 @@ pub fn parts_after<
     })
 }
 
-// Which blocks are marked, one truth value for each block of the device. `NoMemory` (7) if there is no room for them.
+// Returns which blocks are marked, one `bool` for each block of the device. `NoMemory` (7) if there is no room for
+// them.
 fn marks_of<O: FrameOut + Drop, I: FrameIn + Drop, S: Store + Drop>(
     alloc: Global,
     primary: &Primary<O, I, S>,

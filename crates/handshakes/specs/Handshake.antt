@@ -10,24 +10,24 @@ use Rattle.packets.specs.declared.packet.Packet.{Packet}
 use Rattle.packets.specs.declared.packet.Packet.TheVariants as packet
 use Rattle.model.specs.Acknowledgements.{same_protocol}
 
--- The identifiers that the own hello names, and how many frames of both hellos have gone: of the own one, and of the peer's.
+-- The identifiers that the own hello names, how many of its frames were sent, and how many of the peer's were taken.
 pub record HandshakeState : Type 0 where
   pub own : Tuple
   pub said : ℕ
   pub heard : ℕ
 
--- nothing was said, and nothing heard
+-- no frame of either hello has gone
 abbrev pub begun : Tuple → HandshakeState
 begun own = record { own = own; said = 0; heard = 0 }
 
--- the frame of the own hello that is said after this number of others
+-- the frame of the own hello that is sent after this number of others
 abbrev pub said : ℕ → Settings → Tuple → Option Packet
 said zero settings own = Some (packet.Protocol settings.protocol)
 said (suc zero) settings own = Some (packet.Sizes settings.blocks)
 said (suc (suc zero)) settings own = Some (packet.Uuids own)
 said (suc (suc (suc n))) settings own = None
 
--- What a frame is called that comes after this number of frames of the peer's hello, or why it is refused.
+-- The command of a frame that comes after this number of frames of the peer's hello, or why it is refused.
 abbrev pub judged : ℕ → Packet → Settings → Result Command Refusal
 judged zero (packet.Protocol asked) settings = if same_protocol asked settings.protocol then Ok command.Protocol else Err OtherProtocol
 judged (suc zero) (packet.Sizes blocks) settings = if blocks == settings.blocks then Ok command.Sizes else Err OtherSize

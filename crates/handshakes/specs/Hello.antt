@@ -1,4 +1,4 @@
--- How far a hello has come.
+-- How much of a hello has gone.
 use Rattle.std.specs.Prelude.{ℕ, suc, ◌==◌, nat_lt, Option, None, Some, if◌then◌else◌}
 use Rattle.blocks.specs.declared.command.Command.{Command}
 use Rattle.blocks.specs.declared.command.Command.TheVariants as command
@@ -10,6 +10,6 @@ hello_after frames =
     if frames == 1 then Some command.Sizes else
     if frames == 2 then Some command.Uuids else None
 
--- one frame more has gone, where one is left
+-- counts another frame of the hello, up to 3
 abbrev pub advanced : ℕ → ℕ
 advanced frames = if nat_lt frames 3 then suc frames else frames

@@ -9,8 +9,8 @@ use blocks::{Command, Protocol, Refusal, Settings, Tuple};
 use packets::Packet;
 use std::marker::Model;
 
-/// The handshake of a connection, as one of its nodes sees it: the generation identifiers that its own hello
-/// names, how far that hello has come, and how far the peer's has. No call takes memory.
+/// The handshake of a connection, as one of its nodes sees it: the generation identifiers in its own hello, how far
+/// that hello has come, and how far the peer's has. No call takes memory.
 #[derive(Drop)]
 pub struct Handshake {
     own: Tuple,
@@ -27,7 +27,7 @@ impl Model for Handshake {
 }
 
 impl Handshake {
-    /// Nothing was said, and nothing heard. The own hello names these identifiers.
+    /// Creates a handshake with nothing sent and nothing received. This node's hello names these identifiers.
     pub fn new(own: Tuple) -> Handshake
         ensures { result ≡ begun own }
     {
@@ -38,7 +38,7 @@ impl Handshake {
         }
     }
 
-    /// The next frame of the own hello: PROTOCOL, SIZES, UUIDS, and none after these.
+    /// Returns the next frame of this node's hello: PROTOCOL, SIZES, UUIDS, and none after these.
     pub fn due(&self, settings: &Settings) -> Option<Packet>
         ensures { result ≡ said self.now.said settings.now self.now.own }
     {
@@ -51,32 +51,32 @@ impl Handshake {
         })
     }
 
-    /// The next frame of the own hello is said.
+    /// Counts the next frame of this node's hello as sent.
     pub fn say(&mut self)
         ensures { self.new ≡ record self.old { said = advanced self.old.said } }
     {
         self.said.advance();
     }
 
-    /// Whether the own hello is said.
+    /// Returns whether this node's hello is sent.
     pub fn is_said(&self) -> bool
         ensures { result ≡ nat_le 3 self.now.said }
     {
         self.said.is_done()
     }
 
-    /// Whether the peer's hello is heard.
+    /// Returns whether the peer's hello is received.
     pub fn is_heard(&self) -> bool
         ensures { result ≡ nat_le 3 self.now.heard }
     {
         self.heard.is_done()
     }
 
-    /// Whether a packet is the next frame of the peer's hello, and its command then. It says nothing about
-    /// the identifiers of UUIDS.
+    /// Checks that a packet is the next frame of the peer's hello, and returns its command. It does not check the
+    /// identifiers of UUIDS.
     ///
-    /// `OtherProtocol` (34) for another protocol than the own one, `OtherSize` (35) for another number of
-    /// blocks; `BadCommand` (21) for every other packet.
+    /// `OtherProtocol` (34) for another protocol than this node's, `OtherSize` (35) for another number of blocks;
+    /// `BadCommand` (21) for every other packet.
     pub fn judge(&self, packet: &Packet, settings: &Settings) -> Result<Command, Refusal>
         ensures { result ≡ judged self.now.heard packet.now settings.now }
     {
@@ -98,7 +98,7 @@ impl Handshake {
         }
     }
 
-    /// The next frame of the peer's hello is heard.
+    /// Counts the next frame of the peer's hello as received.
     pub fn hear(&mut self)
         ensures { self.new ≡ record self.old { heard = advanced self.old.heard } }
     {
@@ -106,7 +106,7 @@ impl Handshake {
     }
 }
 
-// Whether both are the same protocol.
+// Returns whether both are the same protocol.
 fn is_same(asked: Protocol, own: Protocol) -> bool
     ensures { result ≡ same_protocol asked own }
 {

@@ -1,4 +1,4 @@
-//! How far a hello has come.
+//! The progress of a hello.
 ghost use Rattle.std.specs.Prelude.{◌≡◌, ◌≤◌, min, nat_le, suc};
 ghost use Rattle.handshakes.specs.Hello.{advanced, hello_after};
 
@@ -8,7 +8,7 @@ use std::marker::Model;
 /// How many frames a hello has: PROTOCOL, SIZES, UUIDS.
 pub const HELLO_FRAMES: u32 = 3;
 
-/// How many frames of a hello have gone one way, 3 at most. Proofs see the number.
+/// How many frames of a hello have passed in one direction, 3 at most. Proofs see the number.
 #[derive(Clone, Copy, Debug, PartialEq, Eq)]
 pub struct Hello {
     frames: u32,
@@ -27,21 +27,21 @@ impl Model for Hello {
 }
 
 impl Hello {
-    /// No frame has gone.
+    /// Creates the state in which no frame has passed.
     pub fn new() -> Hello
         ensures { result ≡ 0 }
     {
         Hello { frames: 0 }
     }
 
-    /// How many frames have gone.
+    /// Returns how many frames have passed.
     pub fn frames(self) -> u32
         ensures { result ≡ self }
     {
         self.frames
     }
 
-    /// The command of the frame that goes next, if one is left.
+    /// Returns the command of the next frame, if there is one.
     pub fn next(self) -> Option<Command>
         ensures { result ≡ hello_after self }
     {
@@ -53,14 +53,14 @@ impl Hello {
         }
     }
 
-    /// Whether all frames have gone.
+    /// Returns whether all frames have passed.
     pub fn is_done(self) -> bool
         ensures { result ≡ nat_le 3 self }
     {
         self.frames >= HELLO_FRAMES
     }
 
-    /// The next frame goes. A hello that is done stays so.
+    /// Counts the next frame. A hello that is done stays so.
     pub fn advance(&mut self)
         ensures { self.new ≡ advanced self.old }
     {

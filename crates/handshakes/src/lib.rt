@@ -1,4 +1,4 @@
-//! The handshake of a connection: the three frames that each node says before its stream begins.
+//! The handshake of a connection: the three frames that each node sends before its stream begins.
 #![tactic(auto)]
 
 mod handshake;

@@ -8,7 +8,7 @@ use blocks::{BLOCK_BYTES, MemStore};
 use std::alloc::Global;
 use std::os::unix::fs::FileExt;
 
-/// An image has just as many bytes as its device.
+/// Checks that an image has exactly as many bytes as its device.
 pub(crate) fn check_length(found: u64, blocks: u32) -> Result<(), OpenFault>
     ensures accepted { IsOk result ↔ (found ≡ blocks * 4096) }
     ensures refused { IfErr result (λ fault. fault ≡ WrongLength found (blocks * 4096)) }

@@ -1,11 +1,11 @@
-//! Why an image cannot be opened.
+//! Failures to open an image.
 use std::io;
 use thiserror::Error;
 
 /// Why an image file did not become a disk.
 #[derive(Debug, Drop, Error)]
 pub enum OpenFault {
-    /// The file has `found` bytes, and the device that was asked for has `wanted`.
+    /// The file has `found` bytes, and the requested device has `wanted`.
     #[error("the image has {found} bytes, and an image of this device has {wanted}")]
     WrongLength { found: u64, wanted: u64 },
     /// The file cannot be opened for reading and writing, is not read to its end, or gives no second handle.

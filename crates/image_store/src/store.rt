@@ -32,8 +32,8 @@ impl<F> Model for ImageStore<F> {
 }
 
 impl<F: FileExt> ImageStore<F> {
-    /// A disk over a file that holds the blocks which `memory` has, at most 262,144. The file need not be an image: whatever is
-    /// read and written at places will do. It takes no memory.
+    /// Creates a disk over a file that holds the blocks of `memory`, at most 262,144. The file need not be an image:
+    /// whatever is read and written at places will do. Takes no memory.
     pub fn over(file: F, memory: MemStore) -> ImageStore<F>
         requires { length memory ≤ 262144 }
         ensures { result ≡ record { disk = memory; faults = 0 } }
@@ -48,12 +48,12 @@ impl<F: FileExt> ImageStore<F> {
 
 impl<F: FileExt + OpenFile + Drop> ImageStore<F> {
     /// Opens the image at `path` for reading and writing as a device of `blocks` blocks, 1 to 262,144 of 4,096 bytes,
-    /// and reads it whole into memory. The handle makes durable what the store has written. It makes no file, and
+    /// and reads it whole into memory. The handle makes durable what the store has written. Creates no file, and
     /// changes none.
     ///
-    /// `WrongLength` comes where the file has not just `blocks * 4096` bytes; nothing of it is read then. `Unread` comes
-    /// where the system refuses to open, measure, read or share the file; `NoMemory` where there is none for the
-    /// device's bytes.
+    /// `WrongLength` comes if the file does not have exactly `blocks * 4096` bytes; then nothing of it is read.
+    /// `Unread` comes if the system refuses to open, measure, read or share the file; `NoMemory` if there is none for
+    /// the device's bytes.
     pub fn open<H: Files<File = F> + AllocGlobal>(
         rt: &H,
         path: &str,
@@ -122,7 +122,7 @@ impl<F: FileExt> Store for ImageStore<F> {
     }
 }
 
-/// Where a block of a device begins in its image, in bytes.
+/// Returns where a block of a device begins in its image, in bytes.
 fn position(block: Block) -> u64
     requires { block.0 ≤ 262144 }
     ensures { result ≡ block.0 * 4096 }
@@ -130,8 +130,8 @@ fn position(block: Block) -> u64
     block.0 * BLOCK_BYTES as u64
 }
 
-/// Puts the blocks of the range into the file as memory has them, each by itself, so that the file has those that it
-/// takes.
+/// Writes the blocks of the range back to the file as memory has them, each by itself, so that the file has those that
+/// it accepts.
 fn put_back<F: FileExt>(file: &F, memory: &mut MemStore, range: Range)
     requires inside { range.first.0 + range.count ≤ length memory.old }
     requires few { length memory.old ≤ 262144 }

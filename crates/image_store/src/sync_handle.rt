@@ -2,8 +2,8 @@
 use std::fs::OpenFile;
 use std::io;
 
-/// A second handle on an image file, which makes the file durable while another thread has the store. It is
-/// shared among threads where the file's type may be.
+/// A second handle on an image file, which makes the file durable while another thread has the store. Threads may share
+/// it if they may share the file's type.
 #[derive(Drop)]
 pub struct SyncHandle<F> {
     file: F,
@@ -14,8 +14,8 @@ impl<F: OpenFile> SyncHandle<F> {
         SyncHandle { file }
     }
 
-    /// Returns once the medium has each write that the store answered before this call began, or with the system's
-    /// error. Of a write that is under way meanwhile nothing is said.
+    /// Returns once the medium has each write that the store had finished before this call began, or with the system's
+    /// error. Promises nothing about a write that is under way meanwhile.
     pub fn sync(&self) -> io::Result<()> {
         self.file.sync_data()
     }

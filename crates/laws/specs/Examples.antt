@@ -1,4 +1,5 @@
--- The premises of the theorems are met, and their conclusions speak of something: histories that a short script reaches.
+-- Examples in which the premises of the theorems are met and their conclusions are not empty: histories that a short
+-- list of events reaches.
 use Rattle.std.specs.Prelude.{◌≡◌, ◌==◌, true, false, if◌then◌else◌, List, [], ◌∷◌, ◌++◌, length, take, Some, None, slice_get, Ok}
 use Rattle.blocks.specs.declared.settings.Protocol.TheVariants as protocol
 use Rattle.blocks.specs.declared.refusal.Refusal.TheVariants.{SplitBrain, BadBarrierAck, BadField}
@@ -49,7 +50,7 @@ left_behind = record {
   marks = λ block. block == 2;
 }
 
--- what a new pair comes to once it is connected and these events came
+-- a new pair after its connection and these events
 abbrev pub reached : List Event → PairHistory
 reached events = (run_fed (connect 5 7 ++ events) (pair_at new_pair)).1
 
@@ -57,21 +58,23 @@ reached events = (run_fed (connect 5 7 ++ events) (pair_at new_pair)).1
 abbrev pub the_write : Write
 the_write = record { number = 1; first = 2; contents = (170 ∷ []) ∷ [] }
 
--- Openings as the theorems want them: equal disks under equal identifiers, and disks that differ where they are marked.
+-- Openings as the theorems require them: equal disks under equal identifiers, and disks that differ where they are
+-- marked.
 pub record OpeningsAreMet : Type 0 where
   pub equal : IsSoundOpening new_pair
   pub marked : IsSoundOpening left_behind
   pub differing : differing (pair_at left_behind) ≡ 2 ∷ []
 
--- One write under protocol C: the frames are joined, the write is completed over the link, taken, and on the peer's disk.
+-- One write under protocol C: the frames are joined, the write is completed over the link, taken, and on the peer's
+-- disk.
 pub record OneWriteIsMet : Type 0 where
   pub joined : IsJoined (reached one_write).primary (reached one_write).secondary
   pub completed : (reached one_write).primary.journal ≡ record { write = the_write; kind = Linked; home = Some (record { index = 0; place = 0 }) } ∷ []
   pub taken : items_taken (secondary_connection (reached one_write).secondary) ≡ WriteItem the_write ∷ []
   pub applied : (secondary_connection (reached one_write).secondary).applied ≡ (0, 0) ∷ []
 
--- A write that the peer has not seen: its block differs, and is under an unreleased write, in one extent; and once the
--- primary has closed it is marked.
+-- A write that the peer has not seen: the disks differ in its block, which the unreleased write covers, in one extent;
+-- and once the primary has closed it is marked.
 abbrev pub unseen : List Event
 unseen = fill 2 1 170 ∷ LocalEvent 1 ∷ []
 
@@ -79,7 +82,7 @@ unseen = fill 2 1 170 ∷ LocalEvent 1 ∷ []
 abbrev pub unseen_and_lost : List Event
 unseen_and_lost = unseen ++ ClosePrimaryEvent ∷ []
 
--- a stream stands, and then none
+-- a connection is established, and then none
 pub record CoverIsMet : Type 0 where
   pub grounded : IsGrounded (reached unseen).primary (reached unseen).secondary
   pub standing : is_established (primary_connection (reached unseen).primary) ≡ true
@@ -91,12 +94,12 @@ pub record CoverIsMet : Type 0 where
   pub still : differing (reached unseen_and_lost) ≡ 2 ∷ []
   pub marked : marked (reached unseen_and_lost) ≡ 2 ∷ []
 
--- A write whose epoch the peer has acknowledged: its block is not covered any more, since the write is surely applied; and a
--- block that nothing touched is not covered since the opening.
+-- A write whose epoch the peer has acknowledged: its block is not covered any more, since the peer has applied the
+-- write; and a block that nothing touched was never covered.
 abbrev pub released : List Event
 released = one_write ++ SendEvent ∷ ReceiveEvent ∷ AckOutEvent ∷ AckInEvent ∷ []
 
--- both ways for a block to be clean
+-- both ways in which a block is not covered
 pub record ReflectionIsMet : Type 0 where
   pub written : is_covered (reached released).primary 2 ≡ false
   pub touched : touches (WriteItem the_write) 2 ≡ true
@@ -120,11 +123,11 @@ rewritten =
     written_alone ++ connect 9 11 ++ first_copied ++ second_copied ++ ended
     ++ fill 2 1 204 ∷ LocalEvent 3 ∷ SendEvent ∷ ReceiveEvent ∷ PeerEvent 6 ∷ AckOutEvent ∷ AckOutEvent ∷ AckInEvent ∷ AckInEvent ∷ []
 
--- the first of them, and the last one, which was accepted when both of the others were completed
+-- the first of them, which was accepted with no write completed
 abbrev pub first_alone : Accepted
 first_alone = record { write = record { number = 1; first = 3; contents = (170 ∷ []) ∷ [] }; journal_length = 0; home = None; outcome = OnDisk }
 
--- the one that came over the link
+-- the last one, which came over the link, and was accepted when both of the others were completed
 abbrev pub since : Accepted
 since = record {
   write = record { number = 3; first = 2; contents = (204 ∷ []) ∷ [] };
@@ -152,8 +155,8 @@ pub record OrderIsMet : Type 0 where
 abbrev pub rewritten_to_the_end : List Event
 rewritten_to_the_end = rewritten ++ SendEvent ∷ ReceiveEvent ∷ []
 
--- The premises of the write order's second half: the last write came over the present connection, in an epoch to which the
--- secondary is whole; and the writes before it.
+-- The premises of the write order's second half: the last write came over the present connection, in an epoch to which
+-- the secondary is whole; and the writes before it.
 pub record WholeEpochIsMet : Type 0 where
   pub unharmed : IsUnharmed (reached rewritten_to_the_end).primary (reached rewritten_to_the_end).secondary
   pub consistent : (reached rewritten_to_the_end).secondary.consistent ≡ true
@@ -168,8 +171,8 @@ pub record WholeEpochIsMet : Type 0 where
 abbrev pub under_way : PairHistory
 under_way = reached (unseen ++ SendEvent ∷ ReceiveEvent ∷ [])
 
--- A primary that gets a BARRIER_ACK there, though it sent no barrier: the write is marked and completed alone, and the word for
--- a loss is its current identifier.
+-- A primary that gets a BARRIER_ACK there, though it sent no barrier: the write is marked and completed alone, and the
+-- loss word becomes its current identifier.
 abbrev pub broken_off : PrimaryHistory
 broken_off = (ack_in (Some (Ok (BarrierAckFrame 1 1))) false under_way.primary).1
 
@@ -181,7 +184,7 @@ broken_off_too = (receive (Some (Ok (BarrierFrame 2))) false under_way.secondary
 abbrev pub estranged : PairHistory
 estranged = (run_fed (take 12 (connect 9 11)) (fresh_with standard (words 7 1 0 0) (words 8 1 0 0))).1
 
--- Frames that are refused as such, and what that does.
+-- Frames that are refused, and what the refusal does.
 pub record RefusedFramesAreMet : Type 0 where
   pub hello : (step AckInEvent false estranged).0 ≡ reply.Refused SplitBrain
   pub by_hello : is_refused_by AckInEvent SplitBrain ≡ true
@@ -208,7 +211,8 @@ met =
     Opens 5 7 false ∷ Sends true false ∷ Sends true false ∷ Sends true false
     ∷ Takes (Some (Ok (ProtocolFrame protocol.C))) false ∷ Takes (Some (Ok (SizesFrame 8))) false ∷ Takes (Some (Ok (UuidsFrame (words 1 0 0 0)))) false ∷ []
 
--- Then a write of block 2, another one over it once the first is completed, and the acknowledgement of the first one's epoch.
+-- Then a write of block 2, another one over it once the first is completed, and the acknowledgement of the first one's
+-- epoch.
 abbrev pub written_over : List PrimaryEvent
 written_over =
     met ++ Submits 2 ((170 ∷ []) ∷ []) false ∷ WritesLocally 1 ∷ Sends true false ∷ Takes
@@ -217,15 +221,15 @@ written_over =
     (Some (Ok (WriteAckFrame (record { first = 2; number = 2; count = 1; place = 2 })))) false
     ∷ Sends true false ∷ Takes (Some (Ok (BarrierAckFrame 1 1))) false ∷ []
 
--- then that of the second one's
+-- then the acknowledgement of the second one's epoch
 abbrev pub released_in_turn : List PrimaryEvent
 released_in_turn = written_over ++ Takes (Some (Ok (BarrierAckFrame 2 1))) false ∷ []
 
--- the two writes
+-- the first of the two writes
 abbrev pub the_earlier : Accepted
 the_earlier = record { write = the_write; journal_length = 0; home = Some (record { index = 0; place = 0 }); outcome = OnDisk }
 
--- the one over it
+-- the second one, over the first
 abbrev pub the_later : Accepted
 the_later =
     record {

@@ -1,5 +1,5 @@
--- A primary's half of the cover: what a block that is neither marked nor under an unreleased write says of its streams. It
--- is said so that it stays true where the release of a write clears a mark.
+-- A primary's half of the cover: what holds of a block that is neither marked nor covered by an unreleased write. It is
+-- stated so that it stays true when the release of a write clears a mark.
 use Rattle.std.specs.Prelude.{ℕ, ◌≡◌, ◌-◌, ◌<◌, ◌⊎◌, Bool, false, true, List, length, Option, Some, slice_get, Ok}
 use Rattle.blocks.specs.declared.tuple.Tuple.{Tuple}
 use Rattle.blocks.specs.declared.outcome.Decision.{Decision}
@@ -11,15 +11,16 @@ use Rattle.model.specs.Identifiers.{decision}
 use Rattle.model.specs.Primary.{PrimaryConnection, PrimaryHistory, barrier_acknowledged, was_resynced, local_map}
 use Rattle.model.specs.Headline.{opening_marked}
 
--- an item puts something into a block
+-- the item covers the block
 abbrev pub touches : StreamItem → ℕ → Bool
 touches item block = is_between (first_of item) (length (contents_of item)) block
 
--- what it puts there
+-- what the item has for the block
 abbrev pub content_at : StreamItem → ℕ → Option (List ℕ)
 content_at item block = slice_get (contents_of item) (block - first_of item)
 
--- The peer has said that an item is on its disk: a write by its epoch's acknowledgement, a resync block by its own.
+-- The peer has acknowledged that an item is on its disk: a write by its epoch's acknowledgement, a resync block by its
+-- own.
 abbrev pub is_sure : PrimaryConnection → ℕ → StreamItem → Bool
 is_sure c place (WriteItem write) = barrier_acknowledged c (epoch_of c.stream place)
 is_sure c place (ResyncItem block contents) = was_resynced c place (ResyncItem block contents)
@@ -29,7 +30,8 @@ is_sure c place _ = false
 abbrev pub IsLater : ℕ → ℕ → ℕ → ℕ → Type 0
 IsLater connection place other later = (connection < other) ⊎ ((connection ≡ other) × (place < later))
 
--- The block stands as an item has it that is surely on the peer's disk, and every later item that touches it has the same.
+-- The local block holds what an item wrote there that the peer has surely applied, and every later item that covers the
+-- block has the same.
 pub record FromItem (h : PrimaryHistory) (block : ℕ) : Type 0 where
   pub connection : ℕ
   pub place : ℕ
@@ -49,7 +51,7 @@ pub record NoneBegan (h : PrimaryHistory) : Type 0 where
   pub none : (k : ℕ) (c : PrimaryConnection) → slice_get h.connections k ≡ Some c → c.begun ≡ false
   pub tuple : h.tuple ≡ h.opening_tuple
 
--- The first stream that began: what the opening tuple and the peer's said of it.
+-- The first stream that began, and what the opening tuple and the peer's decided for it.
 pub record FirstBegan (h : PrimaryHistory) (decided : Decision) : Type 0 where
   pub connection : ℕ
   pub end : PrimaryConnection
@@ -61,8 +63,8 @@ pub record FirstBegan (h : PrimaryHistory) (decided : Decision) : Type 0 where
   pub taken : slice_get end.taken n ≡ Some (Ok (UuidsFrame peer))
   pub decides : decision h.opening_tuple peer ≡ Ok decided
 
--- The block stands as it did at the opening, where it was not marked; every item that touches it has the same, and if a stream
--- began, the first did not mark all blocks.
+-- The local block holds what it held at the opening, and was not marked then; every item that covers it has the same,
+-- and if a stream began, the first did not mark all blocks.
 pub record FromOpening (h : PrimaryHistory) (block : ℕ) : Type 0 where
   pub content : h.opening_map block ≡ local_map h block
   pub unmarked : opening_marked h block ≡ false

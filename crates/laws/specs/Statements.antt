@@ -1,5 +1,5 @@
--- The theorems that are proved, as the contracts name them. Those of joined nodes and of the pair are stated over openings,
--- with `JoinedRuns` and `EveryRun` of the model.
+-- The theorems that are proved, as the contracts name them. Those of joined nodes and of the pair are stated over
+-- openings, with `JoinedRuns` and `EveryRun` of the model.
 use Rattle.std.specs.Prelude.{ℕ, suc, ◌≡◌, ◌<◌, ◌≤◌, ◌⊎◌, Bool, true, false, List, [], ◌∷◌, ◌++◌, length, take, if◌then◌else◌, Option, Some, slice_get, Ok}
 use Rattle.blocks.specs.declared.tuple.Tuple.{Tuple}
 use Rattle.blocks.specs.declared.refusal.Refusal.{Refusal}
@@ -45,11 +45,11 @@ PrimaryStreamsAreLawful =
     (o : Opening) (events : List PrimaryEvent) → HasRanges o
     → (k : ℕ) (c : PrimaryConnection) → slice_get (primary_run events (primary_at o)).connections k ≡ Some c → IsLawful o.settings.max_epoch c.stream
 
--- its unreleased writes lie in as many extents as there are slots, or in fewer
+-- its unreleased writes lie in at most as many extents as there are slots
 abbrev pub PrimaryExtentsAreFew : Type 0
 PrimaryExtentsAreFew = (o : Opening) (events : List PrimaryEvent) → length (active_extents (primary_run events (primary_at o))) ≤ o.settings.slots
 
--- of two writes that share a block, where the later one is released the earlier one is
+-- if two writes share a block and the later one is released, so is the earlier one
 abbrev pub PrimaryReleasesInOrder : Type 0
 PrimaryReleasesInOrder =
     (o : Opening) (events : List PrimaryEvent) → HasRanges o → IsDisk o.settings.blocks o.local
@@ -57,18 +57,19 @@ PrimaryReleasesInOrder =
     → slice_get (primary_run events (primary_at o)).writes j ≡ Some b → covers a.write block ≡ true → covers b.write block ≡ true
     → is_released (primary_run events (primary_at o)) b ≡ true → is_released (primary_run events (primary_at o)) a ≡ true
 
--- a closed end stays as it is, from any history on
+-- a closed connection does not change, from any history on
 abbrev pub PrimaryStaysClosed : Type 0
 PrimaryStaysClosed = (p : PrimaryHistory) (events : List PrimaryEvent) → StaysClosed p (primary_run events p)
 
--- its half of the cover: a block that is neither marked nor under an unreleased write stands as the streams have it
+-- its half of the cover: a block that is neither marked nor covered by an unreleased write holds what the streams or
+-- the opening say
 abbrev pub PrimaryReflects : Type 0
 PrimaryReflects =
     (o : Opening) (events : List PrimaryEvent) → HasRanges o → IsDisk o.settings.blocks o.local
     → (block : ℕ) → is_covered (primary_run events (primary_at o)) block ≡ false
     → FromItem (primary_run events (primary_at o)) block ⊎ FromOpening (primary_run events (primary_at o)) block
 
--- while no stream stands, every block under an unreleased write is marked
+-- while no connection is established, every block that an unreleased write covers is marked
 abbrev pub PrimaryMarksAtRest : Type 0
 PrimaryMarksAtRest =
     (o : Opening) (events : List PrimaryEvent) → HasRanges o → IsDisk o.settings.blocks o.local
@@ -87,13 +88,13 @@ SecondaryDrainsFirst =
     (o : Opening) (events : List SecondaryEvent) (k : ℕ) (d : SecondaryConnection) → slice_get (secondary_run events (secondary_at o)).connections k ≡ Some d
     → suc k < length (secondary_run events (secondary_at o)).connections → length (pending d) ≡ 0
 
--- a closed end stays as it is, but for what is still applied, from any history on
+-- a closed connection changes only in what is still applied, failed or dropped, from any history on
 abbrev pub SecondaryStaysClosed : Type 0
 SecondaryStaysClosed = (s : SecondaryHistory) (events : List SecondaryEvent) → StaysClosedToo s (secondary_run events s)
 
 -- The two, joined.
 
--- what the secondary took on a connection is a beginning of what the primary sent on it, of any two histories
+-- what the secondary took on a connection is a beginning of what the primary sent on it, for any two joined histories
 abbrev pub JoinedTakesABeginning : Type 0
 JoinedTakesABeginning =
     (p : PrimaryHistory) (s : SecondaryHistory) → IsJoined p s
@@ -122,7 +123,7 @@ EveryRunIsJoined = (o : Opening) (events : List (Event × Bool)) → AreJoinedRu
 abbrev pub EveryRunTakesABeginning : Type 0
 EveryRunTakesABeginning = EveryRun HasRanges TakesABeginning
 
--- nothing changes at an end after its close, but what is still applied
+-- after its close an end changes only in what is still applied, failed or dropped
 abbrev pub EveryRunStaysClosed : Type 0
 EveryRunStaysClosed =
     (o : Opening) (events more : List (Event × Bool)) → StaysClosed (run events (pair_at o)).1.primary (run more (run events (pair_at o)).1).1.primary
@@ -136,7 +137,7 @@ EveryRunHoldsEarlierEpochs = EveryRun AnyOpening (λ p s. HoldsEarlierEpochs s)
 abbrev pub EveryRunKeepsPromises : Type 0
 EveryRunKeepsPromises = EveryRun AnyOpening KeepsPromises
 
--- while no stream stands, every block on which the disks differ is marked
+-- in a grounded history, while no connection is established, every block on which the disks differ is marked
 abbrev pub EveryRunMarksDifferences : Type 0
 EveryRunMarksDifferences = EveryRun IsSoundOpening MarksDifferences
 
@@ -175,7 +176,7 @@ is_protocol_error OtherProtocol = true
 is_protocol_error OtherSize = true
 is_protocol_error NotDrained = false
 
--- No step of the pair is refused as a protocol error: the link holds only frames that the other end made.
+-- No step of the pair is refused as a protocol error: the link holds only frames that the other end sent.
 abbrev pub EveryStepIsHonest : Type 0
 EveryStepIsHonest =
     (o : Opening) (events : List (Event × Bool)) (event : Event) (out_of_memory : Bool) (refusal : Refusal) → SharesSettings o → HasRanges o
@@ -189,7 +190,7 @@ is_refused_frame Unrelated = true
 is_refused_frame UsedIdentifier = true
 is_refused_frame refusal = is_protocol_error refusal
 
--- an event refuses a frame
+-- the event takes a frame, and this refusal is one of that frame
 abbrev pub is_refused_by : Event → Refusal → Bool
 is_refused_by ReceiveEvent refusal = is_refused_frame refusal
 is_refused_by AckInEvent refusal = is_refused_frame refusal
@@ -200,25 +201,26 @@ abbrev pub is_closed_by : Event → PairHistory → Bool
 is_closed_by ReceiveEvent h = (secondary_connection h.secondary).closed
 is_closed_by event h = (primary_connection h.primary).closed
 
--- A step that is refused leaves the pair's history as it was, unless it refuses a frame; also where memory was wanting.
+-- A step that is refused leaves the pair's history as it was, unless it refuses a frame. This includes steps that are
+-- out of memory.
 abbrev pub RefusedStepsChangeNothing : Type 0
 RefusedStepsChangeNothing =
     (event : Event) (out_of_memory : Bool) (h : PairHistory) (refusal : Refusal) → (step event out_of_memory h).0 ≡ reply.Refused refusal
     → is_refused_by event refusal ≡ false → (step event out_of_memory h).1 ≡ h
 
--- One that refuses a frame closes the end that took it.
+-- A step that refuses a frame closes the end that took it.
 abbrev pub RefusedFramesClose : Type 0
 RefusedFramesClose =
     (event : Event) (out_of_memory : Bool) (h : PairHistory) (refusal : Refusal) → (step event out_of_memory h).0 ≡ reply.Refused refusal
     → is_refused_by event refusal ≡ true → is_closed_by event (step event out_of_memory h).1 ≡ true
 
--- The peer's tuple last seen, once this frame of the hello was taken after so many: the third names the tuple, also where it
--- is then refused.
+-- The peer's tuple last seen, once this frame of the hello was taken, by how many were taken before it: the third names
+-- the tuple, even if it is then refused.
 abbrev pub seen_after : ℕ → Received → Option Tuple → Option Tuple
 seen_after (suc (suc n)) (Ok (UuidsFrame peer)) seen = Some peer
 seen_after n frame seen = seen
 
--- A primary's history with a frame that counts as taken, and as refused.
+-- A primary's history with another frame that counts as taken, and as refused.
 abbrev pub with_refused : Received → PrimaryHistory → PrimaryHistory
 with_refused frame p =
     let c = primary_connection p in
@@ -229,9 +231,10 @@ with_refused frame p =
 abbrev pub with_refused_too : Received → SecondaryHistory → SecondaryHistory
 with_refused_too frame s = with_secondary_connection (λ c. record c { taken = c.taken ++ frame ∷ []; refused = true }) s
 
--- A primary that refuses a frame, whatever the frame is, has all effects of a close in the same step: its history is what the
--- close leaves once the frame counts as taken. Unreleased writes are marked, the tuple goes by the word for a loss where the
--- stream had begun, and what the local disk has done is completed alone, unless the peer had answered it before.
+-- A primary that refuses a frame, whatever the frame is, has all effects of a close in the same step: its history is
+-- what the close leaves once the frame counts as taken. Unreleased writes are marked, the tuple changes by the loss
+-- word if the stream had begun, and what the local disk has done is completed alone, unless the peer had answered it
+-- before.
 abbrev pub RefusedFramesCloseThePrimary : Type 0
 RefusedFramesCloseThePrimary =
     (frame : Received) (out_of_memory : Bool) (p : PrimaryHistory) (refusal : Refusal) → (ack_in (Some frame) out_of_memory p).0 ≡ reply.Refused refusal
@@ -245,8 +248,8 @@ RefusedFramesCloseTheSecondary =
     → is_refused_frame refusal ≡ true
     → (receive (Some frame) out_of_memory s).1 ≡ (close_secondary (with_refused_too frame s)).1
 
--- What was pending at the secondary stays so, and its disk holds what it held: a refused frame brings no item. (An open end has
--- refused none before.)
+-- What was pending at the secondary stays pending, and its disk holds what it held: a refused frame brings no item. (An
+-- open end has refused none before.)
 abbrev pub RefusedFramesLeaveTheItems : Type 0
 RefusedFramesLeaveTheItems =
     (frame : Received) (out_of_memory : Bool) (s : SecondaryHistory) (refusal : Refusal) → (secondary_connection s).refused ≡ false
@@ -254,9 +257,9 @@ RefusedFramesLeaveTheItems =
     → (pending (secondary_connection (receive (Some frame) out_of_memory s).1) ≡ pending (secondary_connection s))
     × (secondary_map (receive (Some frame) out_of_memory s).1 ≡ secondary_map s)
 
--- What a primary that loses its connection does: it marks every block of the writes that were unreleased before; its tuple
--- goes by the word for a loss, if the stream had begun; and each write of the connection that its local disk has done is
--- completed.
+-- What a primary that loses its connection does: it marks every block of the writes that were unreleased before; its
+-- tuple changes by the loss word, if the stream had begun; and each write of the connection that its local disk has
+-- done is completed.
 pub record LosesItsConnection (p q : PrimaryHistory) : Type 0 where
   pub marks : (block : ℕ) → q.marks block ≡ marking_unreleased p block
   pub tuple : q.tuple ≡ (if (primary_connection p).begun then lost (primary_connection p).loss p.tuple else p.tuple)
@@ -264,7 +267,8 @@ pub record LosesItsConnection (p q : PrimaryHistory) : Type 0 where
       → is_on_disk a.outcome ≡ true
       → is_completed q a.write.number ≡ true
 
--- A primary that refuses a frame does so. The frame itself releases nothing. (An open end has refused none before.)
+-- A primary that refuses a frame loses its connection so. The frame itself releases nothing. (An open end has refused
+-- none before.)
 abbrev pub RefusedFramesLoseTheConnection : Type 0
 RefusedFramesLoseTheConnection =
     (frame : Received) (out_of_memory : Bool) (p : PrimaryHistory) (refusal : Refusal) → (primary_connection p).refused ≡ false

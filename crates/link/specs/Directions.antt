@@ -11,7 +11,7 @@ pub record QueueState : Type 0 where
   pub capacity : ℕ
 
 -- a sending end: the frames that it has accepted on its present connection, that one's number, what went over its
--- earlier connections, and its queue where that lies here
+-- earlier connections, and its queue if that is here
 pub record OutState : Type 0 where
   pub sent : List (List ℕ)
   pub number : ℕ
@@ -19,24 +19,24 @@ pub record OutState : Type 0 where
   pub queue : Option QueueState
 
 -- a taking end: the frames that it has taken on its present connection, that one's number, what came over its earlier
--- connections, and the queue where that lies here
+-- connections, and the queue if that is here
 pub record InState : Type 0 where
   pub taken : List (List ℕ)
   pub number : ℕ
   pub past : List Past
   pub queue : Option QueueState
 
--- how many more frames can be put into the queue; none where it is away
+-- how many more frames can be put into the queue; none if it is away
 abbrev pub room_in : Option QueueState → ℕ
 room_in None = 0
 room_in (Some queue) = queue.capacity - length queue.frames
 
--- the frames in the queue; none where it is away
+-- the frames in the queue; none if it is away
 abbrev pub frames_in : Option QueueState → List (List ℕ)
 frames_in None = []
 frames_in (Some queue) = queue.frames
 
--- the queue with one more frame in it
+-- the queue with another frame in it
 abbrev pub with_frame : List ℕ → QueueState → QueueState
 with_frame frame queue = record queue { frames = queue.frames ++ frame ∷ [] }
 
@@ -69,7 +69,7 @@ restarted_in number taker = record {
   queue = option_map emptied taker.queue;
 }
 
--- the frames sent are those taken and then those in the queue, which lies at one of the ends
+-- the frames sent are those taken and then those in the queue, which is at one of the ends
 abbrev pub IsTied : List (List ℕ) → List (List ℕ) → Option QueueState → Option QueueState → Type 0
 IsTied sent taken (Some queue) None = sent ≡ taken ++ queue.frames
 IsTied sent taken None (Some queue) = sent ≡ taken ++ queue.frames
@@ -80,7 +80,7 @@ IsTied sent taken (Some queue) (Some other) = ⊥
 abbrev pub IsDirection : OutState → InState → Type 0
 IsDirection sender taker = IsTied sender.sent taker.taken sender.queue taker.queue
 
--- the two ends are those of one direction, and this is its queue, which lies at neither
+-- the two ends are those of one direction, and this is its queue, which is at neither
 pub record IsDirectionWith (sender : OutState) (taker : InState) (queue : QueueState) : Type 0 where
   pub not_there : sender.queue ≡ None
   pub not_here : taker.queue ≡ None

@@ -1,10 +1,10 @@
--- The two ends of a direction, as whoever uses them sees them, whatever link is under them.
+-- The two ends of a direction as their users see them, for any link under them.
 use Rattle.std.specs.Prelude.{ℕ, ◌-◌, Bool, List, [], ◌∷◌, ◌++◌, drop, Option, None}
 use Rattle.std.specs.Option.{option_map}
 use Rattle.link.specs.Past.{Past}
 
--- A sending end: the frames sent on the present connection, that one's number, the earlier connections, and a frame that
--- was offered in part. Where the end knows them: those sent that were not taken, and how many more it can accept.
+-- A sending end: the frames sent on the present connection, that one's number, the earlier connections, and a frame
+-- that was offered in part. If the end knows them: those sent that were not taken, and how many more it can accept.
 pub record OutEnd : Type 0 where
   pub sent : List (List ℕ)
   pub number : ℕ
@@ -14,8 +14,8 @@ pub record OutEnd : Type 0 where
   pub room : Option ℕ
 
 -- A taking end: the frames taken on the present connection, that one's number, the earlier connections, and whether it
--- has the room for the longest frame. Where it knows them: the frames that it will take next, and how many the queue
--- holds that lies here.
+-- has the room for the longest frame. If it knows them: the frames that it will take next, and how many its queue holds
+-- if that is here.
 pub record InEnd : Type 0 where
   pub taken : List (List ℕ)
   pub number : ℕ

@@ -11,7 +11,7 @@ pub record Went : Type 0 where
   pub frames : List (List ℕ)
   pub past : List Past
 
--- one frame more went past
+-- another frame went past
 abbrev pub and_then : List ℕ → Went → Went
 and_then frame went = record went { frames = went.frames ++ frame ∷ [] }
 

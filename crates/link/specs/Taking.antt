@@ -3,7 +3,7 @@ use Rattle.std.specs.Prelude.{ℕ, ◌≡◌, List, [], ◌∷◌, Option, None,
 use Rattle.blocks.specs.declared.refusal.Refusal.{Refusal}
 use Rattle.blocks.specs.declared.refusal.Refusal.TheVariants.{NothingThere}
 
--- the first frame is taken and the others stay, or there is none; where the queue is not known, it stays so
+-- the first frame is taken and the others stay, or there is none; an unknown queue stays unknown
 abbrev pub TakesFirst : Option (List (List ℕ)) → Result (List ℕ) Refusal → Option (List (List ℕ)) → Type 0
 TakesFirst None answer after = after ≡ None
 TakesFirst (Some []) answer after = answer ≡ Err NothingThere

@@ -17,7 +17,7 @@ pub struct Offered {
 }
 
 impl Offered {
-    /// Why it was not accepted: `LinkFull` (11).
+    /// Returns why it was not accepted: `LinkFull` (11).
     pub fn refusal(&self) -> Refusal
         ensures { result ≡ LinkFull }
     {
@@ -25,22 +25,22 @@ impl Offered {
     }
 }
 
-/// The sending end of one direction of a link. The frames of a connection arrive at the other end whole and
-/// in their order.
+/// The sending end of one direction of a link. The frames of a connection arrive at the other end whole and in
+/// order.
 pub trait FrameOut {
     /// What went through it, and what it can take.
     ghost state: { Self → OutEnd };
 
-    /// Accepts a frame, or hands it back where the link is full (11). What went of it by then stays on its
-    /// way, and the next offer has to be of it. It has to be whole, as a reader cuts it off a row of bytes,
-    /// since a link may carry it as that. It takes no memory.
+    /// Accepts a frame, or hands it back if the link is full (11). The part of it that was sent by then stays on
+    /// its way, and the next offer has to be of the same frame. The frame has to be whole, as a reader cuts it from
+    /// a byte stream, since a link may carry it as bytes. It takes no memory.
     fn offer(&mut self, frame: Frame) -> Result<(), Offered>
         requires whole { IsCut frame }
         requires again { IfSome (state self.old).partly (λ begun. begun ≡ frame) }
 
         ensures accepted { OnOk result (state self.new ≡ with_sent frame (state self.old)) }
 
-        // Where it knows its room, it refuses only a frame for which there is none.
+        // If it knows its room, it refuses a frame exactly if there is none.
         ensures exact { IfSome (state self.old).room (λ n. IsErr result ↔ (n ≡ 0)) }
 
         ensures handed_back { IfErr result (λ offered. offered.frame ≡ frame) }
@@ -48,8 +48,7 @@ pub trait FrameOut {
             ≡ record (state self.old) { partly = (state self.new).partly }) }
         ensures in_part { OnErr result (IfSome (state self.new).partly (λ begun. begun ≡ frame)) };
 
-    /// Begins the connection of this number. A frame that was offered in part is given up. It takes no
-    /// memory.
+    /// Begins connection `number`. Gives up a frame that was offered in part. It takes no memory.
     fn restart(&mut self, number: u32)
         requires { (state self.old).number < number }
 
@@ -60,25 +59,25 @@ pub trait FrameOut {
         ensures partly { (state self.new).partly ≡ None };
 }
 
-/// The taking end of one direction of a link.
+/// The receiving end of one direction of a link.
 pub trait FrameIn {
     /// What came through it, and what it can give.
     ghost state: { Self → InEnd };
 
-    /// Makes room for the longest frame. `NoMemory` (7) where it cannot be had.
+    /// Makes room for the longest frame. `NoMemory` (7) if there is none.
     fn ready(&mut self) -> Result<(), Refusal>
         ensures ready { OnOk result (state self.new ≡ record (state self.old) { is_ready = true }) }
         ensures unchanged { OnErr result (state self.new ≡ state self.old) }
         ensures refused { IfErr result (λ e. e ≡ NoMemory) };
 
-    /// Takes the next frame. `NothingThere` (13) where there is none. It takes no memory.
+    /// Takes the next frame. `NothingThere` (13) if there is none. It takes no memory.
     fn take(&mut self) -> Result<Frame, Refusal>
         requires { (state self.old).is_ready ≡ true }
 
         ensures next { IfOk result (λ frame.
             state self.new ≡ with_taken frame (state self.new).is_ready (state self.old)) }
 
-        // Where it knows its queue, it takes the first frame of it, and refuses only where it is empty.
+        // If it knows its queue, it takes the first frame of it, and refuses exactly if the queue is empty.
         ensures exact { TakesFirst (state self.old).queued result (state self.new).queued }
 
         // A frame of at most 40 bytes leaves the room for a longer one.
@@ -87,8 +86,7 @@ pub trait FrameIn {
         ensures refused { IfErr result (λ e. e ≡ NothingThere) }
         ensures unchanged { OnErr result (state self.new ≡ state self.old) };
 
-    /// Begins the connection of this number. What is on its way of those before is dropped. It takes no
-    /// memory.
+    /// Begins connection `number`. Drops what is on its way from earlier connections. It takes no memory.
     fn restart(&mut self, number: u32)
         requires { (state self.old).number < number }
 

@@ -1,4 +1,4 @@
-//! The taking end of a link that stays in one thread.
+//! The receiving end of a link that stays in one thread.
 ghost use Rattle.std.specs.Prelude.{◌≡◌, ◌<◌, Option, None, Some, [], ◌∷◌, ◌++◌, true, IsOk, OnErr, IfOk, IfErr, IfSome};
 ghost use Rattle.std.specs.Option.{option_map};
 ghost use Rattle.link.specs.Directions.{OutState, IsDirection, IsDirectionWith, frames_in, restarted_in, restarted_out};
@@ -12,7 +12,7 @@ use blocks::Refusal;
 use packets::Frame;
 use std::marker::Model;
 
-/// The taking end of one direction. While the direction's queue does not lie here, this end counts as empty.
+/// The receiving end of one direction. While the direction's queue is not here, this end counts as empty.
 #[derive(Drop)]
 pub struct PlainIn {
     pub(crate) queue: Option<Queue>,
@@ -33,7 +33,7 @@ impl Model for PlainIn {
 }
 
 impl PlainIn {
-    /// An end that has taken nothing.
+    /// Creates an end that has taken nothing.
     pub(crate) fn new() -> PlainIn
         ensures { result ≡ record { taken = []; number = 1; past = []; queue = None } }
     {
@@ -44,7 +44,7 @@ impl PlainIn {
         }
     }
 
-    /// Hands out the queue, if it lies here. It takes no memory.
+    /// Hands out the queue, if it is here. It takes no memory.
     pub fn give_queue(&mut self) -> Option<Queue>
         ensures given { result ≡ self.old.queue }
         ensures left { self.new ≡ record self.old { queue = None } }
@@ -107,7 +107,7 @@ impl FrameIn for PlainIn {
     fn restart(&mut self, number: u32)
         requires { self.old.number < number }
         ensures restarted { self.new ≡ restarted_in number self.old }
-        // Where the other end restarts too, they are still the ends of one direction.
+        // If the other end restarts too, they are still the ends of one direction.
         ensures direction { (sender : OutState) → IsDirection sender self.old
             → IsDirection (restarted_out number sender) self.new }
     {

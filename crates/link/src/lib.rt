@@ -1,4 +1,4 @@
-//! Links between the two nodes: each direction carries frames in their order.
+//! Links between the two nodes: each direction carries frames in order.
 #![tactic(auto)]
 
 mod ends;

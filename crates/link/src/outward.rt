@@ -9,7 +9,7 @@ use crate::{FrameOut, Offered};
 use packets::Frame;
 use std::marker::Model;
 
-/// The sending end of one direction. The direction's queue rests here; while it is lent to the taking end,
+/// The sending end of one direction. The direction's queue is kept here; while it is lent to the receiving end,
 /// this end counts as full.
 #[derive(Drop)]
 pub struct PlainOut {
@@ -31,7 +31,7 @@ impl Model for PlainOut {
 }
 
 impl PlainOut {
-    /// An end that has sent nothing, with its direction's queue.
+    /// Creates an end that has sent nothing, with its direction's queue.
     pub(crate) fn new(queue: Queue) -> PlainOut
         requires { queue.taken ++ queue.frames ≡ [] }
         ensures { result ≡ record { sent = []; number = 1; past = []; queue = Some queue } }

@@ -27,8 +27,8 @@ pub struct PlainEnds {
 }
 
 impl PlainLink {
-    /// A link that holds up to `capacity` frames in each direction. `NoMemory` (7) where the room for them
-    /// cannot be had.
+    /// Creates a link that holds up to `capacity` frames in each direction. `NoMemory` (7) if there is no room for
+    /// them.
     pub fn new(alloc: Global, capacity: u32) -> Result<PlainLink, Refusal>
         ensures there { IfOk result (λ link. IsUnused link.primary.outward link.secondary.inward capacity) }
         ensures back { IfOk result (λ link. IsUnused link.secondary.outward link.primary.inward capacity) }

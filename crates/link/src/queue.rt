@@ -33,7 +33,7 @@ impl Model for Queue {
 }
 
 impl Queue {
-    /// An empty queue for `capacity` frames. `NoMemory` (7) where its room cannot be had.
+    /// Creates an empty queue for `capacity` frames. `NoMemory` (7) if there is no room for them.
     pub(crate) fn new(alloc: Global, capacity: u32) -> Result<Queue, Refusal>
         ensures empty { IfOk result (λ q. q ≡ record { taken = []; frames = []; capacity = capacity }) }
         ensures refused { IfErr result (λ e. e ≡ NoMemory) }
@@ -47,7 +47,7 @@ impl Queue {
         })
     }
 
-    /// Puts a frame in, or hands it back where the queue is full. It takes no memory.
+    /// Puts a frame in, or hands it back if the queue is full. It takes no memory.
     pub(crate) fn offer(&mut self, frame: Frame) -> Result<(), Offered>
         ensures full { IsErr result ↔ (self.old.capacity - length self.old.frames ≡ 0) }
         ensures put { OnOk result (self.new ≡ record self.old { frames = self.old.frames ++ frame ∷ [] }) }
@@ -61,7 +61,7 @@ impl Queue {
         Ok(())
     }
 
-    /// A connection begins: what is in the queue is dropped. It takes no memory.
+    /// Begins a connection: drops what is in the queue. It takes no memory.
     pub(crate) fn restart(&mut self)
         ensures { self.new ≡ emptied self.old }
     {

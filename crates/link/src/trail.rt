@@ -6,8 +6,8 @@ ghost use Rattle.link.specs.Past.{Went, and_then, over};
 use packets::Frame;
 use std::marker::Model;
 
-/// The frames that went past a point of a link on the present connection, in order, and those of the
-/// connections before it. It takes no bytes, and its calls do nothing when the program runs.
+/// The frames that passed a point of a link on the current connection, in order, and those of the connections
+/// before it. It takes no bytes, and its calls do nothing when the program runs.
 #[derive(Drop)]
 pub struct Trail {
     pub ghost went: { Went },
@@ -21,21 +21,21 @@ impl Model for Trail {
 unsafe impl Send for Trail {}
 
 impl Trail {
-    /// At the beginning of a first connection.
+    /// Returns the trail at the beginning of a first connection.
     pub fn new() -> Trail
         ensures { result.went ≡ record { frames = []; past = [] } }
     {
         Trail {}
     }
 
-    /// One frame more went past.
+    /// Returns the trail after another frame has passed.
     pub fn and(&self, _frame: &Frame) -> Trail
         ensures { result.went ≡ and_then _frame.now self.now.went }
     {
         Trail {}
     }
 
-    /// The connection of this number is over.
+    /// Returns the trail after the end of connection `_number`.
     pub fn over(&self, _number: &u32) -> Trail
         ensures { result.went ≡ over _number.now self.now.went }
     {

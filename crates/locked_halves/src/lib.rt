@@ -1,5 +1,5 @@
-//! The halves of a session: each is one node behind one lock, with the bells that its threads wait on. It knows nothing
-//! of the other half.
+//! The halves of a session: each is one node under one lock, with the bells that its threads wait on. Neither knows the
+//! other half.
 #![tactic(auto)]
 
 mod local_half;

@@ -25,8 +25,8 @@ pub struct LocalHalf<R: Wait + Drop, O: FrameOut + Drop, I: FrameIn + Drop, S: S
 }
 
 impl<R: Wait + Drop, O: FrameOut + Drop, I: FrameIn + Drop, S: Store + Drop> LocalHalf<R, O, I, S> {
-    /// The half of a primary over this disk, opened over unused ends of a link under two words. The refusals are those of
-    /// `Local::open`.
+    /// Creates the half of a primary over this disk, opened over unused ends of a link under two words. The refusals
+    /// are those of `Local::open`.
     pub fn open(
         rt: R,
         alloc: Global,
@@ -52,7 +52,7 @@ impl<R: Wait + Drop, O: FrameOut + Drop, I: FrameIn + Drop, S: Store + Drop> Loc
         }
     }
 
-    /// The node, out of its lock. It has a history whose connections all went over its ends.
+    /// Takes the node out of its lock. It has a history whose connections all used its ends.
     pub fn into_node(self) -> Primary<O, I, S>
         ensures { PrimaryIsHad result }
     {

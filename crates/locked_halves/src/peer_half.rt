@@ -23,7 +23,8 @@ pub struct PeerHalf<R: Wait + Drop, O: FrameOut + Drop, I: FrameIn + Drop, S: St
 }
 
 impl<R: Wait + Drop, O: FrameOut + Drop, I: FrameIn + Drop, S: Store + Drop> PeerHalf<R, O, I, S> {
-    /// The half of a secondary over this disk, opened over unused ends of a link. The refusals are those of `Peer::open`.
+    /// Creates the half of a secondary over this disk, opened over unused ends of a link. The refusals are those of
+    /// `Peer::open`.
     pub fn open(
         rt: R,
         alloc: Global,
@@ -46,7 +47,7 @@ impl<R: Wait + Drop, O: FrameOut + Drop, I: FrameIn + Drop, S: Store + Drop> Pee
         }
     }
 
-    /// The node, out of its lock. It has a history whose connections all went over its ends.
+    /// Takes the node out of its lock. It has a history whose connections all used its ends.
     pub fn into_node(self) -> Secondary<O, I, S>
         ensures { SecondaryIsHad result }
     {

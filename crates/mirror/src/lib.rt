@@ -1,5 +1,5 @@
-//! Two nodes and the link between them in one thread: both open together, and both are worked until nothing is
-//! left to do.
+//! Two nodes and the link between them in one thread: both open together, and both work until nothing remains to
+//! do.
 #![tactic(auto)]
 
 mod local;

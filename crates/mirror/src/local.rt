@@ -20,7 +20,7 @@ pub(crate) fn local_turn<O: FrameOut + Drop, I: FrameIn + Drop, S: Store + Drop>
     Ok(written || sent || taken || copied)
 }
 
-// The disk does the next write.
+// Has the disk do the next write.
 fn write<O: FrameOut + Drop, I: FrameIn + Drop, S: Store + Drop>(
     local: &mut Primary<O, I, S>,
 ) -> Result<bool, Refusal>
@@ -32,7 +32,7 @@ fn write<O: FrameOut + Drop, I: FrameIn + Drop, S: Store + Drop>(
     }
 }
 
-// The next frame is sent.
+// Sends the next frame.
 fn send<O: FrameOut + Drop, I: FrameIn + Drop, S: Store + Drop>(
     local: &mut Primary<O, I, S>,
 ) -> Result<bool, Refusal>
@@ -41,7 +41,7 @@ fn send<O: FrameOut + Drop, I: FrameIn + Drop, S: Store + Drop>(
     went(local.send())
 }
 
-// The next frame is taken.
+// Takes the next frame.
 fn take<O: FrameOut + Drop, I: FrameIn + Drop, S: Store + Drop>(
     local: &mut Primary<O, I, S>,
 ) -> Result<bool, Refusal>
@@ -50,7 +50,7 @@ fn take<O: FrameOut + Drop, I: FrameIn + Drop, S: Store + Drop>(
     went(local.ack_in())
 }
 
-// The next block of a resync is copied.
+// Copies the next block of a resync.
 fn copy<O: FrameOut + Drop, I: FrameIn + Drop, S: Store + Drop>(
     local: &mut Primary<O, I, S>,
 ) -> Result<bool, Refusal>

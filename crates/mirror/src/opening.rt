@@ -16,14 +16,14 @@ use link::{FrameIn, FrameOut};
 use primary::Primary;
 use secondary::Secondary;
 
-/// Opens both nodes over a new link: the primary sends `there` and takes from `back`, the secondary the other
-/// way round. The two words are fresh generation identifiers, one that a resync would begin, and one that the loss
-/// of the connection begins. Both nodes open, or none: the secondary is asked first. It sends nothing: the first turns
-/// of `work` do the hello. On a pair that was never connected a write before that is refused, `NotConnected` (12).
+/// Opens both nodes over a new link: the primary sends `there` and takes from `back`, the secondary the other way
+/// round. The two words are fresh generation identifiers, one for a resync and one for the loss of the connection.
+/// Either both nodes open or neither: the secondary is asked first. No frame is sent: the first turns of `work` do
+/// the hello. On a pair that was never connected, a write before that is refused with `NotConnected` (12).
 ///
-/// `NotDrained` (36) if an end is open, and where the secondary has items pending; `StreamFull` (6) if
-/// 4,294,967,295 connections were opened; `UsedIdentifier` (33) and `NoMemory` (7) as `Primary::open` has them.
-/// A refused call changes neither node.
+/// `NotDrained` (36) if an end is open or the secondary has items pending; `StreamFull` (6) if 4,294,967,295
+/// connections were opened; `UsedIdentifier` (33) and `NoMemory` (7) as `Primary::open` returns them. A refused
+/// call changes neither node.
 pub fn connect<O, I, P, J, S, T>(
     local: &mut Primary<O, I, S>,
     peer: &mut Secondary<P, J, T>,

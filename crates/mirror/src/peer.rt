@@ -19,7 +19,7 @@ pub(crate) fn peer_turn<O: FrameOut + Drop, I: FrameIn + Drop, S: Store + Drop>(
     Ok(taken || applied || sent)
 }
 
-// The next frame is taken.
+// Takes the next frame.
 fn take<O: FrameOut + Drop, I: FrameIn + Drop, S: Store + Drop>(
     peer: &mut Secondary<O, I, S>,
 ) -> Result<bool, Refusal>
@@ -28,7 +28,7 @@ fn take<O: FrameOut + Drop, I: FrameIn + Drop, S: Store + Drop>(
     went(peer.receive())
 }
 
-// The disk does the next item.
+// Has the disk do the next item.
 fn apply<O: FrameOut + Drop, I: FrameIn + Drop, S: Store + Drop>(
     peer: &mut Secondary<O, I, S>,
 ) -> Result<bool, Refusal>
@@ -40,7 +40,7 @@ fn apply<O: FrameOut + Drop, I: FrameIn + Drop, S: Store + Drop>(
     }
 }
 
-// The next acknowledgement is sent.
+// Sends the next acknowledgement.
 fn send<O: FrameOut + Drop, I: FrameIn + Drop, S: Store + Drop>(
     peer: &mut Secondary<O, I, S>,
 ) -> Result<bool, Refusal>

@@ -1,4 +1,4 @@
-//! Working both nodes until nothing is left to do.
+//! Running both nodes until nothing remains to do.
 ghost use Rattle.std.specs.Prelude.{◌≡◌, Ok, true, None};
 ghost use Rattle.mirror.specs.Runs.{HaveNothingLeft, LocalRuns, PeerRuns};
 
@@ -10,16 +10,17 @@ use primary::Primary;
 use secondary::Secondary;
 
 /// Has both nodes and their disks do what they can, turn by turn, until neither can do anything, `turns` turns at
-/// most. In a turn each disk does a write or an item, each node sends a frame and takes one, and a resync copies a block.
-/// Returns whether both came to rest: then neither disk has anything left to do. If not, it may be called again. A hello
-/// takes some five turns, a write or a block of a resync a few.
+/// most. In a turn each disk does a write or an item, each node sends a frame and takes one, and a resync copies a
+/// block. Returns whether both came to rest: then neither disk has anything to do. If not, it may be called again.
+/// A hello takes some five turns, a write or a block of a resync a few.
 ///
-/// Closed nodes have their disks do what they have. The link has to bring its frames by itself, as
-/// `ruled_link::RuledLink` does: a `link::PlainLink` needs a caller that carries its queue from one end to the other.
+/// If the nodes are closed, their disks do what they have to do. The link has to deliver its frames by itself, as
+/// `ruled_link::RuledLink` does: a `link::PlainLink` needs a caller that carries its queue from one end to the
+/// other.
 ///
-/// A step that has nothing to do now, or waits for another one, is no failure. Every other refusal ends the work, and
-/// is returned: `NoMemory` (7), `ReadFault` (14), and the protocol errors, which have closed an end. A disk that fails
-/// a write or an item is no refusal: the node closes its end, or marks the blocks, and the work goes on.
+/// A step that has nothing to do now, or waits for another one, is no failure. Every other refusal ends the work
+/// and is returned: `NoMemory` (7), `ReadFault` (14), and the protocol errors, which have closed an end. A disk
+/// that fails a write or an item is no refusal: the node closes its end, or marks the blocks, and the work goes on.
 pub fn work<O, I, P, J, S, T>(
     local: &mut Primary<O, I, S>,
     peer: &mut Secondary<P, J, T>,
@@ -46,7 +47,7 @@ where
     Ok(false)
 }
 
-/// Whether a step was done. One that has nothing to do now, or waits for another one, was not.
+/// Returns whether a step was done: it was not if it has nothing to do now, or waits for another one.
 pub(crate) fn went(step: Result<Done, Refusal>) -> Result<bool, Refusal> {
     match step {
         Ok(_) => Ok(true),

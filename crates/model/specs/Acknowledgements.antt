@@ -33,13 +33,14 @@ same_protocol protocol.B protocol.B = true
 same_protocol protocol.C protocol.C = true
 same_protocol _ _ = false
 
--- What a taken frame does: it is accepted, with what it is called and the history then, or refused as a protocol error.
+-- The outcome of taking a frame: accepted, with its report and the history then, or refused as a protocol error.
 abbrev pub Taken : Type 0
 Taken = Result (What × PrimaryHistory) (Refusal × PrimaryHistory)
 
 -- The hello.
 
--- The stream begins: with the resync's SYNC_UUID where there is a resync.
+-- Begins the stream after the decision. A resync begins it with SYNC_UUID and changes the tuple by `sync_start`; a full
+-- one marks every block.
 abbrev pub begun_with : Decision → PrimaryHistory → PrimaryHistory
 begun_with NoSync h = with_primary_connection (λ c. record c { begun = true }) h
 begun_with BitmapSync h =
@@ -50,7 +51,8 @@ begun_with FullSync h =
     with_primary_connection (λ c. record c { begun = true; stream = SyncUuidItem word ∷ [] })
     (record h { tuple = sync_start word h.tuple; marks = marking_all h.settings.blocks })
 
--- The peer's tuple counts as seen, also where the hello is then refused. The words are tested against it, before the decision.
+-- Takes the peer's tuple, which counts as seen even if the hello is then refused. The connection's two words are tested
+-- against it before the decision.
 abbrev pub meeting : Tuple → PrimaryHistory → Taken
 meeting peer h =
     let seen = record h { peer = Some peer } in
@@ -60,7 +62,7 @@ meeting peer h =
       | false ↦ elim (decision h.tuple peer) [ Err refusal ↦ Err (refusal, seen) | Ok decided ↦ Ok (what.Decided decided, begun_with decided seen) ]
     ]
 
--- the next frame of the hello, by how many were taken before; any other command does not belong here
+-- takes the next frame of the hello, by how many were taken before; any other command is refused
 abbrev pub taking_hello : ℕ → Packet → PrimaryHistory → Taken
 taking_hello zero (ProtocolFrame asked) h =
     if same_protocol asked h.settings.protocol then Ok (what.Frame command.Protocol None, h) else Err (OtherProtocol, h)
@@ -71,14 +73,14 @@ taking_hello n packet h = Err (BadCommand, h)
 
 -- Acknowledgements.
 
--- it names a sent item of this kind
+-- the acknowledgement names an item of this kind that was sent
 abbrev pub names_sent : (StreamItem → Bool) → Acknowledged → PrimaryConnection → Bool
 names_sent kind ack c = elim (slice_get c.stream ack.place) [
   | None ↦ false
   | Some item ↦ (kind item && same_naming (naming ack.place item) ack) && nat_lt ack.place (items_sent c)
 ]
 
--- it was acknowledged before
+-- the item at its place was acknowledged before
 abbrev pub was_named : (PrimaryConnection → ℕ → StreamItem → Bool) → Acknowledged → PrimaryConnection → Bool
 was_named before ack c = elim (slice_get c.stream ack.place) [ None ↦ false | Some item ↦ before c ack.place item ]
 
@@ -86,7 +88,7 @@ was_named before ack c = elim (slice_get c.stream ack.place) [ None ↦ false | 
 abbrev pub is_protocol : Protocol → PrimaryHistory → Bool
 is_protocol asked h = same_protocol asked h.settings.protocol
 
--- the acknowledgement that the protocol asks of an item was taken
+-- the peer has sent the acknowledgement that the protocol asks for an item, if it asks for one
 abbrev pub is_acknowledged : Protocol → PrimaryConnection → ℕ × StreamItem → Bool
 is_acknowledged asked c (place, WriteItem write) = elim asked [
   | protocol.A ↦ true
@@ -96,7 +98,7 @@ is_acknowledged asked c (place, WriteItem write) = elim asked [
 is_acknowledged asked c (place, ResyncItem block contents) = was_resynced c place (ResyncItem block contents)
 is_acknowledged asked c _ = true
 
--- the oldest barrier that was sent and is not acknowledged
+-- the item is a barrier that the peer has not acknowledged
 abbrev pub is_unacknowledged : PrimaryConnection → StreamItem → Bool
 is_unacknowledged c (BarrierItem epoch) = not (barrier_acknowledged c epoch)
 is_unacknowledged c _ = false
@@ -105,19 +107,20 @@ is_unacknowledged c _ = false
 abbrev pub oldest_barrier : PrimaryConnection → Option StreamItem
 oldest_barrier c = find (is_unacknowledged c) (take (items_sent c) c.stream)
 
--- it is the barrier of this epoch
+-- the item is the barrier of this epoch
 abbrev pub is_barrier_of : ℕ → Option StreamItem → Bool
 is_barrier_of number (Some (BarrierItem epoch)) = number == epoch
 is_barrier_of number _ = false
 
--- A BARRIER_ACK is in its turn, has the epoch's size, and comes after every acknowledgement that the epoch's items want.
+-- A BARRIER_ACK is in turn: it names the oldest unacknowledged barrier, has the epoch's size, and comes after every
+-- acknowledgement that the epoch's items need.
 abbrev pub is_in_turn : PrimaryHistory → ℕ → ℕ → Bool
 is_in_turn h number size =
     let c = primary_connection h in
     (is_barrier_of number (oldest_barrier c) && (size == epoch_size c.stream number))
     && list_all (is_acknowledged h.settings.protocol c) (items_of_epoch c.stream number)
 
--- An acknowledgement, judged on the history before it was taken.
+-- Takes an acknowledgement, tested on the history before it was taken.
 abbrev pub taking_ack : Packet → PrimaryHistory → PrimaryHistory → Taken
 taking_ack (RecvAckFrame ack) before h =
     let c = primary_connection before in
@@ -135,13 +138,14 @@ taking_ack (BarrierAckFrame number size) before h =
     if is_in_turn before number size then Ok (what.Frame command.BarrierAck None, releasing before h) else Err (BadBarrierAck, h)
 taking_ack packet before h = Err (BadCommand, h)
 
--- A frame as it was read: a fault of its bytes, a frame of the hello, or an acknowledgement.
+-- Takes a frame as it was read: refuses a fault of its bytes, and takes a frame of the hello or an acknowledgement.
 abbrev pub taking : Received → PrimaryHistory → PrimaryHistory → Taken
 taking (Err fault) before h = Err (fault, h)
 taking (Ok packet) before h =
     elim (primary_connection before).begun [ true ↦ taking_ack packet before h | false ↦ taking_hello (length (primary_connection before).taken) packet h ]
 
--- The frame counts as taken; a protocol error closes the end in the same step, with all effects of its close.
+-- Records the frame as taken and takes it. A protocol error closes the end in the same step, with all effects of a
+-- close.
 abbrev pub take_frame : Received → PrimaryHistory → Reply × PrimaryHistory
 take_frame frame h =
     let taken = with_primary_connection (λ c. record c { taken = c.taken ++ frame ∷ [] }) h in
@@ -150,13 +154,13 @@ take_frame frame h =
       | Err error ↦ (reply.Refused error.0, (follows (closing (with_primary_connection (λ c. record c { refused = true }) error.1))).history)
     ]
 
--- when the next frame is not taken, in order
+-- the tests of `ack_in`, in order
 abbrev pub ack_in_tests : PrimaryHistory → Option Received → Bool → List Test
 ack_in_tests h frame out_of_memory =
     let c = primary_connection h in
     (c.closed, NotConnected) ∷ (not c.begun && out_of_memory, NoMemory) ∷ (is_none frame, NothingThere) ∷ []
 
--- the next frame that the link has for this end, or none
+-- the primary takes the next frame that the link has for it, if there is one
 abbrev pub ack_in : Option Received → Bool → PrimaryHistory → Reply × PrimaryHistory
 ack_in frame out_of_memory h = tested h (ack_in_tests h frame out_of_memory) (λ _. elim frame [
   | None ↦ (reply.Refused NothingThere, h)

@@ -1,5 +1,5 @@
--- Worked examples of marks that a connected write clears: each begins after two writes without a link and the connection
--- after them, with blocks 3 and 6 marked.
+-- Worked examples of marks that a connected write clears: each begins after two writes without a link and the
+-- connection after them, with blocks 3 and 6 marked.
 use Rattle.std.specs.Prelude.{◌≡◌, List, [], ◌∷◌, ◌++◌, take}
 use Rattle.blocks.specs.declared.command.Command.TheVariants as command
 use Rattle.blocks.specs.SettingsRange.{standard}
@@ -8,13 +8,13 @@ use Rattle.model.specs.Pair.{marked}
 use Rattle.model.specs.Rows.{words, connected, connect, replies, after, fill, done, accepted, item, frame, resynced, completing, with_barrier, with_sync}
 use Rattle.model.specs.ResyncRows.{two_marked, written_alone}
 
--- A write over a marked block goes through, and the peer answers its epoch.
+-- A write over a marked block is applied at the peer, which acknowledges its epoch.
 abbrev pub over_a_mark : List Event
 over_a_mark =
     fill 3 1 204 ∷ LocalEvent 3 ∷ SendEvent ∷ SendEvent ∷ ReceiveEvent ∷ ReceiveEvent ∷ PeerEvent 1 ∷ AckOutEvent ∷ AckInEvent
     ∷ SendEvent ∷ ReceiveEvent ∷ AckOutEvent ∷ []
 
--- the mark goes as the write is released, and the resync passes its block over
+-- the write's release clears the mark, and the resync skips its block
 pub record Cleared : Type 0 where
   pub answers : replies over_a_mark two_marked
       ≡ accepted 3 ∷ done ∷ item command.SyncUuid 0 ∷ item command.Data 1 ∷ item command.SyncUuid 0 ∷ item command.Data 1 ∷ done ∷ frame command.WriteAck
@@ -24,13 +24,13 @@ pub record Cleared : Type 0 where
   pub marks : marked (after (over_a_mark ++ AckInEvent ∷ []) two_marked) ≡ 6 ∷ []
   pub next : replies (ResyncEvent ∷ []) (after (over_a_mark ++ AckInEvent ∷ []) two_marked) ≡ resynced 6 3 ∷ []
 
--- Both marked blocks are written, and go through.
+-- Both marked blocks are written, and the peer applies the writes.
 abbrev pub over_both_marks : List Event
 over_both_marks =
     fill 3 1 204 ∷ fill 6 1 221 ∷ LocalEvent 3 ∷ LocalEvent 4 ∷ SendEvent ∷ SendEvent ∷ SendEvent ∷ ReceiveEvent ∷ ReceiveEvent ∷ ReceiveEvent
     ∷ PeerEvent 1 ∷ PeerEvent 2 ∷ AckOutEvent ∷ AckOutEvent ∷ []
 
--- the answers to both, their barrier, and its answer
+-- the acknowledgements of both, their barrier, and its acknowledgement
 abbrev pub both_answered : List Event
 both_answered = AckInEvent ∷ AckInEvent ∷ SendEvent ∷ ReceiveEvent ∷ AckOutEvent ∷ AckInEvent ∷ SendEvent ∷ []
 
@@ -41,7 +41,7 @@ pub record ClearedToTheEnd : Type 0 where
       ∷ frame command.BarrierAck ∷ with_sync (frame command.BarrierAck) ∷ item command.Uuids 4 ∷ []
   pub identifiers : tuples (after (over_both_marks ++ both_answered) two_marked) ≡ (words 7 0 9 1, words 9 0 0 0)
 
--- The same writes, and one of their blocks is under way when their epoch is acknowledged.
+-- The same writes, with one of their blocks under way in the resync when their epoch is acknowledged.
 abbrev pub copied_meanwhile : List Event
 copied_meanwhile = AckInEvent ∷ AckInEvent ∷ ResyncEvent ∷ SendEvent ∷ ReceiveEvent ∷ AckOutEvent ∷ AckInEvent ∷ []
 
@@ -54,17 +54,17 @@ pub record ClearedUnderWay : Type 0 where
       ∷ with_sync (with_barrier 2 (frame command.RsWriteAck)) ∷ []
   pub marks : marked (after (over_both_marks ++ copied_meanwhile) two_marked) ≡ []
 
--- The same connection where each write ends its epoch, so that a BARRIER_ACK can come before the local disk is done.
+-- The same connection with epochs of one write, so that a BARRIER_ACK can come before the local disk is done.
 abbrev pub short_epochs_marked : PairHistory
 short_epochs_marked = after (written_alone ++ connect 9 11) (connected (record standard { max_epoch = 1 }))
 
--- the peer has the write and has answered its epoch
+-- the peer has applied the write and acknowledged its epoch
 abbrev pub answered_first : List Event
 answered_first =
     fill 3 1 204 ∷ SendEvent ∷ SendEvent ∷ SendEvent ∷ ReceiveEvent ∷ ReceiveEvent ∷ ReceiveEvent ∷ PeerEvent 1 ∷ AckOutEvent ∷ AckOutEvent
     ∷ AckInEvent ∷ AckInEvent ∷ []
 
--- the mark goes with the local write, and not before
+-- the local write clears the mark, and nothing clears it before
 pub record ClearedByTheLocalWrite : Type 0 where
   pub submitted : replies (fill 3 1 204 ∷ []) short_epochs_marked ≡ with_barrier 1 (accepted 3) ∷ []
   pub before : marked (after answered_first short_epochs_marked) ≡ 3 ∷ 6 ∷ []
@@ -77,11 +77,11 @@ written_again =
     fill 3 1 204 ∷ LocalEvent 3 ∷ SendEvent ∷ SendEvent ∷ ReceiveEvent ∷ ReceiveEvent ∷ PeerEvent 1 ∷ AckOutEvent ∷ AckInEvent
     ∷ fill 3 1 221 ∷ SendEvent ∷ ReceiveEvent ∷ AckOutEvent ∷ AckInEvent ∷ []
 
--- the first write clears nothing under the second
+-- the first write's release clears no block that the second one covers
 pub record UnderALaterWrite : Type 0 where
   pub marks : marked (after written_again two_marked) ≡ 3 ∷ 6 ∷ []
 
--- The local disk fails the write, and the peer has it.
+-- The local disk fails the write, and the peer applies it.
 abbrev pub failed_here : List Event
 failed_here =
     fill 3 1 204 ∷ SendEvent ∷ SendEvent ∷ ReceiveEvent ∷ ReceiveEvent ∷ PeerEvent 1 ∷ LocalFaultEvent 3 1 ∷ SendEvent ∷ ReceiveEvent

@@ -18,7 +18,7 @@ abbrev pub lost_link : List Event
 lost_link = fill 0 2 17 ∷ fill 2 2 34 ∷ fill 5 1 51 ∷ SendEvent ∷ SendEvent ∷ ReceiveEvent ∷ ClosePrimaryEvent ∷ CloseSecondaryEvent ∷ ReceiveEvent ∷ SendEvent
     ∷ []
 
--- What that answers, and what each end says then: all blocks of the three writes are marked, one of them never sent.
+-- The replies, the marks and the primary's line: all blocks of the three writes are marked, one of them never sent.
 pub record LostLink : Type 0 where
   pub answers : replies lost_link (connected standard)
       ≡ accepted 1 ∷ accepted 2 ∷ accepted 3 ∷ item command.Data 0 ∷ item command.Data 1 ∷ item command.Data 0 ∷ reply.Closed 0 ∷ done ∷ refused
@@ -26,7 +26,7 @@ pub record LostLink : Type 0 where
   pub marks : marked (after lost_link (connected standard)) ≡ 0 ∷ 1 ∷ 2 ∷ 3 ∷ 5 ∷ []
   pub primary : primary_line (after lost_link (connected standard)).primary ≡ lone_primary protocol.C 0 3 0 20
 
--- The next connection waits until the peer is drained. A resync copies no block that an open write has.
+-- The next connection waits until the peer is drained. A resync copies no block that an open write covers.
 abbrev pub reconnected : List Event
 reconnected = OpenEvent 9 11 ∷ PeerEvent 0 ∷ connect 9 11
 
@@ -45,7 +45,7 @@ acknowledged_first = fill 2 1 170 ∷ SendEvent ∷ SendEvent ∷ ReceiveEvent �
 abbrev pub short_epochs : Settings
 short_epochs = record standard { max_epoch = 1 }
 
--- What that answers, and what the primary's line says then.
+-- The replies, the primary's line, where the disks differ, and the mark that a close leaves.
 pub record AcknowledgedFirst : Type 0 where
   pub answers : replies acknowledged_first (connected short_epochs)
       ≡ with_barrier 1 (accepted 1) ∷ item command.Data 0 ∷ item command.Barrier 1 ∷ item command.Data 0 ∷ item command.Barrier 1 ∷ done ∷ frame

@@ -23,7 +23,7 @@ pub record Write : Type 0 where
   pub first : ℕ
   pub contents : List (List ℕ)
 
--- whether a write has the block
+-- whether a write covers the block
 abbrev pub covers : Write → ℕ → Bool
 covers write block = is_between write.first (length write.contents) block
 
@@ -46,18 +46,19 @@ pub record Layer : Type 0 where
   pub contents : List (List ℕ)
   pub laid : ℕ → Bool
 
--- what a block holds once a layer is laid
+-- what a block holds with this layer over it
 abbrev pub block_under : Layer → ℕ → Option (List ℕ) → Option (List ℕ)
 block_under layer block below =
     if is_between layer.first (length layer.contents) block && layer.laid (block - layer.first)
     then slice_get layer.contents (block - layer.first) else below
 
--- Each block holds what the last layer with it has, else what the disk under them has.
+-- A disk under layers, the last one on top: each block holds what the last layer that lays it has, or else what the
+-- disk has.
 abbrev pub overlay : BlockMap → List Layer → BlockMap
 overlay base [] block = base block
 overlay base (layer ∷ layers) block = overlay (λ b. block_under layer b (base b)) layers block
 
--- These are the bytes of so many blocks of a disk, from the first one on.
+-- `bytes` are the contents of `count` blocks of a disk, from block `first` on.
 pub record IsRead (map : BlockMap) (first count : ℕ) (bytes : List ℕ) : Type 0 where
   pub size : length bytes ≡ 4096 * count
   pub each : (offset : ℕ) → offset < count → slice_get (blocks_of 4096 bytes) offset ≡ map (first + offset)

@@ -1,4 +1,4 @@
--- Worked examples of the identifiers: of the decision over them, of how a tuple is turned, and of which words are fresh.
+-- Worked examples of the identifiers: the decision over them, how a tuple changes, and which words are fresh.
 use Rattle.std.specs.Prelude.{◌≡◌, List, [], ◌∷◌, true, false, Ok, Err}
 use Rattle.blocks.specs.declared.refusal.Refusal.TheVariants as refusal
 use Rattle.blocks.specs.declared.outcome.Decision.TheVariants.{NoSync, BitmapSync, FullSync}
@@ -20,7 +20,7 @@ pub record Decisions : Type 0 where
   pub shared_history : decision (words 7 0 5 0) (words 8 5 0 0) ≡ Err refusal.SplitBrain
   pub nothing_shared : decision (words 7 1 0 0) (words 20 21 22 23) ≡ Err refusal.Unrelated
 
--- a lost connection, another one, and a resync from its start to its end
+-- a lost connection, a second loss, and a resync from its start to its end
 pub record Turns : Type 0 where
   pub lost_once : lost 7 (words 1 0 0 0) ≡ words 7 1 0 0
   pub lost_again : lost 8 (words 7 1 0 0) ≡ words 7 1 0 0
@@ -31,7 +31,7 @@ pub record Turns : Type 0 where
 abbrev pub known : List Tuple
 known = words 1 0 9 4 ∷ words 7 3 0 0 ∷ []
 
--- zero is not fresh, nor is any place of any tuple
+-- zero is not fresh, nor is any word of any known tuple
 pub record Freshness : Type 0 where
   pub new_word : is_fresh 5 known ≡ true
   pub first_word : is_fresh 5 [] ≡ true
@@ -42,11 +42,11 @@ pub record Freshness : Type 0 where
   pub current_of_another : is_fresh 7 known ≡ false
   pub bitmap_of_another : is_fresh 3 known ≡ false
 
--- A hello that is refused closes the primary and leaves both tuples.
+-- Two nodes whose data both went on from the same generation.
 abbrev pub split : PairHistory
 split = fresh_with standard (words 7 1 0 0) (words 8 1 0 0)
 
--- a hello that ends in split brain leaves both tuples and closes the end
+-- a hello that ends in split brain leaves both tuples and closes the primary's end
 pub record RefusedHello : Type 0 where
   pub answers : replies (connect 9 11) split ≡ connecting (refused refusal.SplitBrain)
   pub identifiers : tuples (after (connect 9 11) split) ≡ (words 7 1 0 0, words 8 1 0 0)

@@ -21,7 +21,8 @@ pub record Ranges : Type 0 where
   pub answers : replies (fill 2016 32 170 ∷ fill 0 33 170 ∷ fill 0 0 170 ∷ fill 2048 1 170 ∷ fill 2047 2 170 ∷ fill 1023 2 170 ∷ []) (connected two_extents)
       ≡ accepted 1 ∷ refused refusal.BadRange ∷ refused refusal.BadRange ∷ refused refusal.BadRange ∷ refused refusal.BadRange ∷ refused refusal.BadRange ∷ []
 
--- With one slot another extent can be written once the first one's writes are released, and not when they are completed.
+-- With one slot, a write to another extent is accepted once the first extent's writes are released, not when they are
+-- completed.
 pub record OneSlot : Type 0 where
   pub answers : replies (fill 0 1 170 ∷ fill 1024 1 187 ∷ LocalEvent 1 ∷ SendEvent ∷ ReceiveEvent ∷ PeerEvent 0 ∷ AckOutEvent ∷ AckInEvent ∷ fill 1024 1 187
       ∷ SendEvent ∷ ReceiveEvent ∷ AckOutEvent ∷ AckInEvent ∷ fill 1024 1 187 ∷ []) (connected (record two_extents { slots = 1 }))
@@ -29,11 +30,11 @@ pub record OneSlot : Type 0 where
       ∷ with_barrier 1 (completing 1 (frame command.WriteAck)) ∷ refused refusal.ActivityFull
       ∷ item command.Barrier 1 ∷ item command.Barrier 1 ∷ frame command.BarrierAck ∷ frame command.BarrierAck ∷ accepted 2 ∷ []
 
--- A fault of the local disk: the first block is new, the range is marked, the write is failed and holds up nobody.
+-- A fault of the local disk: the first block is written, the range is marked, and a later write to it is accepted.
 abbrev pub local_fault : List Event
 local_fault = fill 2 2 170 ∷ LocalFaultEvent 1 1 ∷ []
 
--- what that answers and leaves
+-- the replies, the marks, the local disk, and the receipt of the failed write, once
 pub record LocalFault : Type 0 where
   pub answers : replies local_fault (connected standard) ≡ accepted 1 ∷ with_barrier 1 done ∷ []
   pub marks : marked (after local_fault (connected standard)) ≡ 2 ∷ 3 ∷ []
@@ -43,11 +44,11 @@ pub record LocalFault : Type 0 where
   pub receipt : (take_completed 1 (after local_fault (connected standard)).primary).0 ≡ Err refusal.LocalFault
   pub taken : (take_completed 1 (take_completed 1 (after local_fault (connected standard)).primary).1).0 ≡ Err refusal.UnknownJob
 
--- A fault may have left all blocks new, and no more than there are.
+-- A fault may have written all blocks of the write, but no more than it has.
 abbrev pub late_fault : List Event
 late_fault = fill 2 3 170 ∷ LocalFaultEvent 1 4 ∷ LocalFaultEvent 1 3 ∷ []
 
--- what that answers, and where the disks differ then
+-- the replies, and the blocks on which the disks differ then
 pub record LateFault : Type 0 where
   pub answers : replies late_fault (connected standard) ≡ accepted 1 ∷ refused refusal.BadRange ∷ with_barrier 1 done ∷ []
   pub differs : differing (after late_fault (connected standard)) ≡ 2 ∷ 3 ∷ 4 ∷ []
@@ -57,7 +58,7 @@ pub record LateFault : Type 0 where
 abbrev pub peer_fault : List Event
 peer_fault = fill 2 3 170 ∷ LocalEvent 1 ∷ SendEvent ∷ ReceiveEvent ∷ PeerFaultEvent 0 1 ∷ PeerEvent 0 ∷ ReceiveEvent ∷ []
 
--- what that answers, and what the primary's close does
+-- the replies, and what the primary's close does
 pub record PeerFault : Type 0 where
   pub answers : replies peer_fault (connected standard)
       ≡ accepted 1 ∷ done ∷ item command.Data 0 ∷ item command.Data 0 ∷ done ∷ refused refusal.UnknownJob ∷ refused refusal.NotConnected ∷ []
@@ -69,7 +70,7 @@ pub record PeerFault : Type 0 where
 abbrev pub epochs_of_two : Settings
 epochs_of_two = record standard { max_epoch = 2 }
 
--- The peer takes a whole epoch and a write of the next one, and fails a write of the first.
+-- The peer takes a whole epoch and a write of the next one, and its disk fails a write of the first.
 abbrev pub fault_among_others : List Event
 fault_among_others =
     fill 2 1 170 ∷ fill 3 1 187 ∷ fill 4 1 204 ∷ SendEvent ∷ SendEvent ∷ SendEvent ∷ SendEvent ∷ ReceiveEvent ∷ ReceiveEvent ∷ ReceiveEvent ∷ ReceiveEvent ∷

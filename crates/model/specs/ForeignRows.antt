@@ -1,4 +1,4 @@
--- Worked examples of frames that the other end of a link never makes.
+-- Worked examples of frames that the other end of a link never sends.
 use Rattle.std.specs.Prelude.{ℕ, ◌≡◌, true, false, List, [], ◌∷◌, ◌++◌, replicate, Some, Ok, Err, map}
 use Rattle.blocks.specs.declared.settings.Protocol.TheVariants as protocol
 use Rattle.blocks.specs.declared.refusal.Refusal.TheVariants as refusal
@@ -16,7 +16,7 @@ use Rattle.model.specs.Secondary.{SecondaryHistory}
 use Rattle.model.specs.SecondarySteps.{receive, peer}
 use Rattle.model.specs.WriteRows.{one_write, semisynchronous}
 
--- a write of so many blocks of one byte
+-- a write of `count` blocks of one byte
 abbrev pub write_of : ℕ → ℕ → ℕ → Write
 write_of number first count = record { number = number; first = first; contents = replicate count (170 ∷ []) }
 
@@ -28,22 +28,23 @@ ack_of first number count place = record { first = first; number = number; count
 abbrev pub sent_one : PairHistory
 sent_one = after (fill 2 1 170 ∷ SendEvent ∷ ReceiveEvent ∷ []) (connected standard)
 
--- what a secondary answers to a frame
+-- a secondary's reply to a frame
 abbrev pub answer_of : Received → SecondaryHistory → Reply
 answer_of frame h = (receive (Some frame) false h).0
 
--- what the secondary answers to each of these frames
+-- frames that a secondary refuses after the first write
 abbrev pub to_secondary : List Received
 to_secondary =
     Ok (DataFrame (write_of 2 3 1) 2) ∷ Ok (DataFrame (write_of 2 2 1) 1) ∷ Ok (DataFrame (write_of 1 3 1) 1) ∷ Ok (DataFrame (write_of 2 7 2) 1)
     ∷ Ok (BarrierFrame 2) ∷ Ok (SyncUuidFrame 9) ∷ Ok (UuidsFrame (words 7 0 9 1)) ∷ Ok (RsDataReplyFrame 3 (170 ∷ []) 1)
     ∷ Ok (ProtocolFrame protocol.C) ∷ Ok (WriteAckFrame (ack_of 2 1 1 0)) ∷ Err refusal.BadLength ∷ []
 
--- the secondary that took the first write, after one more frame
+-- the secondary that took the first write, after another frame
 abbrev pub secondary_after : Received → SecondaryHistory
 secondary_after frame = (receive (Some frame) false sent_one.secondary).1
 
--- Each frame that no honest peer sends is refused with its number, and closes the end.
+-- The secondary refuses each of these frames, which no honest peer sends, and closes its end. It can still apply what
+-- it took.
 pub record ToSecondary : Type 0 where
   pub answers : map (λ frame. answer_of frame sent_one.secondary) to_secondary
       ≡ replicate 8 (refused refusal.BadField) ++ refused refusal.BadCommand ∷ refused refusal.BadCommand ∷ refused refusal.BadLength ∷ []
@@ -56,7 +57,7 @@ to_primary =
     Ok (WriteAckFrame (ack_of 2 2 1 0)) ∷ Ok (WriteAckFrame (ack_of 2 1 1 1)) ∷ Ok (WriteAckFrame (ack_of 2 1 2 0)) ∷ Ok (RecvAckFrame (ack_of 2 1 1 0))
     ∷ Ok (RsWriteAckFrame (ack_of 3 0 1 1)) ∷ Ok (BarrierAckFrame 1 1) ∷ Ok (DataFrame (write_of 1 2 1) 0) ∷ []
 
--- what a primary answers to a frame
+-- a primary's reply to a frame
 abbrev pub reply_of : Received → PrimaryHistory → Reply
 reply_of frame h = (ack_in (Some frame) false h).0
 
@@ -68,7 +69,8 @@ primary_after frame h = (ack_in (Some frame) false h).1
 abbrev pub sent_with_barrier : PrimaryHistory
 sent_with_barrier = (after (fill 2 1 170 ∷ SendEvent ∷ SendEvent ∷ []) (connected (record standard { max_epoch = 1 }))).primary
 
--- Each frame that no honest peer sends is refused with its number, and closes the end.
+-- The primary refuses each of these frames, which no honest peer sends, and closes its end. A BARRIER_ACK that comes
+-- before its write's acknowledgement is refused too.
 pub record ToPrimary : Type 0 where
   pub answers : map (λ frame. reply_of frame sent_one.primary) to_primary
       ≡ replicate 5 (refused refusal.UnknownAck) ++ refused refusal.BadBarrierAck ∷ refused refusal.BadCommand ∷ []
@@ -77,11 +79,11 @@ pub record ToPrimary : Type 0 where
   pub identifiers : map (λ frame. (primary_after frame sent_one.primary).tuple) to_primary ≡ replicate 7 (words 7 1 0 0)
   pub too_early : reply_of (Ok (BarrierAckFrame 1 1)) sent_with_barrier ≡ refused refusal.BadBarrierAck
 
--- after a completed write whose barrier was sent: a wrong size of the epoch, and a second acknowledgement of the write
+-- a primary with a completed write whose barrier was sent
 abbrev pub completed_one : PrimaryHistory
 completed_one = (after (one_write ++ SendEvent ∷ []) (connected standard)).primary
 
--- after the write is completed its acknowledgement is not expected again, nor a barrier of another size
+-- A BARRIER_ACK with a wrong size, or a second acknowledgement of the write, is refused and closes the end.
 pub record AfterOneWrite : Type 0 where
   pub wrong_size : reply_of (Ok (BarrierAckFrame 1 2)) completed_one ≡ refused refusal.BadBarrierAck
   pub repeated : reply_of (Ok (WriteAckFrame (ack_of 2 1 1 0))) completed_one ≡ refused refusal.UnknownAck
@@ -91,7 +93,7 @@ pub record AfterOneWrite : Type 0 where
   pub marks_too : (primary_after (Ok (WriteAckFrame (ack_of 2 1 1 0))) completed_one).marks 2 ≡ true
   pub identifiers_too : (primary_after (Ok (WriteAckFrame (ack_of 2 1 1 0))) completed_one).tuple ≡ words 7 1 0 0
 
--- under protocol B, a primary that sent a write, and the peer has received it
+-- under protocol B, a primary that sent a write
 abbrev pub received_one : PrimaryHistory
 received_one = (after (fill 2 1 170 ∷ SendEvent ∷ []) (connected semisynchronous)).primary
 

@@ -30,7 +30,7 @@ pub data Packet : Type 0 where
   RsWriteAckFrame : (of : Acknowledged) → Packet
   BarrierAckFrame : (number size : ℕ) → Packet
 
--- A taken frame, read: a packet, or the first of the faults 20 to 23 that stands in its place.
+-- A taken frame as it is read: its packet, or the first of the faults 20 to 23 of its bytes.
 abbrev pub Received : Type 0
 Received = Result Packet Refusal
 
@@ -56,7 +56,7 @@ frame_of place (BarrierItem epoch) = BarrierFrame epoch
 frame_of place (SyncUuidItem word) = SyncUuidFrame word
 frame_of place (UuidsItem tuple) = UuidsFrame tuple
 
--- the item that a frame brings, where it brings one
+-- the item that a frame carries, if it carries one
 abbrev pub item_of : Packet → Option StreamItem
 item_of (DataFrame write place) = Some (WriteItem write)
 item_of (RsDataReplyFrame block contents place) = Some (ResyncItem block contents)
@@ -74,7 +74,7 @@ item_of (BarrierAckFrame number size) = None
 abbrev pub naming : ℕ → StreamItem → Acknowledged
 naming place item = record { first = first_of item; number = number_of item; count = length (contents_of item); place = place }
 
--- The frames taken that count: the last one does not, where it was refused.
+-- The frames taken that count: all, but not the last one if it was refused.
 abbrev pub counting : Bool → List Received → List Received
 counting refused taken = if refused then take (length taken - 1) taken else taken
 
@@ -82,7 +82,7 @@ counting refused taken = if refused then take (length taken - 1) taken else take
 abbrev pub hello_of : Settings → Tuple → List Packet
 hello_of settings tuple = ProtocolFrame settings.protocol ∷ SizesFrame settings.blocks ∷ UuidsFrame tuple ∷ []
 
--- the frames of these items, of which the first stands at this place
+-- the frames of these items, the first of them at this place
 abbrev pub frames_from : ℕ → List StreamItem → List Packet
 frames_from place [] = []
 frames_from place (item ∷ items) = frame_of place item ∷ frames_from (place + 1) items

@@ -17,7 +17,7 @@ use Rattle.model.specs.Acknowledgements.{ack_in}
 use Rattle.model.specs.Secondary.{SecondaryHistory, secondary_opening, secondary_connection, is_drained, items_taken, secondary_map, answers_due}
 use Rattle.model.specs.SecondarySteps.{open_secondary, receive, peer, peer_fault, peer_tests, ack_out, close_secondary}
 
--- what may happen to a pair
+-- the events of a pair
 pub data Event : Type 0 where
   OpenEvent : (sync loss : ℕ) → Event
   SubmitEvent : (first : ℕ) (contents : List (List ℕ)) → Event
@@ -39,22 +39,22 @@ pub record PairHistory : Type 0 where
   pub primary : PrimaryHistory
   pub secondary : SecondaryHistory
 
--- an opening of a pair from its parts
+-- the pair at its start, from its parts
 abbrev pub pair_opening : Settings → BlockMap → BlockMap → Tuple → Tuple → (ℕ → Bool) → PairHistory
 pair_opening settings local peer own peer_tuple marks =
     record { primary = primary_opening settings local own marks; secondary = secondary_opening settings peer peer_tuple }
 
 -- The link. Both ends opened together, so their last connections are the two ends of one link.
 
--- the frames that an end has pushed: the first so many of those that it owes
+-- the frames that the primary has pushed, of those that are due
 abbrev pub pushed_frames : PairHistory → List Packet
 pushed_frames h = let c = primary_connection h.primary in take c.pushed (frames_due h.primary.settings c)
 
--- what the secondary has put into the link back
+-- the frames that the secondary has pushed, of those that are due
 abbrev pub pushed_answers : PairHistory → List Packet
 pushed_answers h = let c = secondary_connection h.secondary in take c.pushed (answers_due h.secondary.settings c)
 
--- The next frame that the other end takes, as the other end reads it: the frames are honest, so it is the packet.
+-- The next frame that the secondary takes, as it reads it: the frames are honest, so it is the packet.
 abbrev pub next_frame : PairHistory → Option Received
 next_frame h = option_map (λ packet. Ok packet) (slice_get (pushed_frames h) (length (secondary_connection h.secondary).taken))
 
@@ -62,30 +62,31 @@ next_frame h = option_map (λ packet. Ok packet) (slice_get (pushed_frames h) (l
 abbrev pub next_answer : PairHistory → Option Received
 next_answer h = option_map (λ packet. Ok packet) (slice_get (pushed_answers h) (length (primary_connection h.primary).taken))
 
--- A direction has room while fewer than `link` of its frames are pushed and not taken.
+-- The direction to the secondary has room: fewer than `link` of its frames are pushed and not taken.
 abbrev pub has_room : PairHistory → Bool
 has_room h = nat_lt ((primary_connection h.primary).pushed - length (secondary_connection h.secondary).taken) h.primary.settings.link
 
--- the link back has room
+-- the direction to the primary has room
 abbrev pub answers_have_room : PairHistory → Bool
 answers_have_room h = nat_lt ((secondary_connection h.secondary).pushed - length (primary_connection h.primary).taken) h.secondary.settings.link
 
 -- Steps.
 
--- a step of the primary, of which the secondary sees nothing
+-- a step of the primary, which leaves the secondary as it is
 abbrev pub on_primary : (PrimaryHistory → Reply × PrimaryHistory) → PairHistory → Reply × PairHistory
 on_primary step h = let done = step h.primary in (done.0, record h { primary = done.1 })
 
--- a step of the secondary, of which the primary sees nothing
+-- a step of the secondary, which leaves the primary as it is
 abbrev pub on_secondary : (SecondaryHistory → Reply × SecondaryHistory) → PairHistory → Reply × PairHistory
 on_secondary step h = let done = step h.secondary in (done.0, record h { secondary = done.1 })
 
--- the answers of both ends must be closed, and the secondary drained, before the primary's own tests
+-- the tests of an opening of both ends: the secondary's end is closed and it is drained, and then the primary's own
+-- tests
 abbrev pub open_pair_tests : PairHistory → ℕ → ℕ → Bool → List Test
 open_pair_tests h sync loss out_of_memory =
     (not ((secondary_connection h.secondary).closed && is_drained h.secondary), NotDrained) ∷ open_tests h.primary sync loss out_of_memory
 
--- both ends open, or none
+-- opens both ends, or neither
 abbrev pub open_pair : ℕ → ℕ → Bool → PairHistory → Reply × PairHistory
 open_pair sync loss out_of_memory h = elim (first_refusal (open_pair_tests h sync loss out_of_memory)) [
   | Some refusal ↦ (reply.Refused refusal, h)
@@ -95,12 +96,12 @@ open_pair sync loss out_of_memory h = elim (first_refusal (open_pair_tests h syn
   )
 ]
 
--- A fault with more blocks kept than the write has is refused 1, after the other tests.
+-- The fault keeps more blocks than the write has; `BadRange` (1) refuses it, after the other tests.
 abbrev pub keeps_too_many : ℕ → Option ℕ → Bool
 keeps_too_many kept None = false
 keeps_too_many kept (Some count) = nat_lt count kept
 
--- a local write that fails after so many blocks
+-- a local write fails after its first `kept` blocks
 abbrev pub local_fault_kept : ℕ → ℕ → PrimaryHistory → Reply × PrimaryHistory
 local_fault_kept number kept h =
     elim (first_refusal ((not (is_unfinished h number), UnknownJob) ∷
@@ -109,7 +110,7 @@ local_fault_kept number kept h =
       | None ↦ local_fault number (below kept) h
     ]
 
--- an item that fails on the peer's disk after so many blocks
+-- an item fails on the peer's disk after its first `kept` blocks
 abbrev pub peer_fault_kept : ℕ → ℕ → SecondaryHistory → Reply × SecondaryHistory
 peer_fault_kept place kept h =
     elim (first_refusal (peer_tests h place ++ (
@@ -120,7 +121,7 @@ peer_fault_kept place kept h =
       | None ↦ peer_fault place (below kept) h
     ]
 
--- One event. `out_of_memory` says that its growth of memory is refused, which an event that needs none does not see.
+-- One event. `out_of_memory` says that its growth of memory is refused; an event that needs none is not affected.
 abbrev pub step : Event → Bool → PairHistory → Reply × PairHistory
 step (OpenEvent sync loss) out_of_memory h = open_pair sync loss out_of_memory h
 step (SubmitEvent first contents) out_of_memory h = on_primary (submit first contents out_of_memory) h
@@ -137,7 +138,7 @@ step ResyncFaultEvent out_of_memory h = on_primary (resync_fault out_of_memory) 
 step ClosePrimaryEvent out_of_memory h = on_primary close_primary h
 step CloseSecondaryEvent out_of_memory h = on_secondary close_secondary h
 
--- A run: events one after another, each with whether it is out of memory; the replies, and the history in the end.
+-- A run of events in order, each with whether it is out of memory: the replies, and the history at the end.
 abbrev pub run : List (Event × Bool) → PairHistory → List Reply × PairHistory
 run [] h = ([], h)
 run (event ∷ events) h = let done = step event.0 event.1 h in let rest = run events done.1 in (done.0 ∷ rest.0, rest.1)
@@ -146,9 +147,9 @@ run (event ∷ events) h = let done = step event.0 event.1 h in let rest = run e
 abbrev pub run_fed : List Event → PairHistory → List Reply × PairHistory
 run_fed events h = run (map (λ event. (event, false)) events) h
 
--- What is asked of a pair.
+-- What is observed of a pair.
 
--- whether the two disks differ in a block, where a block that only one of them has counts as differing
+-- two blocks have the same bytes
 abbrev pub same_bytes : List ℕ → List ℕ → Bool
 same_bytes [] [] = true
 same_bytes (x ∷ xs) (y ∷ ys) = (x == y) && same_bytes xs ys

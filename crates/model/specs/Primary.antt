@@ -1,4 +1,4 @@
--- The history of a primary, and what is read off it.
+-- The history of a primary, and the values that it determines.
 use Rattle.std.specs.Prelude.{ℕ, zero, suc, unwrap_or, ◌-◌, nat_lt, ◌==◌, Bool, true, false, ◌&&◌, ◌||◌, not, if◌then◌else◌, List, [], ◌∷◌, ◌++◌, length, map}
 use Rattle.std.specs.Prelude.{filter, find, Option, Some, None, option_map, slice_get, Ok}
 use Rattle.std.specs.List.{list_any}
@@ -12,14 +12,15 @@ use Rattle.model.specs.Stream.{StreamItem, WriteItem, ResyncItem, SyncUuidItem, 
 use Rattle.model.specs.Frames.{Packet, RecvAckFrame, WriteAckFrame, RsWriteAckFrame, BarrierAckFrame, Acknowledged, Received, hello_of, frames_of, naming}
 use Rattle.model.specs.Frames.{counting}
 
--- What the local disk did with a write: nothing yet, all of it, or it failed and these offsets reached the disk.
+-- What the local disk did with a write: nothing yet, wrote all of it, or failed it after these offsets reached the
+-- disk.
 pub data LocalOutcome : Type 0 where
   Waiting : LocalOutcome
   OnDisk : LocalOutcome
   Failed : (offsets : List ℕ) → LocalOutcome
 
--- An accepted write: how long the journal was when it was accepted, its home (the index of the connection and the place in its
--- stream, both from 0) or none, and what the local disk did with it.
+-- An accepted write: the journal's length when it was accepted, its home (the index of the connection and the place in
+-- its stream, both from 0) or none, and what the local disk did with it.
 pub record Accepted : Type 0 where
   pub write : Write
   pub journal_length : ℕ
@@ -38,8 +39,8 @@ pub record Completion : Type 0 where
   pub home : Option StreamPosition
 
 -- One connection at the primary's end: its two words, the tuple that its hello names, its stream, how many frames were
--- pushed, those that were taken, whether the last of them was refused as a protocol error, whether the stream has begun,
--- and whether the end is closed.
+-- pushed, those that were taken, whether the last of them was refused as a protocol error, whether the stream has
+-- begun, and whether the end is closed.
 pub record PrimaryConnection : Type 0 where
   pub sync : ℕ
   pub loss : ℕ
@@ -51,7 +52,7 @@ pub record PrimaryConnection : Type 0 where
   pub begun : Bool
   pub closed : Bool
 
--- The primary's history. Connections stand oldest first, writes by rising number.
+-- The primary's history. Connections are in the order of their opening, writes by rising number.
 pub record PrimaryHistory : Type 0 where
   pub settings : Settings
   pub opening_map : BlockMap
@@ -65,7 +66,7 @@ pub record PrimaryHistory : Type 0 where
   pub peer : Option Tuple
   pub connections : List PrimaryConnection
 
--- an opening: nothing has happened yet
+-- the primary at its start: nothing has happened yet
 abbrev pub primary_opening : Settings → BlockMap → Tuple → (ℕ → Bool) → PrimaryHistory
 primary_opening settings disk tuple marks = record {
   settings = settings;
@@ -81,7 +82,7 @@ primary_opening settings disk tuple marks = record {
   connections = [];
 }
 
--- a connection at its beginning: its two words, and the tuple of its hello
+-- a new connection with its two words and the tuple of its hello
 abbrev pub new_primary_connection : ℕ → ℕ → Tuple → PrimaryConnection
 new_primary_connection sync loss hello = record {
   sync = sync;
@@ -95,21 +96,21 @@ new_primary_connection sync loss hello = record {
   closed = false;
 }
 
--- The last connection, or a closed one where there was none.
+-- a closed connection on which nothing happened, for when there is none
 abbrev pub no_primary_connection : Tuple → PrimaryConnection
 no_primary_connection t = record { sync = 0; loss = 0; hello = t; stream = []; pushed = 0; taken = []; refused = false; begun = false; closed = true }
 
--- the last one, or else the first argument
+-- the last element, or the first argument if the list is empty
 abbrev pub last_of : {X : Type 0} → X → List X → X
 last_of none [] = none
 last_of none (x ∷ xs) = last_of x xs
 
--- the last connection, open or closed
+-- the last connection, open or closed, or a closed one if there was none
 abbrev pub primary_connection : PrimaryHistory → PrimaryConnection
 primary_connection h = last_of (no_primary_connection h.tuple) h.connections
 
--- The end of a connection by its number, the first being 1: a closed one on which nothing happened, where this node never
--- opened that connection.
+-- The primary's end of a connection by its number, counted from 1; a closed one on which nothing happened, if this node
+-- never opened it.
 abbrev pub primary_connection_at : PrimaryHistory → ℕ → PrimaryConnection
 primary_connection_at h zero = no_primary_connection h.tuple
 primary_connection_at h (suc k) = unwrap_or (slice_get h.connections k) (no_primary_connection h.tuple)
@@ -128,13 +129,13 @@ change_last f (x ∷ y ∷ xs) = x ∷ change_last f (y ∷ xs)
 abbrev pub with_primary_connection : (PrimaryConnection → PrimaryConnection) → PrimaryHistory → PrimaryHistory
 with_primary_connection f h = record h { connections = change_last f h.connections }
 
--- A stream stands while the end is open and its stream has begun.
+-- The connection is established: the end is open and its stream has begun.
 abbrev pub is_established : PrimaryConnection → Bool
 is_established c = not c.closed && c.begun
 
 -- Frames.
 
--- all frames that the end owes: its hello, and then its stream
+-- all frames that the end is to send: its hello, and then its stream
 abbrev pub frames_due : Settings → PrimaryConnection → List Packet
 frames_due settings c = hello_of settings c.hello ++ frames_of c.stream
 
@@ -152,17 +153,17 @@ accepted_frames c = counting c.refused c.taken
 abbrev pub same_naming : Acknowledged → Acknowledged → Bool
 same_naming a b = ((a.first == b.first) && (a.number == b.number)) && ((a.count == b.count) && (a.place == b.place))
 
--- the frame is the RECV_ACK of this
+-- the frame is the RECV_ACK of this item
 abbrev pub is_recv_ack : Acknowledged → Received → Bool
 is_recv_ack of (Ok (RecvAckFrame ack)) = same_naming of ack
 is_recv_ack of _ = false
 
--- the frame is the WRITE_ACK of this
+-- the frame is the WRITE_ACK of this item
 abbrev pub is_write_ack : Acknowledged → Received → Bool
 is_write_ack of (Ok (WriteAckFrame ack)) = same_naming of ack
 is_write_ack of _ = false
 
--- the frame is the RS_WRITE_ACK of this
+-- the frame is the RS_WRITE_ACK of this item
 abbrev pub is_rs_write_ack : Acknowledged → Received → Bool
 is_rs_write_ack of (Ok (RsWriteAckFrame ack)) = same_naming of ack
 is_rs_write_ack of _ = false
@@ -172,19 +173,19 @@ abbrev pub is_barrier_ack : ℕ → Received → Bool
 is_barrier_ack epoch (Ok (BarrierAckFrame number size)) = number == epoch
 is_barrier_ack epoch _ = false
 
--- the peer has said that it received the item
+-- the peer has acknowledged that it received the item
 abbrev pub was_received : PrimaryConnection → ℕ → StreamItem → Bool
 was_received c place item = list_any (is_recv_ack (naming place item)) (accepted_frames c)
 
--- the peer has said that the write is on its disk
+-- the peer has acknowledged that the write is on its disk
 abbrev pub was_written : PrimaryConnection → ℕ → StreamItem → Bool
 was_written c place item = list_any (is_write_ack (naming place item)) (accepted_frames c)
 
--- the peer has said that the block of a resync is on its disk
+-- the peer has acknowledged that the block of a resync is on its disk
 abbrev pub was_resynced : PrimaryConnection → ℕ → StreamItem → Bool
 was_resynced c place item = list_any (is_rs_write_ack (naming place item)) (accepted_frames c)
 
--- the peer has said that all of the epoch is applied
+-- the peer has acknowledged that all of the epoch is applied
 abbrev pub barrier_acknowledged : PrimaryConnection → ℕ → Bool
 barrier_acknowledged c epoch = list_any (is_barrier_ack epoch) (accepted_frames c)
 
@@ -195,7 +196,7 @@ is_answered_by protocol.A c place item = nat_lt place (items_sent c)
 is_answered_by protocol.B c place item = was_received c place item
 is_answered_by protocol.C c place item = was_written c place item
 
--- the write's connection and its item there, where it has a home
+-- the write has a home in a stream, and is answered there
 abbrev pub is_answered : PrimaryHistory → Accepted → Bool
 is_answered h accepted = elim accepted.home [
   | None ↦ false
@@ -205,14 +206,14 @@ is_answered h accepted = elim accepted.home [
   ]
 ]
 
--- Without a connection: accepted while no stream stood, or the primary has closed that connection.
+-- The write is alone: accepted while no connection was established, or the primary has closed its connection.
 abbrev pub is_alone : PrimaryHistory → Accepted → Bool
 is_alone h accepted = elim accepted.home [
   | None ↦ true
   | Some home ↦ elim (slice_get h.connections home.index) [ None ↦ true | Some c ↦ c.closed ]
 ]
 
--- The states of a write, read off.
+-- The states of a write.
 
 -- the local disk has written it
 abbrev pub is_on_disk : LocalOutcome → Bool
@@ -240,7 +241,7 @@ is_completed h number = list_any (λ entry. entry.write.number == number) h.jour
 abbrev pub is_open : PrimaryHistory → Accepted → Bool
 is_open h accepted = not (is_completed h accepted.write.number) && not (is_failed accepted.outcome)
 
--- it is to be completed now: its local write is done, and it is answered or without a connection
+-- the write can be completed: its local write is done, and it is answered or alone
 abbrev pub completes : PrimaryHistory → Accepted → Bool
 completes h accepted = is_on_disk accepted.outcome && (is_answered h accepted || is_alone h accepted)
 
@@ -248,7 +249,7 @@ completes h accepted = is_on_disk accepted.outcome && (is_answered h accepted ||
 abbrev pub home_epoch : PrimaryHistory → StreamPosition → ℕ
 home_epoch h home = elim (slice_get h.connections home.index) [ None ↦ 0 | Some c ↦ epoch_of c.stream home.place ]
 
--- its epoch's BARRIER_ACK was taken
+-- the BARRIER_ACK of the write's epoch was taken
 abbrev pub is_confirmed : PrimaryHistory → Accepted → Bool
 is_confirmed h accepted = elim accepted.home [
   | None ↦ false
@@ -259,11 +260,11 @@ is_confirmed h accepted = elim accepted.home [
 abbrev pub next_local : PrimaryHistory → Option ℕ
 next_local h = option_map (λ accepted. accepted.write.number) (find (λ accepted. is_waiting accepted.outcome) h.writes)
 
--- Released: its local write is done or failed, and its epoch is acknowledged or it is without a connection.
+-- Released: the local disk has written or failed it, and its epoch is acknowledged or it is alone.
 abbrev pub is_released : PrimaryHistory → Accepted → Bool
 is_released h accepted = not (is_waiting accepted.outcome) && (is_confirmed h accepted || is_alone h accepted)
 
--- the transfer log: what is not released
+-- the transfer log: the writes that are not released
 abbrev pub unreleased : PrimaryHistory → List Accepted
 unreleased h = filter (λ accepted. not (is_released h accepted)) h.writes
 
@@ -271,21 +272,21 @@ unreleased h = filter (λ accepted. not (is_released h accepted)) h.writes
 abbrev pub open_writes : PrimaryHistory → List Accepted
 open_writes h = filter (is_open h) h.writes
 
--- The local disk: the accepted writes, as far as they reached it, over the opening contents.
+-- the write's block at this offset reached the local disk
 abbrev pub offset_reached : LocalOutcome → ℕ → Bool
 offset_reached Waiting offset = false
 offset_reached OnDisk offset = true
 offset_reached (Failed offsets) offset = list_any (λ k. k == offset) offsets
 
--- what a write laid on the local disk
+-- the blocks of a write that reached the local disk, as a layer
 abbrev pub local_layer : Accepted → Layer
 local_layer accepted = record { first = accepted.write.first; contents = accepted.write.contents; laid = offset_reached accepted.outcome }
 
--- the local disk: all writes, as far as the disk did them, over what it held at the opening
+-- the local disk: the accepted writes, as far as they reached it, over the opening contents
 abbrev pub local_map : PrimaryHistory → BlockMap
 local_map h = overlay h.opening_map (map local_layer h.writes)
 
--- The extents with an unreleased write, each once (DRBD User's Guide, "The activity log").
+-- the list with this number in it, without a second copy
 abbrev pub insert_once : ℕ → List ℕ → List ℕ
 insert_once n ns = if list_any (λ m. m == n) ns then ns else n ∷ ns
 
@@ -319,7 +320,7 @@ is_resync _ = false
 abbrev pub in_resync : List StreamItem → Bool
 in_resync items = list_any is_sync_start items && not (list_any is_sync_end items)
 
--- a resync runs at the source
+-- a resync runs on this connection, from this node
 abbrev pub resync_runs : PrimaryConnection → Bool
 resync_runs c = is_established c && in_resync c.stream
 
@@ -331,6 +332,6 @@ under_way c = filter (λ entry. is_resync entry.1 && not (was_resynced c entry.0
 abbrev pub marked_blocks : PrimaryHistory → List ℕ
 marked_blocks h = filter h.marks (below h.settings.blocks)
 
--- the lowest marked block that no open write has
+-- the lowest marked block that no open write covers
 abbrev pub free_block : PrimaryHistory → Option ℕ
 free_block h = find (λ block. not (list_any (λ accepted. covers accepted.write block) (open_writes h))) (marked_blocks h)

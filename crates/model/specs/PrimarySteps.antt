@@ -25,14 +25,15 @@ use Rattle.model.specs.Marks.{marking, marking_unreleased, releasing}
 
 -- What follows an effect in the same step.
 
--- A step's outcome: the history, the numbers that were completed, the barrier that was appended, whether a resync ended.
+-- A step's outcome: the history, the numbers that were completed, the barrier that was appended, whether a resync
+-- ended.
 pub record Followed : Type 0 where
   pub history : PrimaryHistory
   pub completed : List ℕ
   pub barrier : Option ℕ
   pub synced : Bool
 
--- the open writes that are completed now
+-- the open writes that can be completed now
 abbrev pub newly_completed : PrimaryHistory → List Accepted
 newly_completed h = filter (λ accepted. is_open h accepted && completes h accepted) h.writes
 
@@ -40,7 +41,7 @@ newly_completed h = filter (λ accepted. is_open h accepted && completes h accep
 abbrev pub completion_of : PrimaryHistory → Accepted → Completion
 completion_of h accepted = record { write = accepted.write; kind = if is_answered h accepted then Linked else Alone; home = accepted.home }
 
--- The journal gets what is completed now, by rising number.
+-- Appends the writes that can be completed now to the journal, by rising number.
 abbrev pub with_completions : PrimaryHistory → PrimaryHistory
 with_completions h = record h { journal = h.journal ++ map (completion_of h) (newly_completed h) }
 
@@ -50,14 +51,14 @@ is_settled h c entry =
     list_any (λ accepted. (is_write entry.1 && (accepted.write.number == number_of entry.1)) && not (is_open h accepted)) h.writes
     || (is_resync entry.1 && was_resynced c entry.0 entry.1)
 
--- The last epoch is over: one of its items is settled, or it has as many writes as may be.
+-- The last epoch of an established connection is over: one of its items is settled, or it has `max_epoch` writes.
 abbrev pub epoch_is_over : PrimaryHistory → Bool
 epoch_is_over h =
     let c = primary_connection h in
     is_established c && (list_any (is_settled h c) (items_of_epoch c.stream (last_epoch c.stream)) || nat_le h.settings.max_epoch
     (epoch_size c.stream (last_epoch c.stream)))
 
--- an item goes to the end of the stream
+-- appends an item to the stream
 abbrev pub appending : StreamItem → PrimaryHistory → PrimaryHistory
 appending item h = with_primary_connection (λ c. record c { stream = c.stream ++ item ∷ [] }) h
 
@@ -68,18 +69,18 @@ resync_is_over h = elim (resync_runs (primary_connection h)) [
   | true ↦ (length (marked_blocks h) == 0) && (length (under_way (primary_connection h)) == 0)
 ]
 
--- the end of a resync at its source
+-- ends a resync at its source: changes the tuple by `sync_end`, and appends it to the stream as UUIDS
 abbrev pub ending_resync : PrimaryHistory → PrimaryHistory
 ending_resync h = appending (UuidsItem (sync_end h.tuple)) (record h { tuple = sync_end h.tuple })
 
--- what a step comes to, where a resync is over or goes on
+-- the outcome of a step, with the end of the resync if that is over
 abbrev pub followed_with : (over : Bool) → PrimaryHistory → List ℕ → Option ℕ → Followed
 followed_with over h completed barrier = elim over [
   | true ↦ record { history = ending_resync h; completed = completed; barrier = barrier; synced = true }
   | false ↦ record { history = h; completed = completed; barrier = barrier; synced = false }
 ]
 
--- First the journal, then the barrier, then the end of the resync.
+-- What follows an effect: the completions in the journal, then the barrier, then the end of the resync.
 abbrev pub follows : PrimaryHistory → Followed
 follows h =
     let completed = with_completions h in
@@ -89,23 +90,23 @@ follows h =
     let parted : PrimaryHistory = elim over [ true ↦ appending (BarrierItem epoch) completed | false ↦ completed ] in
     followed_with (resync_is_over parted) parted numbers (if over then Some epoch else None)
 
--- A step that was done: its report and its history.
+-- A step that succeeds: its report, and the history after what follows.
 abbrev pub succeeding : What → PrimaryHistory → Reply × PrimaryHistory
 succeeding done h =
     let after = follows h in
     (reply.Ok (record { what = done; completed = slice_get after.completed 0; barrier = after.barrier; synced = after.synced }), after.history)
 
--- A step that its tests refuse leaves the history; otherwise it is what the second argument says.
+-- A step that its tests refuse leaves the history as it is; otherwise `done` is its outcome.
 abbrev pub tested : PrimaryHistory → List Test → (Unit {0} → Reply × PrimaryHistory) → Reply × PrimaryHistory
 tested h tests done = elim (first_refusal tests) [ Some refusal ↦ (reply.Refused refusal, h) | None ↦ done tt ]
 
 -- Open.
 
--- the tuples in which a fresh word may not stand
+-- the tuples that a fresh word is not in: this node's, and the peer's if it was seen
 abbrev pub known_tuples : PrimaryHistory → List Tuple
 known_tuples h = elim h.peer [ None ↦ h.tuple ∷ [] | Some peer ↦ h.tuple ∷ peer ∷ [] ]
 
--- when an opening is refused, in order
+-- the tests of an opening, in order
 abbrev pub open_tests : PrimaryHistory → ℕ → ℕ → Bool → List Test
 open_tests h sync loss out_of_memory =
     (not (primary_connection h).closed, NotDrained) ∷ (not (are_fresh sync loss (known_tuples h)), UsedIdentifier)
@@ -121,23 +122,25 @@ open_primary sync loss out_of_memory h = tested h (open_tests h sync loss out_of
 
 -- Submit.
 
--- The lowest open write that shares a block with the range, where 0 stands for the block that a resync has under way.
+-- The lowest open write that shares a block with the range, or 0 if the range covers the block that a resync has under
+-- way.
 abbrev pub conflict : PrimaryHistory → Write → Option ℕ
 conflict h write =
     if list_any (λ entry. elim entry.1 as (λ _. Bool) [ ResyncItem block contents ↦ covers write block | _ ↦ false ])
     (elim (is_established (primary_connection h)) [ true ↦ under_way (primary_connection h) | false ↦ [] ])
     then Some 0 else slice_get (map (λ accepted. accepted.write.number) (filter (λ accepted. overlap accepted.write write) (open_writes h))) 0
 
--- no slot can be had: the extent has no unreleased write, and as many others have one as there are slots
+-- the activity log has no slot for the extent: no unreleased write lies in it, and as many others have one as there are
+-- slots
 abbrev pub activity_is_full : PrimaryHistory → ℕ → Bool
 activity_is_full h extent =
     not (list_any (λ active. active == extent) (active_extents h)) && nat_le h.settings.slots (length (active_extents h))
 
--- the write that a submission asks for; its number is the next one
+-- the write that a submission asks for, with the next number
 abbrev pub submission : PrimaryHistory → ℕ → List (List ℕ) → Write
 submission h first contents = record { number = suc (length h.writes); first = first; contents = contents }
 
--- when a submission is refused, in order
+-- the tests of a submission, in order
 abbrev pub submit_tests : PrimaryHistory → ℕ → List (List ℕ) → Bool → List Test
 submit_tests h first contents out_of_memory =
     let c = primary_connection h in
@@ -147,7 +150,7 @@ submit_tests h first contents out_of_memory =
     ∷ (is_some met, Conflict (unwrap_or met 0)) ∷ (activity_is_full h (extent_of first), ActivityFull)
     ∷ (is_established c && nat_le 4294967288 (length c.stream), StreamFull) ∷ (out_of_memory, NoMemory) ∷ []
 
--- With a stream the write takes its next place; without one its range is marked.
+-- Accepts the write: on an established connection it takes the stream's next place; without one its range is marked.
 abbrev pub submitted_with : (has_stream : Bool) → PrimaryHistory → ℕ → List (List ℕ) → PrimaryHistory
 submitted_with has_stream h first contents =
     let write = submission h first contents in
@@ -183,15 +186,15 @@ submit first contents out_of_memory h = tested h (submit_tests h first contents 
 abbrev pub is_unfinished : PrimaryHistory → ℕ → Bool
 is_unfinished h number = list_any (λ accepted. (accepted.write.number == number) && is_waiting accepted.outcome) h.writes
 
--- what the disk did, put down with the write of this number
+-- records what the disk did with the write of this number
 abbrev pub set_outcome : ℕ → LocalOutcome → Accepted → Accepted
 set_outcome number outcome accepted = if accepted.write.number == number then record accepted { outcome = outcome } else accepted
 
--- what the disk did, put down in the history
+-- records what the disk did with that write in the history
 abbrev pub with_outcome : ℕ → LocalOutcome → PrimaryHistory → PrimaryHistory
 with_outcome number outcome h = record h { writes = map (set_outcome number outcome) h.writes }
 
--- The local disk does a write, which may be released by it.
+-- The local disk finishes a write, which may release it.
 abbrev pub local_done : ℕ → PrimaryHistory → Reply × PrimaryHistory
 local_done number h = tested h ((not (is_unfinished h number), UnknownJob) ∷ []) (λ _. succeeding what.Nothing (releasing h (with_outcome number OnDisk h)))
 
@@ -199,7 +202,7 @@ local_done number h = tested h ((not (is_unfinished h number), UnknownJob) ∷ [
 abbrev pub accepted_at : PrimaryHistory → ℕ → Option Accepted
 accepted_at h number = find (λ accepted. accepted.write.number == number) h.writes
 
--- A fault of a write: these of its offsets reached the disk, and the range is marked.
+-- A fault of a write: these of its offsets reached the local disk, and its range is marked.
 abbrev pub faulted_by : Option Accepted → ℕ → List ℕ → PrimaryHistory → PrimaryHistory
 faulted_by write number offsets h = elim write [
   | None ↦ h
@@ -210,19 +213,19 @@ faulted_by write number offsets h = elim write [
 abbrev pub faulted : ℕ → List ℕ → PrimaryHistory → PrimaryHistory
 faulted number offsets h = faulted_by (accepted_at h number) number offsets h
 
--- the local disk fails a write, and leaves these of its offsets new
+-- the local disk fails a write after these of its offsets were written
 abbrev pub local_fault : ℕ → List ℕ → PrimaryHistory → Reply × PrimaryHistory
 local_fault number offsets h = tested h ((not (is_unfinished h number), UnknownJob) ∷ []) (λ _. succeeding what.Nothing (faulted number offsets h))
 
--- Send. `room` is what the link answers.
+-- Send. `room` says whether the link has room.
 
--- when sending is refused, in order
+-- the tests of a send, in order
 abbrev pub send_tests : PrimaryHistory → Bool → Bool → List Test
 send_tests h room out_of_memory =
     let c = primary_connection h in
     (c.closed, NotConnected) ∷ (nat_le (length (frames_due h.settings c)) c.pushed, NothingThere) ∷ (out_of_memory, NoMemory) ∷ (not room, LinkFull) ∷ []
 
--- what the next frame is called, with the place of a stream's item
+-- the report of the next frame: its command, and its place if it is an item of the stream
 abbrev pub sending : PrimaryHistory → What
 sending h =
     let c = primary_connection h in
@@ -231,21 +234,22 @@ sending h =
       | Some packet ↦ what.Frame (command_of packet) (if nat_lt c.pushed 3 then None else Some (c.pushed - 3))
     ]
 
--- the primary sends the next frame that it owes
+-- the primary sends its next due frame
 abbrev pub send : Bool → Bool → PrimaryHistory → Reply × PrimaryHistory
 send room out_of_memory h = tested h (send_tests h room out_of_memory)
     (λ _. succeeding (sending h) (with_primary_connection (λ c. record c { pushed = suc c.pushed }) h))
 
 -- Resync.
 
--- when a resync block is refused, in order
+-- the tests of `resync_next`, in order
 abbrev pub resync_tests : PrimaryHistory → Bool → List Test
 resync_tests h out_of_memory =
     let c = primary_connection h in
     (c.closed, NotConnected) ∷ (not (resync_runs c) || (nat_lt 0 (length (under_way c)) || is_none (free_block h)), NothingToDo)
     ∷ (nat_le 4294967288 (length c.stream), StreamFull) ∷ (out_of_memory, NoMemory) ∷ []
 
--- The lowest free marked block is read and appended in one step, with what the local disk has now.
+-- Reads the lowest marked block that no open write covers, as the local disk has it now, and appends it in the same
+-- step.
 abbrev pub resync_next : Bool → PrimaryHistory → Reply × PrimaryHistory
 resync_next out_of_memory h = tested h (resync_tests h out_of_memory) (λ _. elim (free_block h) [
   | None ↦ (reply.Refused NothingToDo, h)
@@ -253,11 +257,11 @@ resync_next out_of_memory h = tested h (resync_tests h out_of_memory) (λ _. eli
       (appending (ResyncItem block (unwrap_or (local_map h block) [])) h)
 ])
 
--- the local disk fails the read
+-- the local disk fails the read, and nothing changes
 abbrev pub resync_fault : Bool → PrimaryHistory → Reply × PrimaryHistory
 resync_fault out_of_memory h = tested h (resync_tests h out_of_memory) (λ _. (reply.Refused ReadFault, h))
 
--- Close: unreleased writes are marked, the tuple goes by `lost` if the stream had begun, and then there is no connection.
+-- Close: marks the unreleased writes, changes the tuple by `lost` if the stream had begun, and closes the connection.
 abbrev pub closing : PrimaryHistory → PrimaryHistory
 closing h =
     let c = primary_connection h in
@@ -267,7 +271,7 @@ closing h =
           else h.tuple;
     })
 
--- It tells how many writes were completed by it.
+-- The primary closes its end. The reply says how many writes that completed.
 abbrev pub close_primary : PrimaryHistory → Reply × PrimaryHistory
 close_primary h = tested h (((primary_connection h).closed, NotConnected) ∷ [])
     (λ _. let after = follows (closing h) in (reply.Closed (length after.completed), after.history))
@@ -278,7 +282,7 @@ take_completed_tests h number =
     (is_none (accepted_at h number) || list_any (λ taken. taken == number) h.receipts, UnknownJob)
     ∷ (list_any (λ accepted. (accepted.write.number == number) && is_open h accepted) h.writes, NotCompleted) ∷ []
 
--- the receipt of this number is taken
+-- records that the receipt of this number is taken
 abbrev pub receipted : ℕ → PrimaryHistory → PrimaryHistory
 receipted number h = record h { receipts = h.receipts ++ number ∷ [] }
 

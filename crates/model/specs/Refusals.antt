@@ -13,6 +13,6 @@ abbrev pub first_refusal : List Test → Option Refusal
 first_refusal [] = None
 first_refusal (test ∷ tests) = if test.0 then Some test.1 else first_refusal tests
 
--- what a step reports that did something which has no name, and ended nothing
+-- the report of a step that did this, and ended nothing
 abbrev pub done_with : What → Done
 done_with what = record { what = what; completed = None; barrier = None; synced = false }

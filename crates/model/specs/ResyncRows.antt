@@ -10,7 +10,7 @@ use Rattle.model.specs.Pair.{CloseSecondaryEvent, PairHistory, tuples, marked, d
 use Rattle.model.specs.Rows.{words, fresh_with, connected, connect, connecting, replies, after, fill, refused, done, accepted, item, frame, decided, resynced}
 use Rattle.model.specs.Rows.{completing, with_barrier, with_sync}
 
--- after both ends closed and opened again, where nothing was written between
+-- both ends close
 abbrev pub closed_twice : List Event
 closed_twice = ClosePrimaryEvent ∷ CloseSecondaryEvent ∷ []
 
@@ -31,15 +31,16 @@ pub record EmptyPeer : Type 0 where
   pub identifiers : tuples (after (connect 5 7) (fresh_with standard (words 1 0 0 0) (words 0 0 0 0))) ≡ (words 1 5 0 0, words 0 0 0 0)
   pub marks : marked (after (connect 5 7) (fresh_with standard (words 1 0 0 0) (words 0 0 0 0))) ≡ 0 ∷ 1 ∷ 2 ∷ 3 ∷ 4 ∷ 5 ∷ 6 ∷ 7 ∷ []
 
--- One block is under way at a time, and holds up a write to it. A failed read changes nothing.
+-- A device of one block, with a peer without data.
 abbrev pub one_block : PairHistory
 one_block = fresh_with (record standard { blocks = 1 }) (words 1 0 0 0) (words 0 0 0 0)
 
--- a read that fails, the one block under way, a write to it, and the link is lost
+-- a read that fails, the one block under way, another copy, a write to it, and the loss of the link
 abbrev pub one_block_resync : List Event
 one_block_resync = connect 5 7 ++ ResyncFaultEvent ∷ ResyncEvent ∷ ResyncEvent ∷ fill 0 1 170 ∷ ClosePrimaryEvent ∷ []
 
--- what that answers, and what stays marked when the link is lost
+-- One block is under way at a time, and a write to it is refused. A failed read changes nothing. The lost link leaves
+-- the block marked.
 pub record OneBlock : Type 0 where
   pub answers : replies one_block_resync one_block
       ≡ connecting (decided FullSync) ++ refused refusal.ReadFault ∷ resynced 0 1 ∷ refused refusal.NothingToDo ∷ refused (refusal.Conflict 0) ∷ reply.Closed 0
@@ -54,19 +55,19 @@ written_alone = closed_twice ++ fill 3 1 170 ∷ fill 6 1 187 ∷ LocalEvent 1 �
 abbrev pub two_marked : PairHistory
 two_marked = after (written_alone ++ connect 9 11) (connected standard)
 
--- the first block, the second one, and the end of the resync
+-- the first block is copied
 abbrev pub first_copied : List Event
 first_copied = SendEvent ∷ ReceiveEvent ∷ ResyncEvent ∷ SendEvent ∷ ReceiveEvent ∷ PeerEvent 1 ∷ AckOutEvent ∷ AckInEvent ∷ []
 
--- the second block goes over
+-- the second block is copied
 abbrev pub second_copied : List Event
 second_copied = ResyncEvent ∷ SendEvent ∷ SendEvent ∷ ReceiveEvent ∷ ReceiveEvent ∷ PeerEvent 3 ∷ AckOutEvent ∷ AckOutEvent ∷ AckInEvent ∷ AckInEvent ∷ []
 
--- the resync's end goes over
+-- the peer takes the resync's end
 abbrev pub ended : List Event
 ended = SendEvent ∷ SendEvent ∷ ReceiveEvent ∷ ReceiveEvent ∷ []
 
--- writes without a link complete alone and are marked; the next connection begins a resync
+-- writes without a link are completed alone and marked; the next connection begins a resync
 pub record WrittenAlone : Type 0 where
   pub answers : replies written_alone (connected standard) ≡ reply.Closed 0 ∷ done ∷ accepted 1 ∷ accepted 2 ∷ completing 1 done ∷ completing 2 done ∷ []
   pub marks : marked (after written_alone (connected standard)) ≡ 3 ∷ 6 ∷ []
@@ -93,14 +94,15 @@ pub record Resynced : Type 0 where
 abbrev pub broken_end : PairHistory
 broken_end = after (first_copied ++ second_copied ++ closed_twice) two_marked
 
--- a link lost before the peer took the end: the next connection copies everything
+-- the link is lost before the peer took the end: the next connection copies everything
 pub record BrokenEnd : Type 0 where
   pub lost : tuples broken_end ≡ (words 11 7 9 1, words 9 0 0 0)
   pub connects : replies (connect 13 15) broken_end ≡ connecting (decided FullSync)
   pub marks : marked (after (connect 13 15) broken_end) ≡ 0 ∷ 1 ∷ 2 ∷ 3 ∷ 4 ∷ 5 ∷ 6 ∷ 7 ∷ []
   pub identifiers : tuples (after (connect 13 15) broken_end) ≡ (words 11 13 7 9, words 9 0 0 0)
 
--- Writes during a resync: one that meets the block under way is refused, and an open write keeps its blocks from the resync.
+-- Writes during a resync: one that overlaps the block under way is refused, and an open write keeps its blocks from the
+-- resync.
 pub record AmongWrites : Type 0 where
   pub under_way : replies (ResyncEvent ∷ fill 2 2 204 ∷ fill 6 1 221 ∷ SendEvent ∷ SendEvent ∷ SendEvent ∷ ReceiveEvent ∷ ReceiveEvent ∷ ReceiveEvent ∷
       PeerEvent 1 ∷ AckOutEvent ∷ AckInEvent ∷ ResyncEvent ∷ []) two_marked

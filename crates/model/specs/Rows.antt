@@ -1,5 +1,5 @@
--- How worked examples are written: openings, scripts of events, and the replies that are expected of them. Blocks have one
--- byte here, so that every example computes.
+-- The notation of worked examples: openings, lists of events, and the expected replies. Blocks have one byte here, so
+-- that every example computes.
 use Rattle.std.specs.Prelude.{ℕ, true, false, List, [], ◌∷◌, ◌++◌, replicate, Some, None}
 use Rattle.blocks.specs.declared.tuple.Tuple.{Tuple}
 use Rattle.blocks.specs.declared.settings.Settings.{Settings}
@@ -34,7 +34,7 @@ fresh settings = fresh_with settings (words 1 0 0 0) (words 1 0 0 0)
 abbrev pub fill : ℕ → ℕ → ℕ → Event
 fill first count byte = SubmitEvent first (replicate count (byte ∷ []))
 
--- an open and the two hellos
+-- an opening and the two hellos
 abbrev pub connect : ℕ → ℕ → List Event
 connect sync loss = OpenEvent sync loss ∷ hello ++ hello ++ hello
   where
@@ -45,7 +45,7 @@ connect sync loss = OpenEvent sync loss ∷ hello ++ hello ++ hello
 abbrev pub connected : Settings → PairHistory
 connected settings = (run_fed (connect 5 7) (fresh settings)).1
 
--- the replies to events, and what they leave
+-- the replies to these events
 abbrev pub replies : List Event → PairHistory → List Reply
 replies events h = (run_fed events h).0
 
@@ -59,7 +59,7 @@ after events h = (run_fed events h).1
 abbrev pub refused : Refusal → Reply
 refused refusal = reply.Refused refusal
 
--- the reply of a step with nothing to tell
+-- the reply of a step with nothing to report
 abbrev pub done : Reply
 done = reply.Ok (done_with what.Nothing)
 
@@ -67,11 +67,11 @@ done = reply.Ok (done_with what.Nothing)
 abbrev pub accepted : ℕ → Reply
 accepted number = reply.Ok (done_with (what.Write number))
 
--- an item of the stream went over the link, or came from it
+-- the reply that names an item of the stream that was sent or taken
 abbrev pub item : Command → ℕ → Reply
 item name place = reply.Ok (done_with (what.Frame name (Some place)))
 
--- a frame without a place
+-- the reply that names a frame without a place
 abbrev pub frame : Command → Reply
 frame name = reply.Ok (done_with (what.Frame name None))
 
@@ -83,7 +83,7 @@ decided decision = reply.Ok (done_with (what.Decided decision))
 abbrev pub resynced : ℕ → ℕ → Reply
 resynced block place = reply.Ok (done_with (what.Block (record { 0 = block }) place))
 
--- the same, where the step ended more
+-- the same reply, and this write was completed
 abbrev pub completing : ℕ → Reply → Reply
 completing number (reply.Ok report) = reply.Ok (record report { completed = Some number })
 completing number other = other
@@ -98,7 +98,7 @@ abbrev pub with_sync : Reply → Reply
 with_sync (reply.Ok report) = reply.Ok (record report { synced = true })
 with_sync other = other
 
--- the replies to a connect that decides so
+-- the replies to a connect whose last reply is this
 abbrev pub connecting : Reply → List Reply
 connecting last =
     done ∷ frame command.Protocol ∷ frame command.Protocol ∷ frame command.Protocol ∷ frame command.Protocol

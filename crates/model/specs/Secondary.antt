@@ -1,4 +1,4 @@
--- The history of a secondary, what is read off it, and its local steps.
+-- The history of a secondary, and the values that it determines.
 use Rattle.std.specs.Prelude.{ℕ, nat_le, ◌==◌, Bool, true, false, ◌&&◌, ◌||◌, not, List, [], ◌++◌, length, drop, filter, find, filter_map, map, Option, None}
 use Rattle.std.specs.Prelude.{option_map, unwrap_or, slice_get, suc, Ok, Err}
 use Rattle.std.specs.List.{list_any, list_all}
@@ -9,9 +9,10 @@ use Rattle.model.specs.Stream.{StreamItem, has_blocks, epoch_of, placed, barrier
 use Rattle.model.specs.Frames.{Packet, Received, item_of, hello_of, counting}
 use Rattle.model.specs.Primary.{last_of, change_last, in_resync}
 
--- One connection at the secondary's end: its number, the disk and the tuple as they were when the end opened, the frames that were
--- taken, whether the last of them was refused as a protocol error, the part of the stream that is applied, the places that
--- failed or were dropped, the acknowledgements due, how many frames were pushed, and whether the end is closed.
+-- One connection at the secondary's end: its number, the disk and the tuple as they were when the end opened, the
+-- frames that were taken, whether the last of them was refused as a protocol error, the part of the stream that is
+-- applied, the places that failed or were dropped, the acknowledgements due, how many frames were pushed, and whether
+-- the end is closed.
 pub record SecondaryConnection : Type 0 where
   pub number : ℕ
   pub base : BlockMap
@@ -24,7 +25,7 @@ pub record SecondaryConnection : Type 0 where
   pub pushed : ℕ
   pub closed : Bool
 
--- The secondary's history. Connections stand oldest first, and their numbers rise.
+-- The secondary's history. Connections are in the order of their opening, and their numbers rise.
 pub record SecondaryHistory : Type 0 where
   pub settings : Settings
   pub opening_map : BlockMap
@@ -33,7 +34,7 @@ pub record SecondaryHistory : Type 0 where
   pub consistent : Bool
   pub connections : List SecondaryConnection
 
--- An opening: a new secondary is consistent unless its current identifier is zero.
+-- The secondary at its start: it is consistent unless its current identifier is zero.
 abbrev pub secondary_opening : Settings → BlockMap → Tuple → SecondaryHistory
 secondary_opening settings disk tuple = record {
   settings = settings;
@@ -44,7 +45,7 @@ secondary_opening settings disk tuple = record {
   connections = [];
 }
 
--- a connection at its beginning: its number, what the disk holds then, and the tuple of its hello
+-- a new connection: its number, what the disk holds then, and the tuple of its hello
 abbrev pub new_secondary_connection : ℕ → BlockMap → Tuple → SecondaryConnection
 new_secondary_connection number base hello = record {
   number = number;
@@ -74,12 +75,12 @@ no_secondary_connection h = record {
   closed = true;
 }
 
--- the last connection, or a closed one where there was none
+-- the last connection, or a closed one if there was none
 abbrev pub secondary_connection : SecondaryHistory → SecondaryConnection
 secondary_connection h = last_of (no_secondary_connection h) h.connections
 
--- The end of a connection by its number, the first being 1: a closed one on which nothing happened, where this node never
--- opened that connection.
+-- The secondary's end of a connection by its number, counted from 1; a closed one on which nothing happened, if this
+-- node never opened it.
 abbrev pub secondary_connection_at : SecondaryHistory → ℕ → SecondaryConnection
 secondary_connection_at h number = unwrap_or (find (λ c. c.number == number) h.connections) (no_secondary_connection h)
 
@@ -96,15 +97,15 @@ abbrev pub received_item : Received → Option StreamItem
 received_item (Ok packet) = item_of packet
 received_item (Err fault) = None
 
--- the items taken, in their places
+-- the items taken, in the order of their places
 abbrev pub items_taken : SecondaryConnection → List StreamItem
 items_taken c = filter_map received_item (accepted_of c)
 
--- Pending: taken, and not applied, failed or dropped.
+-- Pending: the item has blocks, is not wholly applied, and neither failed nor was dropped.
 abbrev pub is_pending : SecondaryConnection → ℕ × StreamItem → Bool
 is_pending c entry = (has_blocks entry.1 && not (is_whole c.applied entry.0 entry.1)) && not (list_any (λ place. place == entry.0) c.gone)
 
--- what was taken and is neither applied nor dropped, with its places
+-- the pending items of those that were taken, with their places
 abbrev pub pending : SecondaryConnection → List (ℕ × StreamItem)
 pending c = filter (is_pending c) (placed (items_taken c))
 
@@ -124,7 +125,7 @@ map_of c = overlay c.base (layers_of (items_taken c) c.applied)
 abbrev pub secondary_map : SecondaryHistory → BlockMap
 secondary_map h = map_of (secondary_connection h)
 
--- all frames that the end owes: its hello, and then its acknowledgements
+-- all frames that the end is to send: its hello, and then its acknowledgements
 abbrev pub answers_due : Settings → SecondaryConnection → List Packet
 answers_due settings c = hello_of settings c.hello ++ c.due
 
@@ -140,8 +141,8 @@ is_in_resync c = in_resync (items_taken c)
 
 -- Usage: whether the secondary may be used as it is, and how far it is whole (this project's rule).
 
--- An item is done: all of it was applied by one write of the disk that did not fail. An item that failed is not, even if all
--- its blocks reached the disk.
+-- An item is done: all of it was applied by one write of the disk that did not fail. An item that failed is not, even
+-- if all its blocks reached the disk.
 abbrev pub is_done : SecondaryConnection → ℕ × StreamItem → Bool
 is_done c entry = is_whole c.applied entry.0 entry.1 && not (list_any (λ place. place == entry.0) c.gone)
 
@@ -151,6 +152,7 @@ is_done_to c epoch =
     let items = items_taken c in
     list_all (λ entry. not (nat_le (epoch_of items entry.0) epoch && has_blocks entry.1) || is_done c entry) (placed items)
 
--- The greatest epoch whose barrier was taken on the last connection, and up to whose end every item is done; 0 where none is.
+-- The greatest epoch whose barrier was taken on the last connection, and up to whose end every item is done; 0 if there
+-- is none.
 abbrev pub whole : SecondaryHistory → ℕ
 whole h = let c = secondary_connection h in last_of 0 (filter (is_done_to c) (map suc (below (barriers_in (items_taken c)))))

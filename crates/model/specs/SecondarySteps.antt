@@ -25,7 +25,8 @@ use Rattle.model.specs.Secondary.{SecondaryConnection, SecondaryHistory, new_sec
 use Rattle.model.specs.Secondary.{secondary_map, items_taken, pending, is_drained, answers_due, is_applied_to}
 use Rattle.model.specs.Secondary.{is_in_resync}
 
--- What follows an effect in the same step: each barrier taken is acknowledged once all of the epochs up to it are applied.
+-- What follows an effect in the same step: each barrier taken is acknowledged once all of the epochs up to it are
+-- applied.
 
 -- the packet acknowledges this epoch's barrier
 abbrev pub is_barrier_answer : ℕ → Packet → Bool
@@ -41,11 +42,11 @@ barriers_to_answer c =
 abbrev pub barrier_answer : SecondaryConnection → ℕ → Packet
 barrier_answer c epoch = BarrierAckFrame epoch (epoch_size (items_taken c) epoch)
 
--- After its close nothing more becomes due.
+-- Makes those acknowledgements due. After its close an end has nothing more due.
 abbrev pub answering : SecondaryConnection → SecondaryConnection
 answering c = elim c.closed [ true ↦ c | false ↦ record c { due = c.due ++ map (barrier_answer c) (barriers_to_answer c) } ]
 
--- a step that succeeded, and the acknowledgements that became due
+-- a step that succeeds, with the acknowledgements that it makes due
 abbrev pub succeeding_secondary : What → SecondaryHistory → Reply × SecondaryHistory
 succeeding_secondary done h = (reply.Ok (done_with done), with_secondary_connection answering h)
 
@@ -55,12 +56,12 @@ tested_secondary h tests done = elim (first_refusal tests) [ Some refusal ↦ (r
 
 -- Open.
 
--- when an opening is refused: an end is open, or items are pending
+-- the test of an opening: the last end is closed, and no item is pending
 abbrev pub open_secondary_tests : SecondaryHistory → List Test
 open_secondary_tests h = (not ((secondary_connection h).closed && is_drained h), NotDrained) ∷ []
 
--- The number of the next connection: one more than the last one's, and more where the primary opened others between that
--- this node never saw.
+-- The number of the next connection: the last one's, plus the connections that the primary opened since and this node
+-- never saw, plus one.
 abbrev pub next_number : ℕ → SecondaryHistory → ℕ
 next_number unseen h = suc ((secondary_connection h).number + unseen)
 
@@ -69,17 +70,17 @@ abbrev pub opened_secondary : ℕ → SecondaryHistory → SecondaryHistory
 opened_secondary unseen h =
     record h { connections = h.connections ++ new_secondary_connection (next_number unseen h) (secondary_map h) h.tuple ∷ [] }
 
--- the secondary opens its end, and has not seen so many connections of the primary since its last one
+-- the secondary opens its end, after `unseen` connections of the primary that it never saw
 abbrev pub open_secondary : ℕ → SecondaryHistory → Reply × SecondaryHistory
 open_secondary unseen h = tested_secondary h (open_secondary_tests h) (λ _. succeeding_secondary what.Nothing (opened_secondary unseen h))
 
 -- Taking a frame.
 
--- what taking a frame says and leaves, or a protocol error
+-- the outcome of taking a frame: its report and the history then, or a protocol error
 abbrev pub Checked : Type 0
 Checked = Result (What × SecondaryHistory) Refusal
 
--- the primary's hello, by how many frames were taken before
+-- takes the next frame of the primary's hello, by how many were taken before
 abbrev pub checking_hello : ℕ → Packet → SecondaryHistory → Checked
 checking_hello zero (ProtocolFrame asked) h =
     if same_protocol asked h.settings.protocol then Ok (what.Frame command.Protocol None, h) else Err OtherProtocol
@@ -92,15 +93,15 @@ checking_hello n packet h = Err BadCommand
 abbrev pub is_above : ℕ → List StreamItem → Bool
 is_above number items = list_all (λ item. nat_lt (number_of item) number) items
 
--- no item of the last epoch shares a block with it
+-- the item shares no block with an item of the last epoch
 abbrev pub is_apart : StreamItem → List StreamItem → Bool
 is_apart item items = not (list_any (λ entry. items_meet entry.1 item) (items_of_epoch items (last_epoch items)))
 
--- the last of the checks: the place is the next one, and the item may stand there
+-- accepts the item if its checks hold, and else refuses it with `BadField`
 abbrev pub checked_if : Bool → What → SecondaryHistory → Checked
 checked_if good done h = if good then Ok (done, h) else Err BadField
 
--- the secondary takes a tuple for its own
+-- the secondary takes over a tuple, and is consistent or not from then on
 abbrev pub adopting : Tuple → Bool → SecondaryHistory → SecondaryHistory
 adopting tuple consistent h = record h { tuple = tuple; consistent = consistent }
 
@@ -112,11 +113,11 @@ receiving place item h = elim h.settings.protocol [
   | protocol.C ↦ h
 ]
 
--- a place has 32 bits, and the last of them is none (this project's rule)
+-- the number can be a place: a place has 32 bits, and the greatest number of 32 bits is none (this project's rule)
 abbrev pub has_place : ℕ → Bool
 has_place place = nat_lt place 4294967295
 
--- An item of the stream, judged on the history before it was taken, where `place` is the next place.
+-- Checks an item of the stream on the history before it was taken; `place` is the next place.
 abbrev pub checking_item : Packet → ℕ → SecondaryConnection → SecondaryHistory → Checked
 checking_item (DataFrame write at) place c h =
     let items = items_taken c in
@@ -136,13 +137,13 @@ checking_item (UuidsFrame tuple) place c h =
     checked_if (has_place place && is_in_resync c) (what.Frame command.Uuids (Some place)) (adopting tuple true h)
 checking_item packet place c h = Err BadCommand
 
--- a frame is judged as one of the hello, and then as an item
+-- checks a frame: the first three as the hello, all others as items
 abbrev pub checking : Received → SecondaryConnection → SecondaryHistory → Checked
 checking (Err fault) c h = Err fault
 checking (Ok packet) c h =
     elim (nat_lt (length c.taken) 3) [ true ↦ checking_hello (length c.taken) packet h | false ↦ checking_item packet (length (items_taken c)) c h ]
 
--- A protocol error: the frame counts as taken, and the end closes. Its items stay.
+-- Takes a frame, which counts as taken. A protocol error closes the end; its items stay.
 abbrev pub take_item : Received → SecondaryHistory → Reply × SecondaryHistory
 take_item frame h =
     let taken = with_secondary_connection (λ c. record c { taken = c.taken ++ frame ∷ [] }) h in
@@ -151,13 +152,13 @@ take_item frame h =
       | Err refusal ↦ (reply.Refused refusal, with_secondary_connection (λ c. record c { refused = true; closed = true }) taken)
     ]
 
--- when the next frame is not taken, in order
+-- the tests of `receive`, in order
 abbrev pub receive_tests : SecondaryHistory → Option Received → Bool → List Test
 receive_tests h frame out_of_memory =
     let c = secondary_connection h in
     (c.closed, NotConnected) ∷ (nat_le h.settings.pending (length (pending c)), PendingFull) ∷ (out_of_memory, NoMemory) ∷ (is_none frame, NothingThere) ∷ []
 
--- the next frame that the link has for this end, or none
+-- the secondary takes the next frame that the link has for it, if there is one
 abbrev pub receive : Option Received → Bool → SecondaryHistory → Reply × SecondaryHistory
 receive frame out_of_memory h = tested_secondary h (receive_tests h frame out_of_memory) (λ _. elim frame [
   | None ↦ (reply.Refused NothingThere, h)
@@ -174,7 +175,7 @@ is_pending_at c place = list_any (λ entry. entry.0 == place) (pending c)
 abbrev pub has_earlier : SecondaryConnection → ℕ → Bool
 has_earlier c place = let items = items_taken c in list_any (λ entry. nat_lt (epoch_of items entry.0) (epoch_of items place)) (pending c)
 
--- when applying is refused: not pending, or an earlier epoch is not applied
+-- the tests of applying an item: it is pending, and every earlier epoch is applied
 abbrev pub peer_tests : SecondaryHistory → ℕ → List Test
 peer_tests h place = (not (is_pending_at (secondary_connection h) place), UnknownJob) ∷ (has_earlier (secondary_connection h) place, EpochOpen) ∷ []
 
@@ -182,18 +183,18 @@ peer_tests h place = (not (is_pending_at (secondary_connection h) place), Unknow
 abbrev pub blocks_at : List StreamItem → ℕ → ℕ
 blocks_at items place = elim (slice_get items place) [ None ↦ 0 | Some item ↦ length (contents_of item) ]
 
--- so many blocks of an item, as pairs of its place and their offsets
+-- blocks of an item by their offsets, as pairs of its place and an offset
 abbrev pub offsets_at : ℕ → List ℕ → List (ℕ × ℕ)
 offsets_at place offsets = map (λ offset. (place, offset)) offsets
 
--- Applying a write is acknowledged under C, and applying a resync item always.
+-- The acknowledgement of an applied item: of a write under C, of a resync item always.
 abbrev pub applied_answer : Protocol → ℕ → StreamItem → List Packet
 applied_answer asked place (WriteItem write) =
     elim asked [ protocol.A ↦ [] | protocol.B ↦ [] | protocol.C ↦ WriteAckFrame (naming place (WriteItem write)) ∷ [] ]
 applied_answer asked place (ResyncItem block contents) = RsWriteAckFrame (naming place (ResyncItem block contents)) ∷ []
 applied_answer asked place _ = []
 
--- an item is on the disk, and its acknowledgement is due
+-- records an item as applied; its acknowledgement is due unless the end is closed
 abbrev pub applied_with : Option StreamItem → Protocol → ℕ → SecondaryConnection → SecondaryConnection
 applied_with found asked place c = elim found [
   | None ↦ c
@@ -203,11 +204,11 @@ applied_with found asked place c = elim found [
   }
 ]
 
--- the item at this place is on the disk
+-- records the item at this place as applied
 abbrev pub applying : Protocol → ℕ → SecondaryConnection → SecondaryConnection
 applying asked place c = applied_with (slice_get (items_taken c) place) asked place c
 
--- the secondary's disk does an item
+-- the secondary's disk finishes an item
 abbrev pub peer : ℕ → SecondaryHistory → Reply × SecondaryHistory
 peer place h = tested_secondary h (peer_tests h place)
     (λ _. succeeding_secondary what.Nothing (with_secondary_connection (applying h.settings.protocol place) h))
@@ -228,21 +229,21 @@ abbrev pub peer_fault : ℕ → List ℕ → SecondaryHistory → Reply × Secon
 peer_fault place offsets h = tested_secondary h (peer_tests h place)
     (λ _. (reply.Ok (done_with what.Nothing), with_secondary_connection (failing place offsets) h))
 
--- Pushing an acknowledgement. `room` is what the link answers.
+-- Sending. `room` says whether the link has room.
 
--- when sending is refused, in order
+-- the tests of `ack_out`, in order
 abbrev pub ack_out_tests : SecondaryHistory → Bool → Bool → List Test
 ack_out_tests h room out_of_memory =
     let c = secondary_connection h in
     (c.closed, NotConnected) ∷ (nat_le (length (answers_due h.settings c)) c.pushed, NothingThere) ∷ (out_of_memory, NoMemory) ∷ (not room, LinkFull) ∷ []
 
--- what the next acknowledgement is
+-- the report of the next frame
 abbrev pub answering_with : SecondaryHistory → What
 answering_with h =
     let c = secondary_connection h in
     elim (slice_get (answers_due h.settings c) c.pushed) [ None ↦ what.Nothing | Some packet ↦ what.Frame (command_of packet) None ]
 
--- the secondary sends an acknowledgement
+-- the secondary sends its next due frame, of the hello or an acknowledgement
 abbrev pub ack_out : Bool → Bool → SecondaryHistory → Reply × SecondaryHistory
 ack_out room out_of_memory h =
     tested_secondary h (ack_out_tests h room out_of_memory)

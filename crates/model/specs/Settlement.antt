@@ -13,8 +13,8 @@ use Rattle.model.specs.Secondary.{is_done}
 use Rattle.model.specs.Pair.{same_block}
 use Rattle.model.specs.Headline.{is_marked}
 
--- A receipt as its caller sees it: the write's number and range, how it was completed, and its home, or none: the index of its
--- connection, and its place in the stream, both from 0.
+-- A receipt as its caller sees it: the write's number and range, how it was completed, and its home, or none: the index
+-- of its connection, and its place in the stream, both from 0.
 pub record Receipt : Type 0 where
   pub number : ℕ
   pub first : ℕ
@@ -48,7 +48,7 @@ same_home _ _ = false
 abbrev pub same_receipt : Receipt → Receipt → Bool
 same_receipt a b = ((a.number == b.number) && (a.first == b.first)) && ((a.count == b.count) && (same_kind a.kind b.kind && same_home a.home b.home))
 
--- Some receipt of a list is strange: it is that of no entry of the journal, or it was given before.
+-- Some receipt of a list is strange: no entry of the journal has it, or it was given before.
 abbrev pub has_strange : List Completion → List Receipt → List Receipt → Bool
 has_strange journal earlier [] = false
 has_strange journal earlier (receipt ∷ receipts) =
@@ -60,7 +60,7 @@ abbrev pub is_at_rest : PrimaryHistory → SecondaryHistory → Bool
 is_at_rest p s = ((primary_connection p).closed && (secondary_connection s).closed) && (is_drained s && is_none (next_local p))
 
 -- A settlement: how many items of the primary's last connection were sent, taken and applied, how many receipts are
--- confirmed, and on how many blocks that are not marked the disks differ.
+-- confirmed, and how many unmarked blocks differ between the disks.
 pub record Settlement : Type 0 where
   pub sent : ℕ
   pub taken : ℕ
@@ -72,13 +72,13 @@ pub record Settlement : Type 0 where
 abbrev pub applied_items : SecondaryConnection → ℕ
 applied_items d = length (filter (λ entry. has_blocks entry.1 && is_done d entry) (placed (items_taken d)))
 
--- on how many blocks that are not marked the disks differ, where a block that only one of them has counts as differing
+-- how many unmarked blocks differ between the disks; a block that only one of them has counts as differing
 abbrev pub unmarked_differences : PrimaryHistory → SecondaryHistory → ℕ
 unmarked_differences p s =
     length (filter (λ block. not (same_block (local_map p block) (secondary_map s block)) && not (is_marked p block))
     (below (max p.settings.blocks s.settings.blocks)))
 
--- the numbers of a settlement, read off both histories
+-- the numbers of a settlement, from both histories
 abbrev pub settlement : PrimaryHistory → SecondaryHistory → List Receipt → Settlement
 settlement p s receipts =
     let d = secondary_connection_at s (length p.connections) in
@@ -90,10 +90,10 @@ settlement p s receipts =
       unmarked = unmarked_differences p s;
     }
 
--- When a settlement is refused, in order. `faulty` says that a disk fails a read.
+-- The tests of a settlement, in order. `faulty` says that a disk fails a read.
 abbrev pub settle_tests : PrimaryHistory → SecondaryHistory → List Receipt → Bool → List Test
 settle_tests p s receipts faulty = (not (is_at_rest p s), NotDrained) ∷ (has_strange p.journal [] receipts, StrangeReceipt) ∷ (faulty, ReadFault) ∷ []
 
--- two nodes settle, with the receipts that callers have
+-- two nodes settle, with the receipts that their callers have
 abbrev pub settle : PrimaryHistory → SecondaryHistory → List Receipt → Bool → Result Settlement Refusal
 settle p s receipts faulty = elim (first_refusal (settle_tests p s receipts faulty)) [ Some refusal ↦ Err refusal | None ↦ Ok (settlement p s receipts) ]

@@ -8,7 +8,7 @@ use Rattle.model.specs.Primary.{open_writes, resync_runs}
 use Rattle.model.specs.Primary.{marked_blocks}
 use Rattle.model.specs.Secondary.{SecondaryHistory, SecondaryConnection, secondary_connection, pending, whole}
 
--- writes of the standing connection that were sent and are not answered
+-- how many writes of the established connection were sent and are not answered
 abbrev pub unanswered : PrimaryHistory → ℕ
 unanswered h =
     let c = primary_connection h in
@@ -16,11 +16,11 @@ unanswered h =
     (filter (λ entry. is_write entry.1 && (nat_lt entry.0 (items_sent c) && not (is_answered_by h.settings.protocol c entry.0 entry.1)))
     (placed c.stream)) else 0
 
--- accepted writes that are neither completed nor failed
+-- how many accepted writes are neither completed nor failed
 abbrev pub incomplete : PrimaryHistory → ℕ
 incomplete h = length (open_writes h)
 
--- epochs of the standing connection that have a write or a resync item, and whose BARRIER_ACK was not taken
+-- how many epochs of the established connection have a write or a resync item, and no BARRIER_ACK taken
 abbrev pub open_epochs : PrimaryHistory → ℕ
 open_epochs h =
     let c = primary_connection h in
@@ -29,12 +29,12 @@ open_epochs h =
     (map suc (below (last_epoch c.stream))))
     else 0
 
--- marked blocks, in KiB
+-- the marked blocks, in KiB
 abbrev pub out_of_sync : PrimaryHistory → ℕ
 out_of_sync h = 4 * length (marked_blocks h)
 
--- The words of a line. The first is the state of the end, `cs`; the second the other node's role, as this end knows it; the
--- last two the disks, this node's and the other's.
+-- The words of a line. The first is the state of the end, `cs`; the second the other node's role, as this end knows it;
+-- the last two are the states of this node's disk and the other's.
 pub data LinkState : Type 0 where
   StandAlone : LinkState
   WFReportParams : LinkState
@@ -72,7 +72,7 @@ pub record PrimaryLine : Type 0 where
   pub ep : ℕ
   pub oos : ℕ
 
--- the primary's words, by what its connection has come to
+-- the primary's words, by the state of its connection
 abbrev pub primary_words : PrimaryConnection → Words
 primary_words c =
     if c.closed then record { link = StandAlone; own_role = Primary; other_role = Unknown; own_disk = UpToDate; other_disk = DUnknown }
@@ -95,7 +95,7 @@ primary_line h = record {
 abbrev pub hello_is_done : SecondaryConnection → Bool
 hello_is_done c = nat_le 3 (length c.taken) && nat_le 3 c.pushed
 
--- The secondary's line: whether it may be used as it is, and how far it is whole, stand at its end.
+-- The secondary's line: whether it may be used as it is, and how far it is whole, are its last fields.
 pub record SecondaryLine : Type 0 where
   pub words : Words
   pub protocol : Protocol
@@ -103,7 +103,7 @@ pub record SecondaryLine : Type 0 where
   pub usable : Bool
   pub whole : ℕ
 
--- the secondary's words, by whether it is consistent and what its connection has come to
+-- the secondary's words, by whether it is consistent and the state of its connection
 abbrev pub secondary_words : Bool → SecondaryConnection → Words
 secondary_words consistent c =
     if c.closed || not (hello_is_done c)
@@ -128,7 +128,7 @@ secondary_line h = record {
   whole = whole h;
 }
 
--- Lines of worked examples: a linked primary, a linked secondary, and a primary that stands alone.
+-- Lines for worked examples. The line of a primary that is connected and in sync.
 abbrev pub linked_primary : Protocol → ℕ → ℕ → ℕ → ℕ → PrimaryLine
 linked_primary protocol pe ap ep oos = record {
   words = record { link = Connected; own_role = Primary; other_role = Secondary; own_disk = UpToDate; other_disk = UpToDate };
@@ -149,7 +149,7 @@ linked_secondary protocol pending whole = record {
   whole = whole;
 }
 
--- the line of a secondary to which a resync runs, and that is whole to this epoch of it
+-- the line of a secondary that is the target of a resync, and whole to this epoch of its stream
 abbrev pub target_secondary : Protocol → ℕ → ℕ → SecondaryLine
 target_secondary protocol pending whole = record {
   words = record { link = SyncTarget; own_role = Secondary; other_role = Primary; own_disk = Inconsistent; other_disk = UpToDate };

@@ -29,7 +29,7 @@ is_write (BarrierItem epoch) = false
 is_write (SyncUuidItem word) = false
 is_write (UuidsItem tuple) = false
 
--- The first block and the contents of a write or a resync item. The other items have no blocks.
+-- the first block of a write or a resync item; 0 for the other items, which have no blocks
 abbrev pub first_of : StreamItem → ℕ
 first_of (WriteItem write) = write.first
 first_of (ResyncItem block contents) = block
@@ -37,7 +37,7 @@ first_of (BarrierItem epoch) = 0
 first_of (SyncUuidItem word) = 0
 first_of (UuidsItem tuple) = 0
 
--- the number of a write; the other items have none, and 0 stands for that
+-- the number of a write; 0 for the other items, which have none
 abbrev pub number_of : StreamItem → ℕ
 number_of (WriteItem write) = write.number
 number_of (ResyncItem block contents) = 0
@@ -61,11 +61,11 @@ has_blocks item = nat_lt 0 (length (contents_of item))
 abbrev pub barriers_in : List StreamItem → ℕ
 barriers_in items = length (filter is_barrier items)
 
--- The epoch of a place: one more than the number of barriers before it.
+-- The epoch of a place: the number of barriers before it, plus one.
 abbrev pub epoch_of : List StreamItem → ℕ → ℕ
 epoch_of items place = suc (barriers_in (take place items))
 
--- the epoch that goes on at the end of a stream
+-- the epoch that is open at the end of a stream
 abbrev pub last_epoch : List StreamItem → ℕ
 last_epoch items = suc (barriers_in items)
 
@@ -90,8 +90,8 @@ epoch_size items epoch = length (filter (λ entry. is_write entry.1) (items_of_e
 abbrev pub items_meet : StreamItem → StreamItem → Bool
 items_meet a b = ranges_meet (first_of a) (length (contents_of a)) (first_of b) (length (contents_of b))
 
--- A stream as it has to be: barriers are numbered from 1, numbers of writes rise, the items of an epoch share no
--- block, and no epoch has more writes than may be.
+-- A lawful stream: barriers are numbered from 1, numbers of writes rise, the items of an epoch share no block, and no
+-- epoch has more than `max_epoch` writes.
 pub record IsLawful (max_epoch : ℕ) (items : List StreamItem) : Type 0 where
   pub barriers : (place epoch : ℕ) → slice_get items place ≡ Some (BarrierItem epoch) → epoch ≡ epoch_of items place
   pub rising : (place later : ℕ) (a b : Write) → place < later → slice_get items place ≡ Some (WriteItem a) → slice_get items later ≡ Some (WriteItem b)
@@ -108,7 +108,7 @@ Part = List (ℕ × ℕ)
 abbrev pub is_in : Part → ℕ → ℕ → Bool
 is_in part place offset = list_any (λ pair. (pair.0 == place) && (pair.1 == offset)) part
 
--- those of some offsets that an item of so many blocks has
+-- the offsets of these that an item of `count` blocks has
 abbrev pub within : ℕ → List ℕ → List ℕ
 within count offsets = filter (λ offset. nat_lt offset count) offsets
 
@@ -132,6 +132,6 @@ layers_from place (item ∷ items) part =
 abbrev pub layers_of : List StreamItem → Part → List Layer
 layers_of items part = layers_from 0 items part
 
--- a list that another one begins with
+-- the second list begins with the first
 abbrev pub IsBeginning : {X : Type 0} → List X → List X → Type 0
 IsBeginning {X} front whole = (rest : List X) × (front ++ rest ≡ whole)

@@ -1,4 +1,4 @@
--- The theorems over the definitions, as statements for every list of events. Their proofs stand elsewhere.
+-- The theorems over the definitions, as statements for every list of events. Their proofs are elsewhere.
 use Rattle.std.specs.Prelude.{ℕ, ◌≡◌, ◌≤◌, nat_lt, Bool, ◌&&◌, List, Some, slice_get, Ok}
 use Rattle.blocks.specs.declared.settings.Settings.{Settings}
 use Rattle.blocks.specs.declared.tuple.Tuple.{Tuple}
@@ -30,7 +30,7 @@ primary_at o = primary_opening o.settings o.local o.own o.marks
 abbrev pub secondary_at : Opening → SecondaryHistory
 secondary_at o = secondary_opening o.peer_settings o.peer o.peer_tuple
 
--- both of them
+-- both nodes at an opening
 abbrev pub pair_at : Opening → PairHistory
 pair_at o = record { primary = primary_at o; secondary = secondary_at o }
 
@@ -40,7 +40,7 @@ pair_at o = record { primary = primary_at o; secondary = secondary_at o }
 abbrev pub SharesSettings : Opening → Type 0
 SharesSettings o = o.peer_settings ≡ o.settings
 
--- none
+-- no premise
 abbrev pub AnyOpening : Opening → Type 0
 AnyOpening o = Unit {0}
 
@@ -60,46 +60,47 @@ pub record IsSoundOpening (o : Opening) : Type 0 where
   pub peer : IsDisk o.peer_settings.blocks o.peer
   pub identifiers : IsHonest o.own o.peer_tuple (marks_at o) o.local o.peer
 
--- Every list of events leads the pair from such an opening to a history with this property, wherever memory is wanting.
+-- Every list of events leads the pair from such an opening to a history with this property, whichever events are out of
+-- memory.
 abbrev pub EveryRun : (Opening → Type 0) → (PrimaryHistory → SecondaryHistory → Type 0) → Type 0
 EveryRun IsSuch Holds =
     (o : Opening) (events : List (Event × Bool)) → SharesSettings o → IsSuch o → Holds (run events (pair_at o)).1.primary (run events (pair_at o)).1.secondary
 
--- Two nodes that ran by themselves from such an opening, for any frames, and whose frames are joined have this property. No
--- order between the steps of the one and of the other is part of it.
+-- Two nodes that each ran by themselves from such an opening, with any frames, and whose frames are joined have this
+-- property. It assumes no order between the steps of one node and those of the other.
 abbrev pub JoinedRuns : (Opening → Type 0) → (PrimaryHistory → SecondaryHistory → Type 0) → Type 0
 JoinedRuns IsSuch Holds =
     (o : Opening) (here : List PrimaryEvent) (there : List SecondaryEvent) → IsSuch o
     → IsJoined (primary_run here (primary_at o)) (secondary_run there (secondary_at o))
     → Holds (primary_run here (primary_at o)) (secondary_run there (secondary_at o))
 
--- The headline, the cover beside it, and the write order, of the pair.
+-- Every run of the pair has the headline.
 abbrev pub EveryRunHasTheHeadline : Type 0
 EveryRunHasTheHeadline = EveryRun IsSoundOpening Headline
 
--- the same of the cover
+-- every run of the pair covers the differences
 abbrev pub EveryRunCoversDifferences : Type 0
 EveryRunCoversDifferences = EveryRun IsSoundOpening CoversDifferences
 
--- the same of the write order, where nothing failed
+-- every run of the pair keeps the write order, if nothing failed
 abbrev pub EveryRunKeepsWriteOrder : Type 0
 EveryRunKeepsWriteOrder = EveryRun IsSoundOpening (λ p s. IsUnharmed p s → KeepsWriteOrder p s)
 
--- The joining lemma, and the cover of joined nodes.
+-- The joining lemma: joined nodes have the headline.
 abbrev pub JoinedRunsHaveTheHeadline : Type 0
 JoinedRunsHaveTheHeadline = JoinedRuns IsSoundOpening Headline
 
--- the same of the cover
+-- joined nodes cover the differences
 abbrev pub JoinedRunsCoverDifferences : Type 0
 JoinedRunsCoverDifferences = JoinedRuns IsSoundOpening CoversDifferences
 
--- the same of the write order, where nothing failed
+-- joined nodes keep the write order, if nothing failed
 abbrev pub JoinedRunsKeepWriteOrder : Type 0
 JoinedRunsKeepWriteOrder = JoinedRuns IsSoundOpening (λ p s. IsUnharmed p s → KeepsWriteOrder p s)
 
--- What a settlement says of two joined nodes: the headline; no more taken than sent, and in a grounded history no block on
--- which the disks differ and that is not marked; each confirmed receipt is that of an entry of the journal, and none is given
--- twice; and the journal has each number once.
+-- What a settlement says of two joined nodes: the headline; no more items taken than sent; in a grounded history no
+-- unmarked block on which the disks differ; each confirmed receipt is that of an entry of the journal, and none is
+-- given twice; and the journal has each number once.
 pub record Settles (p : PrimaryHistory) (s : SecondaryHistory) (receipts : List Receipt) (numbers : Settlement) : Type 0 where
   pub headline : Headline p s
   pub exact : numbers ≡ settlement p s receipts
@@ -110,8 +111,8 @@ pub record Settles (p : PrimaryHistory) (s : SecondaryHistory) (receipts : List 
   pub once : (i j : ℕ) (receipt : Receipt) → slice_get receipts i ≡ Some receipt → slice_get receipts j ≡ Some receipt → i ≡ j
   pub distinct : (m n : ℕ) (a b : Completion) → slice_get p.journal m ≡ Some a → slice_get p.journal n ≡ Some b → a.write.number ≡ b.write.number → m ≡ n
 
--- What a settlement says of two joined nodes whatever their identifiers say: all but the fourth clause, and that no differing
--- block is unmarked.
+-- What a settlement says of two joined nodes whatever their identifiers say: all but the fourth clause and the absence
+-- of unmarked differing blocks.
 pub record SettlesAnyhow (p : PrimaryHistory) (s : SecondaryHistory) (receipts : List Receipt) (numbers : Settlement) : Type 0 where
   pub beginning : TakesABeginning p s
   pub epochs : HoldsEarlierEpochs s
@@ -123,7 +124,7 @@ pub record SettlesAnyhow (p : PrimaryHistory) (s : SecondaryHistory) (receipts :
   pub once : (i j : ℕ) (receipt : Receipt) → slice_get receipts i ≡ Some receipt → slice_get receipts j ≡ Some receipt → i ≡ j
   pub distinct : (m n : ℕ) (a b : Completion) → slice_get p.journal m ≡ Some a → slice_get p.journal n ≡ Some b → a.write.number ≡ b.write.number → m ≡ n
 
--- The joining lemma of two nodes at rest: what a settlement that is not refused says.
+-- The joining lemma of two nodes at rest: what a settlement says if it is not refused.
 abbrev pub JoinedRunsSettle : Type 0
 JoinedRunsSettle =
     JoinedRuns IsSoundOpening (λ p s. (receipts : List Receipt) (faulty : Bool) (numbers : Settlement) → settle p s receipts faulty ≡ Ok numbers

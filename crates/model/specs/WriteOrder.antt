@@ -10,11 +10,11 @@ use Rattle.model.specs.Secondary.{SecondaryHistory, secondary_connection, items_
 abbrev pub Blocks : Type 0
 Blocks = ℕ → ℕ → Bool
 
--- a write was completed when another one was accepted
+-- the earlier write was completed before the later one was accepted
 abbrev pub comes_before : PrimaryHistory → Accepted → Accepted → Bool
 comes_before p earlier later = list_any (λ entry. entry.write.number == earlier.write.number) (take later.journal_length p.journal)
 
--- An ordered set: a block of a write brings all blocks of every write that comes before it.
+-- An ordered set: if it has a block of a write, it has all blocks of every write that comes before that one.
 abbrev pub IsOrdered : PrimaryHistory → Blocks → Type 0
 IsOrdered p set =
     (m n offset place : ℕ) (earlier later : Accepted) → slice_get p.writes m ≡ Some earlier → slice_get p.writes n ≡ Some later
@@ -22,7 +22,7 @@ IsOrdered p set =
     → set later.write.number offset ≡ true → offset < length later.write.contents → place < length earlier.write.contents
     → set earlier.write.number place ≡ true
 
--- what a set of blocks has of a write
+-- the blocks of a write that a set has, as a layer
 abbrev pub layer_of : Blocks → Accepted → Layer
 layer_of set accepted = record { first = accepted.write.first; contents = accepted.write.contents; laid = λ offset. set accepted.write.number offset }
 
@@ -30,7 +30,7 @@ layer_of set accepted = record { first = accepted.write.first; contents = accept
 abbrev pub has_adopted : SecondaryHistory → Bool
 has_adopted s = list_any (λ d. list_any is_sync_end (items_taken d)) s.connections
 
--- What the writes lie over: the secondary's opening disk, and once it has adopted a tuple the primary's.
+-- What the writes lie over: the secondary's opening disk, or the primary's once the secondary has adopted a tuple.
 abbrev pub base_of : PrimaryHistory → SecondaryHistory → BlockMap
 base_of p s block = elim (has_adopted s) [ true ↦ p.opening_map block | false ↦ s.opening_map block ]
 
@@ -41,8 +41,8 @@ HasWholeEpochs p s set =
     → suc k ≡ (secondary_connection s).number
     → epoch_of (primary_connection_at p (suc k)).stream place ≤ whole s → offset < length accepted.write.contents → set accepted.write.number offset ≡ true
 
--- Such a set: it is ordered, the secondary's disk is that set of the accepted writes over the base, and it has the epochs that
--- the secondary is whole to.
+-- The set is on the secondary's disk: it is ordered, the disk is that set of the accepted writes over the base, and the
+-- set has the epochs that the secondary is whole to.
 pub record IsOnDisk (p : PrimaryHistory) (s : SecondaryHistory) (set : Blocks) : Type 0 where
   pub ordered : IsOrdered p set
   pub disk : (block : ℕ) → secondary_map s block ≡ overlay (base_of p s) (map (layer_of set) p.writes) block
@@ -52,7 +52,8 @@ pub record IsOnDisk (p : PrimaryHistory) (s : SecondaryHistory) (set : Blocks) :
 abbrev pub KeepsWriteOrder : PrimaryHistory → SecondaryHistory → Type 0
 KeepsWriteOrder p s = s.consistent ≡ true → (set : Blocks) × IsOnDisk p s set
 
--- Its premises: no local write failed, and an opening with equal currents had nothing to resync.
+-- The premises of the write order: no local write failed, and if both nodes opened with the same current identifier,
+-- the primary had nothing to resync.
 pub record IsUnharmed (p : PrimaryHistory) (s : SecondaryHistory) : Type 0 where
   pub local : list_any (λ accepted. is_failed accepted.outcome) p.writes ≡ false
   pub opening : p.opening_tuple.current ≡ s.opening_tuple.current → p.opening_tuple.bitmap ≡ 0

@@ -1,4 +1,4 @@
--- Worked examples of writes over a standing connection.
+-- Worked examples of writes over an established connection.
 use Rattle.std.specs.Prelude.{◌≡◌, List, [], ◌∷◌, ◌++◌}
 use Rattle.blocks.specs.declared.settings.Settings.{Settings}
 use Rattle.blocks.specs.declared.settings.Protocol.TheVariants as protocol
@@ -18,7 +18,7 @@ use Rattle.model.specs.Status.{primary_line, secondary_line, linked_primary, lin
 abbrev pub one_write : List Event
 one_write = fill 2 1 170 ∷ LocalEvent 1 ∷ SendEvent ∷ ReceiveEvent ∷ PeerEvent 0 ∷ AckOutEvent ∷ AckInEvent ∷ []
 
--- what one write answers, step by step
+-- the replies to one write, step by step
 abbrev pub one_write_replies : List Reply
 one_write_replies = accepted 1 ∷ done ∷ item command.Data 0 ∷ item command.Data 0 ∷ done ∷ frame command.WriteAck ∷ with_barrier 1
     (completing 1 (frame command.WriteAck)) ∷ []
@@ -31,15 +31,15 @@ pub record OneWrite : Type 0 where
   pub primary : primary_line (after one_write (connected standard)).primary ≡ linked_primary protocol.C 0 0 1 0
   pub secondary : secondary_line (after one_write (connected standard)).secondary ≡ linked_secondary protocol.C 0 0
 
--- With one unreleased write at a time the next one has to wait for the barrier's acknowledgement.
+-- With at most one unreleased write, the next one has to wait for the barrier's acknowledgement.
 abbrev pub one_at_a_time : Settings
 one_at_a_time = record standard { backlog = 1 }
 
--- a second write waits for the release of the first where the log has room for one
+-- a second write waits for the release of the first, as the log has room for one
 abbrev pub two_in_turn : List Event
 two_in_turn = one_write ++ fill 3 1 187 ∷ SendEvent ∷ ReceiveEvent ∷ AckOutEvent ∷ AckInEvent ∷ fill 3 1 187 ∷ []
 
--- what that answers, and how the disks differ then
+-- the replies, and the blocks on which the disks differ then
 pub record TwoInTurn : Type 0 where
   pub answers : replies two_in_turn (connected one_at_a_time)
       ≡ one_write_replies ++ refused refusal.LogFull ∷ item command.Barrier 1 ∷ item command.Barrier 1 ∷ frame command.BarrierAck ∷ frame command.BarrierAck ∷
@@ -67,7 +67,7 @@ semisynchronous = record standard { protocol = protocol.B }
 abbrev pub received_and_lost : List Event
 received_and_lost = fill 2 1 170 ∷ LocalEvent 1 ∷ SendEvent ∷ ReceiveEvent ∷ AckOutEvent ∷ AckInEvent ∷ PeerFaultEvent 0 0 ∷ []
 
--- what that answers: the write was promised as received, and the disks differ in a block that is not marked yet
+-- the replies; the write was promised as received, and the disks differ in a block that only the close marks
 pub record ReceivedAndLost : Type 0 where
   pub answers : replies received_and_lost (connected semisynchronous)
       ≡ accepted 1 ∷ done ∷ item command.Data 0 ∷ item command.Data 0 ∷ frame command.RecvAck ∷ with_barrier 1 (completing 1 (frame command.RecvAck)) ∷ done ∷
@@ -78,7 +78,7 @@ pub record ReceivedAndLost : Type 0 where
   pub marks : marked (after (received_and_lost ++ ClosePrimaryEvent ∷ []) (connected semisynchronous)) ≡ 2 ∷ []
   pub identifiers : tuples (after (received_and_lost ++ ClosePrimaryEvent ∷ []) (connected semisynchronous)) ≡ (words 7 1 0 0, words 1 0 0 0)
 
--- A write that overlaps an open one is refused with its number; once that is completed the next stands in the next epoch.
+-- A write that overlaps an open one is refused with its number; once that is completed the next is in the next epoch.
 pub record Overlapping : Type 0 where
   pub answers : replies (fill 2 3 17 ∷ fill 4 2 34 ∷ LocalEvent 1 ∷ SendEvent ∷ ReceiveEvent ∷ PeerEvent 0 ∷ AckOutEvent ∷ AckInEvent ∷ fill 4 2 34 ∷ SendEvent
       ∷ SendEvent ∷ []) (connected standard)
@@ -93,7 +93,7 @@ two_epochs =
     ∷ fill 2 1 3 ∷ SendEvent ∷ SendEvent ∷ ReceiveEvent ∷ ReceiveEvent ∷ PeerEvent 3 ∷ PeerEvent 0 ∷ PeerEvent 3 ∷ PeerEvent 3
     ∷ AckOutEvent ∷ AckInEvent ∷ AckOutEvent ∷ AckInEvent ∷ AckOutEvent ∷ AckInEvent ∷ LocalEvent 3 ∷ []
 
--- writes in two epochs, of which the second waits for the first
+-- writes in two epochs; the second waits for the first
 pub record TwoEpochs : Type 0 where
   pub answers : replies two_epochs (connected standard)
       ≡ accepted 1 ∷ accepted 2 ∷ done ∷ done ∷ item command.Data 0 ∷ item command.Data 1 ∷ item command.Data 0 ∷ item command.Data 1 ∷ done ∷ frame
@@ -103,14 +103,14 @@ pub record TwoEpochs : Type 0 where
       ∷ refused refusal.EpochOpen ∷ done ∷ done ∷ refused refusal.UnknownJob ∷ frame command.WriteAck ∷ completing 1 (frame command.WriteAck)
       ∷ frame command.BarrierAck ∷ frame command.BarrierAck ∷ frame command.WriteAck ∷ frame command.WriteAck ∷ with_barrier 2 (completing 3 done) ∷ []
 
--- A link of one frame is full after one, and a log of one write after one.
+-- A link for one frame is full after one, and a log for one write after one.
 pub record Full : Type 0 where
   pub link : replies (fill 0 1 170 ∷ fill 1 1 187 ∷ SendEvent ∷ SendEvent ∷ ReceiveEvent ∷ SendEvent ∷ SendEvent ∷ [])
       (connected (record standard { link = 1 }))
       ≡ accepted 1 ∷ accepted 2 ∷ item command.Data 0 ∷ refused refusal.LinkFull ∷ item command.Data 0 ∷ item command.Data 1 ∷ refused refusal.NothingThere ∷ []
   pub log : replies (fill 0 1 170 ∷ fill 1 1 187 ∷ []) (connected one_at_a_time) ≡ accepted 1 ∷ refused refusal.LogFull ∷ []
 
--- What is refused before a connection stands, and what right after it.
+-- What is refused before a connection is established, and what right after it.
 pub record AtTheStart : Type 0 where
   pub alone : replies (fill 0 1 170 ∷ OpenEvent 0 7 ∷ OpenEvent 5 1 ∷ []) (fresh standard) ≡ refused refusal.NotConnected ∷ refused refusal.UsedIdentifier ∷
       refused refusal.UsedIdentifier ∷ []

@@ -1,8 +1,8 @@
-//! The definitions that every theorem of the mirror speaks of: writes, streams and epochs, the history of a primary and
-//! of a secondary, their steps, and runs of a pair. They stand in `specs/`, and `docs/MODEL.md` walks through them.
+//! Definitions that every theorem of the mirror speaks of: writes, streams and epochs, the history of a primary and of
+//! a secondary, their steps, and runs of a pair. They are in `specs/`, and `docs/MODEL.md` walks through them.
 //!
-//! The functions here do nothing. Each carries, as its contract, worked examples that the definitions compute: what a
-//! pair replies to a list of events, and what its disks, marks and identifiers then are.
+//! The functions here do nothing. The contract of each states worked examples that the definitions compute: what a pair
+//! replies to a list of events, and what its disks, marks and identifiers then are.
 #![tactic(auto)]
 
 ghost use Rattle.model.specs.ClearingRows.{Cleared, ClearedToTheEnd, ClearedUnderWay, ClearedByTheLocalWrite, UnderALaterWrite, FailedClearsNothing};
@@ -15,7 +15,7 @@ ghost use Rattle.model.specs.TestRows.{LogBeforeConflict, PendingBeforeMemory, F
 ghost use Rattle.model.specs.UsageRows.{Usage, NeverOpened, Settlements, SentAndUnanswered, FailedIsNotWhole};
 ghost use Rattle.model.specs.WriteRows.{OneWrite, TwoInTurn, Asynchronous, ReceivedAndLost, Overlapping, TwoEpochs, Full, AtTheStart};
 
-/// Writes over a standing connection, under each protocol.
+/// States worked examples of writes over an established connection, under each protocol.
 pub fn writes()
     ensures one_write { OneWrite }
     ensures two_in_turn { TwoInTurn }
@@ -27,7 +27,7 @@ pub fn writes()
     ensures at_the_start { AtTheStart }
 {}
 
-/// Ranges, the activity log, and disks that fail.
+/// States worked examples of ranges, of the activity log, and of disks that fail.
 pub fn disks()
     ensures ranges { Ranges }
     ensures one_slot { OneSlot }
@@ -37,14 +37,15 @@ pub fn disks()
     ensures others_stay { OthersOfTheEpochStay }
 {}
 
-/// A lost link, and the connection after it.
+/// States worked examples of a lost link, and of the connection after it.
 pub fn closes()
     ensures lost_link { LostLink }
     ensures reconnected { Reconnected }
     ensures acknowledged_first { AcknowledgedFirst }
 {}
 
-/// The decision over the identifiers, how they are turned, which words are fresh, and a hello that is refused.
+/// States worked examples of the decision over the identifiers, of how they are turned, of fresh words, and of a
+/// refused hello.
 pub fn decisions()
     ensures decisions { Decisions }
     ensures turns { Turns }
@@ -52,7 +53,7 @@ pub fn decisions()
     ensures refused_hello { RefusedHello }
 {}
 
-/// Resynchronisation, alone and among writes.
+/// States worked examples of resynchronisation, alone and among writes.
 pub fn resyncs()
     ensures nothing_marked { NothingMarked }
     ensures empty_peer { EmptyPeer }
@@ -63,7 +64,7 @@ pub fn resyncs()
     ensures among_writes { AmongWrites }
 {}
 
-/// Marks that a connected write clears as it is released.
+/// States worked examples of the marks that a connected write clears when it is released.
 pub fn releases()
     ensures cleared { Cleared }
     ensures cleared_to_the_end { ClearedToTheEnd }
@@ -73,7 +74,8 @@ pub fn releases()
     ensures failed_clears_nothing { FailedClearsNothing }
 {}
 
-/// Frames that the other end never makes: each is answered with its number, and closes the end.
+/// States worked examples of frames that the other end never makes: each is refused with its number, and closes the
+/// end.
 pub fn foreign_frames()
     ensures to_secondary { ToSecondary }
     ensures to_primary { ToPrimary }
@@ -81,14 +83,15 @@ pub fn foreign_frames()
     ensures acknowledged_once { AcknowledgedOnce }
 {}
 
-/// What the order of a step's tests is, where more than one of them holds.
+/// States worked examples of the order of a step's tests, if more than one of them holds.
 pub fn tests_in_order()
     ensures submit { LogBeforeConflict }
     ensures receive { PendingBeforeMemory }
     ensures peer_fault { FaultsInOrder }
 {}
 
-/// What the nodes say of their use, a connection that a secondary never opened, and settlements.
+/// States worked examples of what the nodes report of their use, of a connection that a secondary never opened, and of
+/// settlements.
 pub fn usage()
     ensures usage { Usage }
     ensures never_opened { NeverOpened }

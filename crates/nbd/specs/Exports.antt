@@ -1,4 +1,4 @@
--- What a clause sees of an export.
+-- An export as contracts see it.
 use Rattle.std.specs.Prelude.{ℕ, List}
 
 -- its name, and the blocks of 4096 bytes of its device

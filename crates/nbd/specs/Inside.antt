@@ -1,9 +1,9 @@
--- What is known of each request that is given out.
+-- What holds of each request that is given out.
 use Rattle.std.specs.Prelude.{ℕ, ◌≡◌, ◌≢◌, ◌+◌, ◌*◌, ◌<◌, ◌≤◌, length}
 use Rattle.nbd.specs.declared.command.Command.TheVariants.{Read, Write, Flush, Disconnect}
 use Rattle.nbd.specs.declared.request.Request.{Request}
 
--- the request goes over blocks of a device of so many blocks, and a WRITE has a payload of as many
+-- the request is for blocks of a device of `blocks` blocks, and a WRITE has a payload of as many as it is for
 pub record IsInside (blocks : ℕ) (r : Request) : Type 0 where
   pub stays : r.command ≢ Disconnect
   pub some : r.command ≢ Flush → 0 < r.block_count

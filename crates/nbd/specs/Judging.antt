@@ -24,16 +24,16 @@ command_at kind =
     if kind == 3 then Some command.Flush else
     if kind == 6 then Some command.WriteZeroes else None
 
--- whether a command may have these flags: FUA (1) stands with each, NO_HOLE (2) with WRITE_ZEROES alone
+-- whether a command may have these flags: FUA (1) may come with each, NO_HOLE (2) with WRITE_ZEROES alone
 abbrev pub may_have : Command → ℕ → Bool
 may_have command.WriteZeroes flags = nat_lt flags 4
 may_have _ flags = nat_lt flags 2
 
--- at least one block, and whole blocks alone
+-- at least one block, and only whole blocks
 abbrev pub is_whole : ℕ → ℕ → Bool
 is_whole offset length = (offset % 4096 == 0) && ((length % 4096 == 0) && nat_lt 0 length)
 
--- whether a request has more bytes than its payload, or its reply's, may have
+-- whether a request has more bytes than its payload or its reply's may have
 abbrev pub is_long : Command → ℕ → Bool
 is_long command.WriteZeroes length = false
 is_long _ length = nat_lt 33554432 length

@@ -10,23 +10,23 @@ use Rattle.nbd.specs.Exports.{Exported}
 use Rattle.nbd.specs.Judging.{judged}
 use Rattle.nbd.specs.Steps.{wanted, Stepped, step, skipped}
 
--- what a clause sees of a connection: the export that it serves, what it waits for, and the bytes of that which it has
+-- a connection as contracts see it: the export that it serves, what it waits for, and the bytes of that which it has
 pub record Machine : Type 0 where
   pub export : Exported
   pub phase : Phase
   pub held : List ℕ
 
--- what comes of bytes: the connection after them, the bytes that go back, and the requests that are given out
+-- the result of bytes: the connection after them, the bytes that go back, and the requests that are given out
 pub record Fed : Type 0 where
   pub machine : Machine
   pub sent : List ℕ
   pub requests : List Request
 
--- nothing comes of it
+-- no result beside the connection
 abbrev pub silent : Machine → Fed
 silent m = record { machine = m; sent = []; requests = [] }
 
--- a step was made, and nothing is held any more
+-- the result of a step, with no bytes held any more
 abbrev pub after_step : Exported → Stepped → Fed
 after_step e s = record { machine = record { export = e; phase = s.phase; held = [] }; sent = s.sent; requests = s.requests }
 
@@ -40,16 +40,16 @@ with_byte e (phase.Skip left refused) held byte =
     else silent (record { export = e; phase = phase.Skip (left - 1) refused; held = [] })
 with_byte e phase.Closed held byte = silent (record { export = e; phase = phase.Closed; held = held })
 
--- one thing after another
+-- one result after another
 abbrev pub then_fed : Fed → Fed → Fed
 then_fed a b = record { machine = b.machine; sent = a.sent ++ b.sent; requests = a.requests ++ b.requests }
 
--- what comes of bytes, one after another
+-- the result of bytes, one after another
 unfoldable pub fed : Machine → List ℕ → Fed
 fed m [] = silent m
 fed m (byte ∷ bytes) = let first = with_byte m.export m.phase m.held byte in then_fed first (fed first.machine bytes)
 
--- what is known of a part: a payload is that of a WRITE that is served
+-- what holds of a part: a payload is that of a WRITE that is served
 abbrev pub IsDue : Exported → Part → Type 0
 IsDue e (part.OptionData no_zeroes option length) = length ≤ 8192
 IsDue e (part.Payload h) = judged e h ≡ Ok Write
@@ -67,13 +67,13 @@ IsPortion (phase.Gather p) held count = length held + count ≤ wanted p
 IsPortion (phase.Skip left refused) held count = count ≤ left
 IsPortion phase.Closed held count = Unit {0}
 
--- this came of a connection's bytes: how it goes on, and what was put at the end of both lists
+-- the connection has this result: how it goes on, and what was put at the end of both lists
 pub record Adds (f : Fed) (m : Machine) (old_bytes new_bytes : List ℕ) (old_requests new_requests : List Request) : Type 0 where
   pub machine : m ≡ f.machine
   pub sent : new_bytes ≡ old_bytes ++ f.sent
   pub given : new_requests ≡ old_requests ++ f.requests
 
--- the rest of what comes of bytes is this, where so much of it was put at the end of both lists
+-- the rest of a result, after these parts of it were put at the end of both lists
 pub record Continues (all rest : Fed) (old_bytes new_bytes : List ℕ) (old_requests new_requests : List Request) : Type 0 where
   pub machine : all.machine ≡ rest.machine
   pub sent : old_bytes ++ all.sent ≡ new_bytes ++ rest.sent

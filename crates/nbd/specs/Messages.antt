@@ -1,4 +1,4 @@
--- What a client may say: options (NBD protocol, "Handshake"), then requests ("Transmission"); and what comes of them.
+-- What a client may send: options (NBD protocol, "Handshake"), then requests ("Transmission"); and their results.
 use Rattle.std.specs.Prelude.{ℕ, ◌≡◌, ◌+◌, ◌<◌, ◌≤◌, ◌^◌, ◌==◌, nat_lt, ◌⊎◌, Bool, true, false, if◌then◌else◌, List, [], ◌∷◌, ◌++◌, length, take, Result, Ok}
 use Rattle.std.specs.Prelude.{Err}
 use Rattle.std.specs.List.{flat_map, list_any, AllByRecursion}
@@ -44,14 +44,14 @@ at_request e = record { export = e; phase = phase.Gather part.Request; held = []
 abbrev pub closed : Exported → Machine
 closed e = record { export = e; phase = phase.Closed; held = [] }
 
--- what comes of a message that is judged so: a request that is served is given out with its payload, one that is refused has
--- its reply, and one to disconnect ends the connection
+-- the result of a message that is judged so: a request that is served is given out with its payload, one that is
+-- refused has its reply, and one to disconnect ends the connection
 abbrev pub answer_as : Exported → Message → Result Command Errno → Fed
 answer_as e m (Ok command.Disconnect) = silent (closed e)
 answer_as e m (Ok c) = record { machine = at_request e; sent = []; requests = request_of c m.header m.payload ∷ [] }
 answer_as e m (Err errno) = record { machine = at_request e; sent = reply_spelling (failure m.header.cookie errno); requests = [] }
 
--- what comes of a message
+-- the result of a message
 abbrev pub answer : Exported → Message → Fed
 answer e m = answer_as e m (judged e m.header)
 
@@ -60,7 +60,7 @@ abbrev pub is_end : Result Command Errno → Bool
 is_end (Ok command.Disconnect) = true
 is_end _ = false
 
--- what comes of messages, one after another, up to one that ends the connection
+-- the result of messages, one after another, up to one that ends the connection
 abbrev pub answers : Exported → List Message → Fed
 answers e [] = silent (at_request e)
 answers e (m ∷ messages) = if is_end (judged e m.header) then silent (closed e) else then_fed (answer e m) (answers e messages)
@@ -69,7 +69,7 @@ answers e (m ∷ messages) = if is_end (judged e m.header) then silent (closed e
 abbrev pub has_end : Exported → List Message → Bool
 has_end e messages = list_any (λ m. is_end (judged e m.header)) messages
 
--- less than a message whose header was read so; where it is no header, the connection is closed
+-- less than a message whose header was read so; if it is no header, the connection is closed
 abbrev pub IsRestWith : Result RequestHeader Refusal → List ℕ → Type 0
 IsRestWith (Ok h) rest = length rest < 28 + payload_length h
 IsRestWith (Err refusal) rest = Unit {0}
@@ -78,7 +78,8 @@ IsRestWith (Err refusal) rest = Unit {0}
 abbrev pub IsRest : List ℕ → Type 0
 IsRest rest = (length rest < 28) ⊎ ((28 ≤ length rest) × IsRestWith (header_at (take 28 rest)) rest)
 
--- the bytes of a client are messages and then a rest, and what comes of them is the answers to those messages and nothing else
+-- the bytes of a client are messages and then a rest, and their result is the answers to those messages and nothing
+-- else
 pub record Parses (e : Exported) (bytes : List ℕ) : Type 0 where
   pub messages : List Message
   pub rest : List ℕ
@@ -114,7 +115,7 @@ too_big e no_zeroes option =
     if option == 1 then silent (closed e)
     else record { machine = at_option e no_zeroes; sent = option_reply option rep_err_too_big []; requests = [] }
 
--- what comes of an option
+-- the result of an option
 abbrev pub option_answer : Exported → Bool → ClientOption → Fed
 option_answer e no_zeroes o =
     if nat_lt 8192 (length o.bytes) then too_big e no_zeroes o.number

@@ -1,4 +1,5 @@
--- What the handshake answers (NBD protocol, "Fixed newstyle negotiation", "Option types", "Option reply types").
+-- The server's answers in the handshake (NBD protocol, "Fixed newstyle negotiation", "Option types", "Option reply
+-- types").
 use Rattle.std.specs.Prelude.{ℕ, ◌+◌, ◌*◌, ◌==◌, Bool, ◌||◌, ◌&&◌, nat_le, if◌then◌else◌, List, [], ◌++◌, length, replicate, slice_range, bytes_eq, Option}
 use Rattle.std.specs.Prelude.{Some, None}
 use Rattle.packets.specs.Numbers.{number_in, number_bytes}
@@ -41,8 +42,8 @@ unfoldable pub option_reply : ℕ → ℕ → List ℕ → List ℕ
 option_reply option kind bytes =
     number_bytes 8 0x3E889045565A9 ++ number_bytes 4 option ++ number_bytes 4 kind ++ number_bytes 4 (length bytes) ++ bytes
 
--- the device's bytes, and the transmission flags: HAS_FLAGS (1), SEND_FLUSH (4), SEND_FUA (8), SEND_WRITE_ZEROES (64) and
--- CAN_MULTI_CONN (256)
+-- the device's bytes, and the transmission flags: HAS_FLAGS (1), SEND_FLUSH (4), SEND_FUA (8), SEND_WRITE_ZEROES (64)
+-- and CAN_MULTI_CONN (256)
 unfoldable pub size_and_flags : Exported → List ℕ
 size_and_flags e = number_bytes 8 (4096 * e.blocks) ++ number_bytes 2 333
 
@@ -104,7 +105,7 @@ abbrev pub informed_of : Exported → ℕ → Next → Option (List ℕ) → Rep
 informed_of e option next None = replies option rep_err_invalid
 informed_of e option next (Some name) = if is_named e name then informed e option next else replies option rep_err_unknown
 
--- what an option with these data is answered
+-- the server's answer to an option with these data
 unfoldable pub option_replied : Exported → Bool → ℕ → List ℕ → Replied
 option_replied e no_zeroes option bytes =
     if option == 1 then export_name e no_zeroes bytes else

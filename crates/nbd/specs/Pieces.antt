@@ -6,7 +6,7 @@ use Rattle.blocks.specs.declared.range.Range.{Range}
 abbrev pub piece : ℕ → ℕ → ℕ
 piece first count = min count (min 32 (1024 - first % 1024))
 
--- the first so many ranges of `count` blocks from `first` on, each by its first block and how many it has
+-- the first `n` ranges of `count` blocks from `first` on, each by its first block and how many it has
 unfoldable pub first_pieces : ℕ → ℕ → ℕ → List (ℕ × ℕ)
 first_pieces zero first count = []
 first_pieces (suc n) first count =

@@ -11,7 +11,7 @@ use Rattle.nbd.specs.Errors.{number_of, errno_at}
 abbrev pub reply_magic : ℕ
 reply_magic = 0x67446698
 
--- the number in the error field: 0 where there is none
+-- the number in the error field: 0 if there is no error
 abbrev pub error_number : Option Errno → ℕ
 error_number None = 0
 error_number (Some e) = number_of e

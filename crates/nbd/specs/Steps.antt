@@ -1,4 +1,4 @@
--- What one step of a connection makes, once the bytes that it waits for are there.
+-- The result of one step of a connection, once the bytes that it waits for are there.
 use Rattle.std.specs.Prelude.{ℕ, ◌≡◌, ◌/◌, ◌%◌, ◌==◌, Bool, nat_lt, if◌then◌else◌, List, [], ◌∷◌, Some, Result, Ok, Err}
 use Rattle.blocks.specs.declared.refusal.Refusal.{Refusal}
 use Rattle.blocks.specs.declared.refusal.Refusal.TheVariants.{NoMemory}
@@ -41,7 +41,7 @@ pub record Stepped : Type 0 where
   pub sent : List ℕ
   pub requests : List Request
 
--- the connection goes on so, and nothing else comes of it
+-- the connection goes on so, with no other result
 abbrev pub goes_on : Phase → Stepped
 goes_on phase = record { phase = phase; sent = []; requests = [] }
 
@@ -127,7 +127,7 @@ after_header e (Err refusal) = goes_on phase.Closed
 
 -- ---- all
 
--- what comes of a part, once all of its bytes are there
+-- the result of a part, once all of its bytes are there
 unfoldable pub step : Exported → Part → List ℕ → Stepped
 step e part.ClientFlags bytes = after_flags (number_in 4 0 bytes)
 step e (part.Option no_zeroes) bytes = after_option e no_zeroes bytes
@@ -135,7 +135,7 @@ step e (part.OptionData no_zeroes option length) bytes = after_reply no_zeroes (
 step e part.Request bytes = after_header e (header_at bytes)
 step e (part.Payload h) bytes = gives command.Write h bytes
 
--- what comes of a refusal, once what it skips is past
+-- the result of a refusal, once the bytes that it skips are past
 unfoldable pub skipped : Refused → Stepped
 skipped (refused.LongOption no_zeroes option) = sends (phase.Gather (part.Option no_zeroes)) (option_reply option rep_err_too_big [])
 skipped (refused.Write cookie errno) = sends (phase.Gather part.Request) (reply_spelling (failure cookie errno))
@@ -159,6 +159,6 @@ abbrev pub made_requests : Made → List Request
 made_requests (made.Request request) = request ∷ []
 made_requests _ = []
 
--- a step without where its bytes lie
+-- a step, without the place of its bytes
 abbrev pub view : Step → Stepped
 view s = record { phase = s.phase; sent = made_bytes s.made; requests = made_requests s.made }

@@ -4,8 +4,8 @@ ghost use Rattle.nbd.specs.Judging.{kind_of, command_at, may_have, is_long, past
 
 use crate::Errno;
 
-/// The most bytes of a READ or a WRITE, 32 MiB: what the protocol has clients rely on by default (NBD
-/// protocol, "Block size constraints").
+/// The most bytes of a READ or a WRITE, 32 MiB: the default that clients may rely on (NBD protocol, "Block size
+/// constraints").
 pub(crate) const MAX_REQUEST_BYTES: u32 = 33_554_432;
 
 /// NBD_CMD_FLAG_FUA: the reply waits until the data are on stable storage (NBD protocol, "Command flags").
@@ -30,7 +30,7 @@ pub enum Command {
 }
 
 impl Command {
-    /// The command's number in a request.
+    /// Returns the command's number in a request.
     pub fn number(self) -> u16
         ensures { result ≡ kind_of self }
     {
@@ -43,7 +43,7 @@ impl Command {
         }
     }
 
-    /// The command that has a number; `None` for a number that no command of this server has.
+    /// Returns the command with this number; `None` if no command of this server has it.
     pub fn with_number(number: u16) -> Option<Command>
         ensures { result ≡ command_at number }
     {
@@ -57,7 +57,7 @@ impl Command {
         }
     }
 
-    /// Whether a request with this command may have these flags: FUA goes with each command, as the protocol
+    /// Returns whether a request with this command may have these flags: FUA goes with each command, as the protocol
     /// demands of a server that offers it; NO_HOLE goes with WRITE_ZEROES only.
     pub(crate) fn may_have(self, flags: u16) -> bool
         ensures { result ≡ may_have self flags }
@@ -68,7 +68,7 @@ impl Command {
         }
     }
 
-    /// Whether the length exceeds the most bytes of a payload, the request's or its reply's.
+    /// Returns whether the length exceeds the most bytes of a payload, the request's or its reply's.
     pub(crate) fn is_long(self, length: u32) -> bool
         ensures { result ≡ is_long self length }
     {
@@ -78,7 +78,7 @@ impl Command {
         }
     }
 
-    /// The error for a range past the device's end.
+    /// Returns the error for a range past the device's end.
     pub(crate) fn past_end(self) -> Errno
         ensures { result ≡ past_end self }
     {

@@ -23,7 +23,7 @@ pub struct Connection {
     alloc: Global,
     export: Export,
     phase: Phase,
-    // The bytes so far of the part that the phase gathers; empty in any other phase.
+    // The bytes that have arrived of the part that the phase gathers; empty in any other phase.
     held: Vec<u8>,
 }
 
@@ -38,7 +38,7 @@ impl Model for Connection {
 }
 
 impl Connection {
-    /// A connection whose client has sent nothing yet. It takes no memory.
+    /// Creates a connection whose client has sent nothing yet. Takes no memory.
     pub fn new(alloc: Global, export: Export) -> Connection
         ensures { result ≡ record {
           export = export;
@@ -54,8 +54,8 @@ impl Connection {
         }
     }
 
-    /// Whether the connection is closed: the client disconnected or broke the protocol, or memory ran out.
-    /// The caller still serves the requests that it has, sends their replies, and then closes the socket.
+    /// Returns whether the connection is closed: the client disconnected or broke the protocol, or memory ran out. The
+    /// caller still serves the requests that it has, sends their replies, and then closes the socket.
     pub fn is_closed(&self) -> bool
         ensures { IsTrue result ↔ (self.now.phase ≡ phase.Closed) }
     {
@@ -130,7 +130,7 @@ impl Connection {
         Ok(())
     }
 
-    /// How many of the next `count` bytes to take at once: at most as many as the phase still needs.
+    /// Returns how many of the next `count` bytes to take at once: at most as many as the phase still needs.
     fn portion(&self, count: usize) -> usize
         requires { 0 < count }
         ensures some { 0 < result }

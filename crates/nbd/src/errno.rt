@@ -26,8 +26,8 @@ pub enum Errno {
 }
 
 impl Errno {
-    /// The error's number in a reply: EPERM 1, EIO 5, ENOMEM 12, EINVAL 22, ENOSPC 28, EOVERFLOW 75,
-    /// ENOTSUP 95, ESHUTDOWN 108.
+    /// Returns the error's number in a reply: EPERM 1, EIO 5, ENOMEM 12, EINVAL 22, ENOSPC 28, EOVERFLOW 75, ENOTSUP
+    /// 95, ESHUTDOWN 108.
     pub fn number(self) -> u32
         ensures { result ≡ number_of self }
     {
@@ -43,7 +43,7 @@ impl Errno {
         }
     }
 
-    /// The error that has a number; `None` for a number that no error has.
+    /// Returns the error with this number; `None` if no error has it.
     pub fn with_number(number: u32) -> Option<Errno>
         ensures { result ≡ errno_at number }
     {

@@ -25,7 +25,7 @@ impl Model for Export {
 }
 
 impl Export {
-    /// An export of `blocks` blocks. The name has at most 4,096 bytes, the protocol's limit for a string (NBD
+    /// Creates an export of `blocks` blocks. The name has at most 4,096 bytes, the protocol's limit for a string (NBD
     /// protocol, "Values").
     pub fn new(name: String, blocks: u32) -> Export
         requires { length (string_bytes name) ≤ 4096 }
@@ -34,7 +34,7 @@ impl Export {
         Export { name, blocks }
     }
 
-    /// The export's name.
+    /// Returns the export's name.
     pub fn name(&self) -> &str
         ensures value { result.now ≡ self.now.name }
         ensures few { length result.now ≤ 4096 }
@@ -42,21 +42,21 @@ impl Export {
         self.name.as_str()
     }
 
-    /// The device's size in blocks.
+    /// Returns the device's size in blocks.
     pub fn blocks(&self) -> u32
         ensures { result ≡ self.now.blocks }
     {
         self.blocks
     }
 
-    /// The device's size in bytes.
+    /// Returns the device's size in bytes.
     pub fn bytes(&self) -> u64
         ensures { result ≡ 4096 * self.now.blocks }
     {
         u64::from(self.blocks) * BLOCK_BYTES as u64
     }
 
-    /// The command of a request, or the error that refuses the request. The tests are, in this order:
+    /// Returns the command of a request, or the error that refuses the request. The tests are, in this order:
     ///
     /// 1. `Invalid` for an unknown command, or for a flag that the command may not have;
     /// 2. `Invalid` if the offset or the length is not of whole blocks, whether or not the client asked for
@@ -112,7 +112,7 @@ fn judge_flush(header: &RequestHeader) -> Result<Command, Errno>
     }
 }
 
-/// Whether a request covers whole blocks, at least one.
+/// Returns whether a request covers whole blocks, at least one.
 fn is_whole(header: &RequestHeader) -> bool
     ensures { result ≡ is_whole header.now.offset header.now.length }
 {

@@ -32,7 +32,7 @@ pub struct RequestHeader {
 }
 
 impl RequestHeader {
-    /// The 28 bytes that spell the header.
+    /// Returns the 28 bytes that spell the header.
     #[tactic(auto, unfolding(crate::specs::Requests::spelling))]
     pub fn encode(&self) -> Short
         ensures { Spells self.now result }
@@ -47,15 +47,15 @@ impl RequestHeader {
         out
     }
 
-    /// The header that 28 bytes spell. `BadMagic` (20), the only refusal, comes if they do not begin with the
+    /// Returns the header that 28 bytes spell. `BadMagic` (20), the only refusal, comes if they do not begin with the
     /// magic number.
     pub fn decode(bytes: &[u8]) -> Result<RequestHeader, Refusal>
         requires { length bytes.now ≡ 28 }
-        // What is read is spelled so.
+        // The bytes spell the header that is returned.
         ensures found { IfOk result (λ h. Spells h bytes.now) }
-        // What is spelled so is read.
+        // A header that the bytes spell is returned.
         ensures only { (h : RequestHeader) → Spells h bytes.now → result ≡ Ok h }
-        // What is refused does not begin as a request does.
+        // Bytes that are refused do not begin with the magic number.
         ensures refused { IfErr result (λ e. (e ≡ BadMagic) × (number_in 4 0 bytes.now ≢ request_magic)) }
         ensures is { result ≡ header_at bytes.now }
     {

@@ -15,8 +15,8 @@ pub fn one_piece_after_another()
         → fed m (bytes ++ piece) ≡ then_fed (fed m bytes) (fed (fed m bytes).machine piece) }
 {}
 
-/// An option has one reply, whatever its length: with too many data it is refused, or closes the connection if
-/// it is EXPORT_NAME.
+/// An option has one reply, whatever its length: if it has too much data, it is refused, or closes the connection if it
+/// is EXPORT_NAME.
 pub fn one_reply_to_an_option()
     ensures { (e : Exported) (no_zeroes : Bool) (o : ClientOption) → FitsOption o
         → fed (at_option e no_zeroes) (option_bytes o) ≡ option_answer e no_zeroes o }
@@ -35,8 +35,8 @@ pub fn each_is_answered()
         → fed (at_request e) (stream_of messages) ≡ answers e messages }
 {}
 
-/// Whatever bytes a client sends, they are messages and then a rest that begins with no whole message; the
-/// output is the answers to those messages and nothing else.
+/// The bytes that a client sends, whatever they are, are messages and then a rest that begins with no whole message.
+/// The output is the answers to those messages and nothing else.
 pub fn nothing_else()
     ensures { (e : Exported) (bytes : List ℕ) → ((i : ℕ) → slice_index bytes i < 256) → Parses e bytes }
 {}

@@ -5,7 +5,7 @@ ghost use Rattle.packets.specs.Numbers.{number_in, number_bytes};
 use crate::short::Short;
 use byteorder::{BigEndian, ByteOrder};
 
-/// The number in the two bytes at a place.
+/// Returns the number in the two bytes at a place.
 #[tactic(auto, unfolding(packets::specs::Numbers::number_in))]
 pub(crate) fn u16_at(bytes: &[u8], place: usize) -> u16
     requires { place + 2 ≤ length bytes.now }
@@ -14,7 +14,7 @@ pub(crate) fn u16_at(bytes: &[u8], place: usize) -> u16
     BigEndian::read_u16(&bytes[place..])
 }
 
-/// The number in the four bytes at a place.
+/// Returns the number in the four bytes at a place.
 #[tactic(auto, unfolding(packets::specs::Numbers::number_in))]
 pub(crate) fn u32_at(bytes: &[u8], place: usize) -> u32
     requires { place + 4 ≤ length bytes.now }
@@ -23,7 +23,7 @@ pub(crate) fn u32_at(bytes: &[u8], place: usize) -> u32
     BigEndian::read_u32(&bytes[place..])
 }
 
-/// The number in the eight bytes at a place.
+/// Returns the number in the eight bytes at a place.
 #[tactic(auto, unfolding(packets::specs::Numbers::number_in))]
 pub(crate) fn u64_at(bytes: &[u8], place: usize) -> u64
     requires { place + 8 ≤ length bytes.now }
@@ -32,7 +32,7 @@ pub(crate) fn u64_at(bytes: &[u8], place: usize) -> u64
     BigEndian::read_u64(&bytes[place..])
 }
 
-/// Puts the two bytes of a number at the end.
+/// Appends the two bytes of a number.
 #[tactic(auto, unfolding(packets::specs::Numbers::number_bytes))]
 pub(crate) fn put_u16(out: &mut Short, number: u16)
     requires { length out.old + 2 ≤ 28 }
@@ -44,7 +44,7 @@ pub(crate) fn put_u16(out: &mut Short, number: u16)
     out.put(&bytes);
 }
 
-/// Puts the four bytes of a number at the end.
+/// Appends the four bytes of a number.
 #[tactic(auto, unfolding(packets::specs::Numbers::number_bytes))]
 pub(crate) fn put_u32(out: &mut Short, number: u32)
     requires { length out.old + 4 ≤ 28 }
@@ -56,7 +56,7 @@ pub(crate) fn put_u32(out: &mut Short, number: u32)
     out.put(&bytes);
 }
 
-/// Puts the eight bytes of a number at the end.
+/// Appends the eight bytes of a number.
 #[tactic(auto, unfolding(packets::specs::Numbers::number_bytes))]
 pub(crate) fn put_u64(out: &mut Short, number: u64)
     requires { length out.old + 8 ≤ 28 }

@@ -60,7 +60,7 @@ pub(crate) struct OptionReply {
     pub(crate) next: Next,
 }
 
-/// The 18 bytes that a server sends first (NBD protocol, "Fixed newstyle negotiation").
+/// Returns the 18 bytes that a server sends first (NBD protocol, "Fixed newstyle negotiation").
 #[tactic(auto, unfolding(crate::specs::Options::greeting))]
 pub fn greeting() -> Short
     ensures { result ≡ greeting }
@@ -72,8 +72,7 @@ pub fn greeting() -> Short
     out
 }
 
-/// The reply to an option with these data (NBD protocol, "Option types"). `NoMemory` (7) is the only
-/// refusal.
+/// Returns the reply to an option with these data (NBD protocol, "Option types"). `NoMemory` (7) is the only refusal.
 #[tactic(auto, unfolding(crate::specs::Options::option_replied))]
 pub(crate) fn reply_to_option(
     alloc: Global,
@@ -97,7 +96,7 @@ pub(crate) fn reply_to_option(
     }
 }
 
-/// A reply of this type and no data; the handshake continues.
+/// Returns a reply of this type without data; the handshake continues.
 pub(crate) fn refuse(alloc: Global, option: u32, kind: u32) -> Result<OptionReply, Refusal>
     ensures { IsReplied result (replies option kind) }
 {
@@ -107,7 +106,7 @@ pub(crate) fn refuse(alloc: Global, option: u32, kind: u32) -> Result<OptionRepl
     })
 }
 
-/// The bytes of a reply without data.
+/// Returns the bytes of a reply without data.
 fn replied(alloc: Global, option: u32, kind: u32) -> Result<Vec<u8>, AllocError>
     ensures { IfOk result (λ sent. sent.items ≡ option_reply option kind []) }
 {
@@ -142,7 +141,8 @@ fn put_size_and_flags(out: &mut Short, export: &Export)
     put_u16(out, 333);
 }
 
-/// EXPORT_NAME: the export's size; for another name the connection closes, since the option has no error reply.
+/// Replies to EXPORT_NAME with the export's size; for another name the connection closes, since the option has no error
+/// reply.
 fn export_name(
     alloc: Global,
     export: &Export,
@@ -170,14 +170,14 @@ fn export_name(
     })
 }
 
-/// Whether a name is the export's. The empty name is the default export, which is this one.
+/// Returns whether a name is the export's. The empty name is the default export, which is this one.
 fn is_named(export: &Export, name: &[u8]) -> bool
     ensures { result ≡ is_named export.now name.now }
 {
     name.is_empty() || name == export.name().as_bytes()
 }
 
-/// LIST: the export's name.
+/// Replies to LIST with the export's name.
 fn list(alloc: Global, export: &Export, bytes: &[u8]) -> Result<OptionReply, Refusal>
     ensures { IsReplied result (listed export.now bytes.now) }
 {
@@ -199,7 +199,7 @@ fn list(alloc: Global, export: &Export, bytes: &[u8]) -> Result<OptionReply, Ref
     })
 }
 
-/// INFO or GO: the export's size and its block sizes, whether or not the client asked for them.
+/// Replies to INFO or GO with the export's size and its block sizes, whether or not the client asked for them.
 fn inform(
     alloc: Global,
     export: &Export,
@@ -219,7 +219,7 @@ fn inform(
     }
 }
 
-/// The name in the data of INFO or GO, if the data are well formed.
+/// Returns the name in the data of INFO or GO, if the data are well formed.
 #[tactic(auto, unfolding(crate::specs::Options::asked_name))]
 fn asked_name(bytes: &[u8]) -> Option<&[u8]>
     ensures { option_copied result ≡ asked_name bytes.now }
@@ -238,7 +238,7 @@ fn asked_name(bytes: &[u8]) -> Option<&[u8]>
     Some(&bytes[4..4 + name_length])
 }
 
-/// The replies with the export's size and its block sizes.
+/// Returns the replies with the export's size and its block sizes.
 fn informed(alloc: Global, export: &Export, option: u32) -> Result<Vec<u8>, AllocError>
     ensures { IfOk result (λ sent. sent.items ≡ (informed export.now option Next.Negotiate).sent) }
 {
@@ -252,8 +252,8 @@ fn informed(alloc: Global, export: &Export, option: u32) -> Result<Vec<u8>, Allo
     Ok(sent)
 }
 
-/// The least, preferred and most bytes of a request. A client that sends more at once is served too, up to
-/// 32 MiB.
+/// Returns the least, preferred and most bytes of a request. A client that sends more at once is served too, up to 32
+/// MiB.
 #[tactic(auto, unfolding(crate::specs::Options::info_block_size))]
 fn block_sizes() -> Short
     ensures { result ≡ info_block_size }

@@ -20,7 +20,7 @@ pub struct Output {
 }
 
 impl Output {
-    /// An empty output. It takes no memory yet.
+    /// Creates an empty output. Takes no memory yet.
     pub fn new(alloc: Global) -> Output
         ensures bytes { result.bytes.items ≡ [] }
         ensures requests { result.requests.items ≡ [] }

@@ -65,7 +65,7 @@ pub(crate) enum Phase {
 }
 
 impl Part {
-    /// Bytes of the part.
+    /// Returns the length of the part in bytes.
     pub(crate) fn wanted(&self) -> usize
         ensures { result ≡ wanted self.now }
     {

@@ -25,7 +25,7 @@ impl Model for Ranges {
 }
 
 impl Ranges {
-    /// The ranges of `block_count` blocks from `first_block` on.
+    /// Returns the ranges of `block_count` blocks from `first_block` on.
     pub(crate) fn over(first_block: u64, block_count: u32) -> Ranges
         requires { first_block + block_count < 2 ^ 64 }
         ensures { result ≡ pieces first_block block_count }

@@ -23,7 +23,7 @@ pub struct Reply {
 }
 
 impl Reply {
-    /// The 16 bytes that spell the reply.
+    /// Returns the 16 bytes that spell the reply.
     #[tactic(auto, unfolding(crate::specs::Replies::reply_spelling))]
     pub fn encode(&self) -> Short
         ensures { SpellsReply self.now result }
@@ -35,15 +35,15 @@ impl Reply {
         out
     }
 
-    /// The reply that 16 bytes spell. `BadMagic` (20) comes if they do not begin with the magic number, and
+    /// Returns the reply that 16 bytes spell. `BadMagic` (20) comes if they do not begin with the magic number, and
     /// then `BadField` (23) if no error has their error number.
     pub fn decode(bytes: &[u8]) -> Result<Reply, Refusal>
         requires { length bytes.now ≡ 16 }
-        // What is read is spelled so.
+        // The bytes spell the reply that is returned.
         ensures found { IfOk result (λ r. SpellsReply r bytes.now) }
-        // What is spelled so is read.
+        // A reply that the bytes spell is returned.
         ensures only { (r : Reply) → SpellsReply r bytes.now → result ≡ Ok r }
-        // A refusal is the first fault.
+        // A refusal names the first fault.
         ensures fault { IfErr result (λ e. IsReplyFault bytes.now e) }
         ensures is { result ≡ reply_at bytes.now }
     {

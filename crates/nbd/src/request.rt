@@ -26,7 +26,7 @@ pub struct Request {
 }
 
 impl Request {
-    /// The request of a header and its payload.
+    /// Creates the request of a header and its payload.
     pub(crate) fn with(command: Command, header: &RequestHeader, payload: Bytes) -> Request
         ensures { result ≡ request_of command header.now payload }
     {
@@ -40,7 +40,7 @@ impl Request {
         }
     }
 
-    /// Its blocks in ranges that the device takes at once, in their order.
+    /// Returns its blocks in ranges that the device takes at once, in their order.
     pub fn ranges(&self) -> Ranges
         requires { self.now.first_block + self.now.block_count < 2 ^ 64 }
         ensures { result ≡ pieces self.now.first_block self.now.block_count }
@@ -48,7 +48,7 @@ impl Request {
         Ranges::over(self.first_block, self.block_count)
     }
 
-    /// The header of its reply. If a READ succeeded, its data follow.
+    /// Returns the header of its reply. If a READ succeeded, its data follow.
     pub fn reply(self, error: Option<Errno>) -> Reply
         ensures cookie { result.cookie ≡ self.cookie }
         ensures error { result.error ≡ error }

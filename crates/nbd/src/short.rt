@@ -1,9 +1,9 @@
-//! A few bytes that stand inline.
+//! Short byte strings, stored inline.
 ghost use Rattle.std.specs.Prelude.{◌≡◌, ◌+◌, ◌≤◌, [], ◌++◌, length};
 
 use std::marker::Model;
 
-/// The most bytes that stand inline: those of a request's header, the longest fixed part of a message.
+/// The most bytes that are stored inline: those of a request's header, the longest fixed part of a message.
 const SHORT_BYTES: usize = 28;
 
 /// The fixed part of a message, at most 28 bytes. It takes no memory.
@@ -24,7 +24,7 @@ impl Model for Short {
 }
 
 impl Short {
-    /// No bytes.
+    /// Creates an empty string.
     pub(crate) fn new() -> Short
         ensures { result ≡ [] }
     {
@@ -34,7 +34,7 @@ impl Short {
         }
     }
 
-    /// Puts bytes at the end.
+    /// Appends bytes.
     pub(crate) fn put(&mut self, bytes: &[u8])
         requires { length self.old + length bytes.now ≤ 28 }
         ensures { self.new ≡ self.old ++ bytes.now }
@@ -44,7 +44,7 @@ impl Short {
         self.len = end;
     }
 
-    /// The bytes.
+    /// Returns the bytes.
     pub fn as_slice(&self) -> &[u8]
         ensures value { result.now ≡ self.now }
         ensures few { length self.now ≤ 28 }

@@ -55,8 +55,8 @@ impl Step {
     }
 }
 
-/// The step of a part, all of whose bytes are held. A payload is moved out of `held` and not copied.
-/// `NoMemory` (7) is the only refusal.
+/// Returns the step of a part whose bytes are all held. A payload is moved out of `held` and not copied. `NoMemory` (7)
+/// is the only refusal.
 #[tactic(auto, unfolding(crate::specs::Steps::step))]
 pub(crate) fn take_part(
     alloc: Global,
@@ -89,7 +89,7 @@ pub(crate) fn take_part(
     }
 }
 
-/// The step of a refusal, once its bytes are skipped. `NoMemory` (7) is the only refusal.
+/// Returns the step of a refusal, once its bytes are skipped. `NoMemory` (7) is the only refusal.
 #[tactic(auto, unfolding(crate::specs::Steps::skipped))]
 pub(crate) fn end_skip(alloc: Global, refused: Refused) -> Result<Step, Refusal>
     ensures made { IfOk result (λ s. view s ≡ skipped refused) }
@@ -104,7 +104,7 @@ pub(crate) fn end_skip(alloc: Global, refused: Refused) -> Result<Step, Refusal>
     }
 }
 
-/// The step of the client's flags: fixed newstyle (1) and no zeros (2); any other closes the connection (NBD
+/// Returns the step of the client's flags: fixed newstyle (1) and no zeros (2); any other closes the connection (NBD
 /// protocol, "Client flags").
 fn after_flags(flags: u32) -> Step
     ensures { view result ≡ after_flags flags }
@@ -118,7 +118,7 @@ fn after_flags(flags: u32) -> Step
     }
 }
 
-/// The step of an option's header.
+/// Returns the step of an option's header.
 fn after_option(
     alloc: Global,
     export: &Export,
@@ -155,7 +155,7 @@ fn after_option(
     }))
 }
 
-/// The step of a reply to an option.
+/// Returns the step of a reply to an option.
 fn after_reply(no_zeroes: bool, answer: OptionReply) -> Step
     ensures { view result ≡ after_reply no_zeroes (record { sent = answer.sent.items; next = answer.next }) }
 {
@@ -170,7 +170,7 @@ fn after_reply(no_zeroes: bool, answer: OptionReply) -> Step
     }
 }
 
-/// The step of a request's header. A client that sends anything else is out of step: the connection closes.
+/// Returns the step of a request's header. A client that sends anything else is out of step: the connection closes.
 fn after_header(export: &Export, header: Result<RequestHeader, Refusal>) -> Step
     ensures { view result ≡ after_header export.now header }
 {
@@ -180,7 +180,7 @@ fn after_header(export: &Export, header: Result<RequestHeader, Refusal>) -> Step
     }
 }
 
-/// The step of a request that was judged.
+/// Returns the step of a request that was judged.
 fn begin(header: &RequestHeader, judged: Result<Command, Errno>) -> Step
     ensures { view result ≡ begins header.now judged }
 {
@@ -192,7 +192,7 @@ fn begin(header: &RequestHeader, judged: Result<Command, Errno>) -> Step
     }
 }
 
-/// The step of a refused request. Only a WRITE has a payload; it is skipped before the reply.
+/// Returns the step of a refused request. Only a WRITE has a payload; it is skipped before the reply.
 fn refuse_request(header: &RequestHeader, errno: Errno) -> Step
     ensures { view result ≡ refuses header.now errno }
 {
@@ -208,7 +208,7 @@ fn refuse_request(header: &RequestHeader, errno: Errno) -> Step
     })
 }
 
-/// The step that sends an error reply.
+/// Returns the step that sends an error reply.
 fn fail(cookie: u64, errno: Errno) -> Step
     ensures { view result ≡ sends (phase.Gather part.Request) (reply_spelling (failure cookie errno)) }
 {
@@ -221,7 +221,7 @@ fn fail(cookie: u64, errno: Errno) -> Step
     }
 }
 
-/// The step that gives a request to the caller.
+/// Returns the step that gives a request to the caller.
 fn give(command: Command, header: &RequestHeader, payload: Bytes) -> Step
     ensures { view result ≡ gives command header.now payload }
 {

@@ -1,4 +1,4 @@
-//! Whole sessions, with bytes written out by hand from the protocol document.
+//! Tests of whole sessions, with bytes written out by hand from the protocol document.
 use nbd::{Command, Connection, Errno, Export, Output, Reply, Request, RequestHeader, greeting};
 use std::alloc::{AllocError, Global};
 use std::process::Abort;
@@ -12,7 +12,7 @@ const GO: [u8; 28] = [
     b'i', b's', b'k', 0, 1, 0, 3,
 ];
 
-/// What GO is answered for a device of 16 blocks: NBD_INFO_EXPORT, NBD_INFO_BLOCK_SIZE and NBD_REP_ACK.
+/// The answer to GO for a device of 16 blocks: NBD_INFO_EXPORT, NBD_INFO_BLOCK_SIZE and NBD_REP_ACK.
 const GO_ANSWER: [u8; 86] = [
     0x00, 0x03, 0xE8, 0x89, 0x04, 0x55, 0x65, 0xA9, 0, 0, 0, 7, 0, 0, 0, 3, 0, 0, 0, 12, 0, 0, 0,
     0, 0, 0, 0, 1, 0, 0, 0x01, 0x4D, 0x00, 0x03, 0xE8, 0x89, 0x04, 0x55, 0x65, 0xA9, 0, 0, 0, 7, 0,
@@ -37,18 +37,18 @@ const DISCONNECT: [u8; 28] = [
     0x25, 0x60, 0x95, 0x13, 0, 0, 0, 2, 0, 0, 0, 0, 0, 0, 0, 10, 0, 0, 0, 0, 0, 0, 0, 0, 0, 0, 0, 0,
 ];
 
-/// A connection for an export `disk` of 16 blocks.
+/// Makes a connection for an export `disk` of 16 blocks.
 fn connected(rt: &impl Abort, alloc: Global) -> Connection {
     let name = String::from_str(alloc, "disk").expect(rt, "memory");
     Connection::new(alloc, Export::new(name, 16))
 }
 
-/// Feeds bytes, which the connection takes.
+/// Feeds bytes to the connection.
 fn feed(rt: &impl Abort, connection: &mut Connection, bytes: &[u8], out: &mut Output) {
     connection.feed(bytes, out).expect(rt, "memory");
 }
 
-/// A connection that takes requests.
+/// Makes a connection that takes requests.
 fn transmitting(rt: &impl Abort, alloc: Global) -> Connection {
     let mut connection = connected(rt, alloc);
     let mut out = Output::new(alloc);
@@ -57,7 +57,7 @@ fn transmitting(rt: &impl Abort, alloc: Global) -> Connection {
     connection
 }
 
-/// The client is sent these bytes.
+/// Checks that the client is sent these bytes.
 fn is_sent(rt: &impl Abort, out: &Output, bytes: &[u8]) {
     assert_eq!(rt; out.bytes.as_slice(), bytes);
 }
@@ -85,7 +85,7 @@ fn answers_go(rt: HostRuntime) {
     assert!(rt; !connection.is_closed());
 }
 
-/// The request is the WRITE, with its payload, and is answered under its cookie.
+/// Checks that the request is the WRITE, with its payload, and is answered under its cookie.
 fn is_the_write(rt: &impl Abort, request: Request) {
     assert!(rt; request.command == Command::Write && request.fua);
     assert_eq!(rt; (request.first_block, request.block_count), (1, 1));
@@ -110,7 +110,7 @@ fn gives_a_write(rt: HostRuntime) {
     is_the_write(&rt, out.requests.pop().expect(&rt, "a request"));
 }
 
-/// A whole session: a write, a read that is refused, and the end.
+/// Makes a whole session: a write, a read that is refused, and the end.
 fn whole_session(alloc: Global) -> Result<Vec<u8>, AllocError> {
     let mut stream = Vec::new(alloc);
     for part in [
@@ -126,7 +126,7 @@ fn whole_session(alloc: Global) -> Result<Vec<u8>, AllocError> {
     Ok(stream)
 }
 
-/// What a connection puts out that is fed a stream in pieces of this size, and closes with the last of them.
+/// Feeds a stream to a connection in pieces of this size, and checks that the last piece closes it. Returns its output.
 fn fed_in_pieces(rt: &impl Abort, alloc: Global, stream: &[u8], size: usize) -> Output {
     let mut connection = connected(rt, alloc);
     let mut out = Output::new(alloc);
@@ -153,7 +153,7 @@ fn takes_byte_after_byte(rt: HostRuntime) {
     );
 }
 
-/// The connection closes at these bytes, and puts out nothing, not at a GO after them either.
+/// Checks that the connection closes at these bytes, and then puts out nothing, even after a GO.
 fn closes_at(rt: &impl Abort, alloc: Global, connection: &mut Connection, garbage: &[u8]) {
     let mut out = Output::new(alloc);
     feed(rt, connection, garbage, &mut out);
@@ -171,7 +171,7 @@ fn closes_at_garbage(rt: HostRuntime) {
     closes_at(&rt, rt.alloc(), &mut request, &[0x67; 100]);
 }
 
-/// Feeds zeros, in pieces of 64 KiB, at which nothing is sent, and then one more.
+/// Feeds zeros, in pieces of 64 KiB, at which nothing is sent, and then another zero.
 fn feed_zeros(rt: &impl Abort, connection: &mut Connection, count: u64, out: &mut Output) {
     let zeros = [0; 65536];
     for _ in 0..count / 65536 {
@@ -199,7 +199,7 @@ fn skips_a_long_option(rt: HostRuntime) {
     assert!(rt; !connection.is_closed());
 }
 
-/// The client is sent a reply, with a cookie and an error, and nothing more.
+/// Checks that the client is sent one reply, with this cookie and this error.
 fn is_answered(rt: &impl Abort, out: &Output, cookie: u64, error: Errno) {
     assert_eq!(rt; out.bytes.len(), 16);
     let reply = Reply::decode(out.bytes.as_slice()).expect(rt, "a reply");
@@ -224,7 +224,7 @@ fn skips_a_long_write(rt: HostRuntime) {
     is_answered(&rt, &out, 11, Errno::Overflow);
 }
 
-/// What EXPORT_NAME with an empty name is answered by a client with these flags.
+/// Returns what the server answers to EXPORT_NAME with an empty name, if the client has these flags.
 fn export_name(rt: &impl Abort, alloc: Global, flags: u8) -> Output {
     let mut connection = connected(rt, alloc);
     let mut out = Output::new(alloc);

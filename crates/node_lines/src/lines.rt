@@ -90,7 +90,7 @@ impl fmt::Display for Usage {
     }
 }
 
-// The letter of a replication protocol.
+// Returns the letter of a replication protocol.
 fn protocol_word(protocol: Protocol) -> &'static str
     ensures { result.now ≡ protocol_text protocol }
 {
@@ -101,7 +101,7 @@ fn protocol_word(protocol: Protocol) -> &'static str
     }
 }
 
-// Whether the data may be used.
+// Returns the word for whether the data may be used.
 fn usable_word(usable: bool) -> &'static str
     ensures { result.now ≡ usable_text usable }
 {

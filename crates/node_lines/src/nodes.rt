@@ -25,7 +25,7 @@ use std::alloc::Global;
 /// KiB in a block.
 const BLOCK_KIB: u64 = 4;
 
-/// The primary's status line, without a newline. `NoMemory` (7) if there is no room for it.
+/// Returns the primary's status line, without a newline. `NoMemory` (7) if there is no room for it.
 pub fn primary_line<O: FrameOut + Drop, I: FrameIn + Drop, S: Store + Drop>(
     alloc: Global,
     primary: &Primary<O, I, S>,
@@ -37,7 +37,7 @@ pub fn primary_line<O: FrameOut + Drop, I: FrameIn + Drop, S: Store + Drop>(
     Ok(format!(in alloc; "{line}")?)
 }
 
-/// The secondary's status line, without a newline. `NoMemory` (7) if there is no room for it.
+/// Returns the secondary's status line, without a newline. `NoMemory` (7) if there is no room for it.
 pub fn secondary_line<O: FrameOut + Drop, I: FrameIn + Drop, S: Store + Drop>(
     alloc: Global,
     secondary: &Secondary<O, I, S>,
@@ -49,7 +49,7 @@ pub fn secondary_line<O: FrameOut + Drop, I: FrameIn + Drop, S: Store + Drop>(
     Ok(format!(in alloc; "{line}")?)
 }
 
-// What the primary's line says.
+// Returns what the primary's line shows.
 fn primary_state<O: FrameOut + Drop, I: FrameIn + Drop, S: Store + Drop>(
     primary: &Primary<O, I, S>,
 ) -> PrimaryLine
@@ -69,7 +69,7 @@ fn primary_state<O: FrameOut + Drop, I: FrameIn + Drop, S: Store + Drop>(
     }
 }
 
-// What the secondary's line says.
+// Returns what the secondary's line shows.
 fn secondary_state<O: FrameOut + Drop, I: FrameIn + Drop, S: Store + Drop>(
     secondary: &Secondary<O, I, S>,
 ) -> SecondaryLine
@@ -89,7 +89,7 @@ fn secondary_state<O: FrameOut + Drop, I: FrameIn + Drop, S: Store + Drop>(
     }
 }
 
-// The primary's words: whether its end is open, its stream has begun, and a resync goes on.
+// Returns the primary's words, by whether its end is open, its connection is established, and a resync runs.
 fn primary_words(is_open: bool, is_established: bool, is_resync: bool) -> Words
     ensures { words_of result ≡ primary_words_by is_open is_established is_resync }
 {
@@ -119,7 +119,7 @@ fn primary_words(is_open: bool, is_established: bool, is_resync: bool) -> Words
     }
 }
 
-// The secondary's words: whether its end is open, its hello is done, and its data are consistent.
+// Returns the secondary's words, by whether its end is open, its hello is done, and its data are consistent.
 fn secondary_words(is_open: bool, is_hello_done: bool, consistent: bool) -> Words
     ensures { words_of result ≡ secondary_words_by is_open is_hello_done consistent }
 {

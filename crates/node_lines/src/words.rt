@@ -11,13 +11,13 @@ use std::fmt;
 pub(crate) enum LinkState {
     /// The end is closed.
     StandAlone,
-    /// It is open, and its hello goes on.
+    /// The end is open, and its hello is not done.
     WFReportParams,
     /// The hello is done.
     Connected,
-    /// A resync goes on, from here.
+    /// A resync runs, from this node.
     SyncSource,
-    /// A resync goes on, to here.
+    /// A resync runs, to this node.
     SyncTarget,
 }
 

@@ -1,4 +1,4 @@
-//! The nodes' cores: worked rows, and frames that a peer does not send.
+//! Tests of the nodes' cores: worked rows, and frames that a peer does not send.
 
 mod cases;
 mod primary_calls;

@@ -1,5 +1,5 @@
-//! Both nodes, over a link whose other end a test has: frames that no peer sends, each as its bytes, and the receipt
-//! of a write that failed.
+//! Tests of both nodes over a link whose other end a test has: frames that no peer sends, each as its bytes, and the
+//! receipt of a failed write.
 
 mod answers;
 mod cases;

@@ -1,4 +1,4 @@
-//! A pair by its events: worked examples in which a request for memory is refused, and in which a disk fails a call.
+//! Tests of a pair by its events: worked examples in which memory is refused, and in which a disk fails a call.
 
 mod disks;
 mod events;

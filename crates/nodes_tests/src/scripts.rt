@@ -1,4 +1,4 @@
-//! The script language: scripts that loops make, bytes that are no text, and streams that fail or count.
+//! Tests of the script language: scripts that loops make, bytes that are not text, and streams that fail or count.
 
 mod decisions;
 mod faults;

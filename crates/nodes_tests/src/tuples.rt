@@ -1,7 +1,7 @@
 //! Generation identifiers of the worked rows.
 use blocks::Tuple;
 
-/// What every disk begins with, where a row names nothing else.
+/// What every disk begins with, if a row names nothing else.
 pub(crate) const OWN: Tuple = Tuple {
     current: 1,
     bitmap: 0,
@@ -9,7 +9,7 @@ pub(crate) const OWN: Tuple = Tuple {
     second_historical: 0,
 };
 
-/// What a primary has once its first connection is lost, whose words are 5 and 7.
+/// What a primary has after its first connection is lost, whose words are 5 and 7.
 pub(crate) const PARTED: Tuple = Tuple {
     current: 7,
     bitmap: 1,

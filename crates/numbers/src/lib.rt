@@ -1,4 +1,4 @@
-//! The numbers of a script: decimal ones, bytes in hexadecimal, and the statuses with which the programs end.
+//! The numbers of a script: decimal ones, bytes in hexadecimal, and the exit statuses of the programs.
 #![tactic(auto)]
 
 mod number;

@@ -2,8 +2,8 @@
 ghost use Rattle.std.specs.Prelude.{◌≡◌, ◌<◌, ◌^◌, ℕ, IfSome, IfNone};
 ghost use Rattle.numbers.specs.Numbers.{decimal_digit, hexadecimal_digit, hexadecimal_byte, IsDecimal};
 
-/// The number that decimal digits spell, without a sign, up to 18,446,744,073,709,551,615; none where they are not
-/// digits, or too many. Zeros may stand before it. This project's rule.
+/// Returns the number that decimal digits spell, without a sign, up to 18,446,744,073,709,551,615; none if the word
+/// is empty, has another character, or spells a larger number. It may begin with zeros. This project's rule.
 pub fn decimal(word: &str) -> Option<u64>
     ensures value { IfSome result (IsDecimal word.now) }
     ensures none { IfNone result ((n : ℕ) → n < 2 ^ 64 → IsDecimal word.now n → ⊥) }
@@ -16,7 +16,7 @@ pub fn decimal(word: &str) -> Option<u64>
     if word.is_empty() { None } else { Some(value) }
 }
 
-/// The byte that two hexadecimal digits of either case spell; none for any other word. This project's rule.
+/// Returns the byte that two hexadecimal digits of either case spell; none for any other word. This project's rule.
 pub fn byte(word: &str) -> Option<u8>
     ensures { result ≡ hexadecimal_byte word.now }
 {

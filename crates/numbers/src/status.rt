@@ -1,22 +1,23 @@
-//! How a run of a script ends, and how a session does.
+//! The ends of a script's run and of a session.
 ghost use Rattle.std.specs.Prelude.{◌≡◌};
 ghost use Rattle.numbers.specs.Statuses.{code_of, session_code_of, status_of};
 
 use blocks::Refusal;
 
-/// How a run of a script ends, or the reading of the program's words, which the exit status tells (this project's rule).
+/// The end of a script's run, or of reading the program's arguments, which the exit status reports (this project's
+/// rule).
 #[derive(Clone, Copy)]
 pub enum Status {
     /// It did all that it was to do, though some of it may have been refused.
     Done,
     /// A file or memory failed, or the script is not UTF-8.
     Failed,
-    /// The words were wrong, or a line stopped the script.
+    /// The arguments were wrong, or a line stopped the script.
     Misused,
 }
 
 impl Status {
-    /// The exit status: 0, 1 or 2.
+    /// Returns the exit status: 0, 1 or 2.
     pub fn code(&self) -> u8
         ensures { result ≡ code_of self.now }
     {
@@ -28,7 +29,7 @@ impl Status {
     }
 }
 
-/// How a session ends, or one after another, which the exit status tells (this project's rule).
+/// The end of a session, or of one after another, which the exit status reports (this project's rule).
 #[derive(Clone, Copy)]
 pub enum SessionStatus {
     /// It did all that it was to do.
@@ -40,7 +41,7 @@ pub enum SessionStatus {
 }
 
 impl SessionStatus {
-    /// How a session ends that this refusal ended: `Failed` for want of memory (7), else `Refused`.
+    /// Returns the end of a session that this refusal ended: `Failed` if memory ran out (7), else `Refused`.
     pub fn of(refusal: Refusal) -> SessionStatus
         ensures { result ≡ status_of refusal }
     {
@@ -50,7 +51,7 @@ impl SessionStatus {
         }
     }
 
-    /// The exit status: 0, 1 or 3.
+    /// Returns the exit status: 0, 1 or 3.
     pub fn code(&self) -> u8
         ensures { result ≡ session_code_of self.now }
     {

@@ -1,4 +1,4 @@
-//! Orders to the program, in plain values: a run of a session, with the plan of its writes, or a server.
+//! The program's options in plain values: for a run of a session, with the plan of its writes, or for a server.
 #![tactic(auto)]
 
 mod plan;

@@ -6,7 +6,7 @@ use crate::RunOptions;
 use blocks::Settings;
 
 impl RunOptions {
-    /// The settings of both nodes.
+    /// Returns the settings of both nodes.
     pub fn settings(&self) -> Settings
         ensures { result ≡ record standard { protocol = self.now.protocol; blocks = self.now.blocks } }
     {
@@ -17,14 +17,14 @@ impl RunOptions {
         }
     }
 
-    /// How many writes all writers make.
+    /// Returns how many writes all writers make.
     pub fn all_writes(&self) -> u64
         ensures { result ≡ self.now.writers * self.now.writes }
     {
         u64::from(self.writers) * u64::from(self.writes)
     }
 
-    /// The block that a writer writes in a turn, both counted from 0.
+    /// Returns the block that a writer writes in a turn, both counted from 0.
     pub fn block(&self, writer: u32, turn: u32) -> u64
         requires { 0 < self.now.blocks }
         ensures { result ≡ (writer * self.now.writes + turn) % self.now.blocks }
@@ -34,14 +34,14 @@ impl RunOptions {
     }
 }
 
-/// The byte that fills the block which a writer writes in a turn, both counted from 0.
+/// Returns the byte that fills the block which a writer writes in a turn, both counted from 0.
 pub fn byte_of_turn(writer: u32, turn: u32) -> u8
     ensures { result ≡ (writer + turn + 1) % 256 }
 {
     ((u64::from(writer) + u64::from(turn) + 1) % 256) as u8
 }
 
-/// The words of a reconnect, the first round being 1: the identifiers of its resync and of its loss.
+/// Returns the words of a reconnect, the first round being 1: the identifiers of its resync and of its loss.
 pub fn reconnect_words(round: u32) -> (u64, u64)
     ensures { result ≡ (2 * round + 2, 2 * round + 3) }
 {

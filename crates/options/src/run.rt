@@ -1,7 +1,7 @@
-//! The order for a run of a session.
+//! The options of a session's run.
 use blocks::Protocol;
 
-/// What a run is to do.
+/// The options of a run.
 #[derive(Clone, Copy, Debug, PartialEq, Eq)]
 pub struct RunOptions {
     /// When a write counts as completed.
@@ -14,13 +14,13 @@ pub struct RunOptions {
     pub writes: u32,
     /// How often the link is cut and reconnected, 0 to 100. Sockets are not reconnected: 0 over them.
     pub cuts: u32,
-    /// How frames go from one node to the other.
+    /// The path of the frames from one node to the other.
     pub path: Path,
-    /// What is told while the run goes on.
+    /// The output while the run goes on.
     pub telling: Telling,
 }
 
-/// How the frames of a run go from one node to the other.
+/// The path of a run's frames from one node to the other.
 #[derive(Clone, Copy, Debug, PartialEq, Eq)]
 pub enum Path {
     /// Through a link in this process.
@@ -29,12 +29,12 @@ pub enum Path {
     Sockets,
 }
 
-/// What a run tells on standard error while it goes on.
+/// The output of a run on standard error while it goes on.
 #[derive(Clone, Copy, Debug, PartialEq, Eq)]
 pub struct Telling {
     /// The status lines of both nodes, once a second and at the end.
     pub status: bool,
-    /// How many writes are completed, once a second, in one line that is written over: for a terminal.
+    /// How many writes are completed, once a second, in one line that is overwritten: for a terminal.
     pub progress: bool,
 }
 

@@ -1,4 +1,4 @@
-//! The ranges of the writes that are not completed.
+//! The intervals of the writes that are not completed.
 ghost use Rattle.std.specs.Prelude.{◌≡◌, ◌↔◌, [], false, All, None, IfSome, IfErr, OnOk, OnErr};
 ghost use Rattle.overlap.specs.Holdings.{conflict, holding, holding_too, is_held, lower_of, meets, without, IsLowestConflict};
 ghost use Rattle.overlap.specs.Maps.{AreApart, lowest_of, lowest_with};
@@ -10,26 +10,26 @@ use std::collections::BTreeMap;
 use std::collections::btree_map::Range as Entries;
 use std::marker::Model;
 
-/// The blocks that one number holds.
+/// The interval of a number.
 #[derive(Clone, Copy)]
 struct Span {
     first: u64,
     count: u64,
 }
 
-/// What is held from a block on, and by which number.
+/// The number, and the length, of the interval that begins at a block.
 #[derive(Clone, Copy)]
 struct Holder {
     number: u64,
     count: u64,
 }
 
-/// The ranges that are held, each by a number of its own, and no two with a block in common (DRBD's
-/// overlap check). A number above 0 is a write's; 0 stands for the block that a resync has under way.
+/// Intervals of blocks, each with a number of its own, and no two with a block in common (DRBD's overlap check). A
+/// number above 0 is a write's; 0 is that of the block that a resync has under way.
 ///
-/// Proofs see the holdings as a list by rising number. `hold` and `release` take time logarithmic in the
-/// number of holdings, and so does `conflict`, which then looks at each holding that begins in the range and
-/// at the last one before it; `clear` takes time linear in it.
+/// Proofs see the intervals as a list by rising number. `hold` and `release` take time logarithmic in the number of
+/// intervals. So does `conflict`, which then looks at each interval that begins in the range and at the last one
+/// before it. `clear` takes time linear in the number of intervals.
 #[derive(Drop)]
 pub struct Held {
     by_number: BTreeMap<u64, Span>,
@@ -50,7 +50,7 @@ impl Model for Held {
 }
 
 impl Held {
-    /// Nothing is held. It takes no memory.
+    /// Returns a set without intervals. It takes no memory.
     pub fn new(alloc: Global) -> Held
         ensures { result ≡ [] }
     {
@@ -60,7 +60,7 @@ impl Held {
         }
     }
 
-    /// The lowest number that holds a block of the range, if there is one.
+    /// Returns the lowest number whose interval overlaps the range, if there is one.
     pub fn conflict(&self, range: Range) -> Option<u64>
         ensures answer { result ≡ conflict range.first.0 range.count self.now }
         // for callers that do not see the order
@@ -71,8 +71,8 @@ impl Held {
         lowest_holder(self.by_first.range(..=last), range.first.0)
     }
 
-    /// Whether the number holds a range. For a number above all that do, as a new write's is, nothing is
-    /// searched for.
+    /// Returns whether the number has an interval. For a number above all that have one, like a new write's, it makes
+    /// no search.
     pub fn is_held(&self, number: u64) -> bool
         ensures { result ≡ is_held number self.now }
     {
@@ -82,9 +82,9 @@ impl Held {
         number <= *highest && self.by_number.contains_key(&number)
     }
 
-    /// The number holds the range from now on. The number holds nothing yet, and nobody holds a block of the range.
+    /// Inserts the interval of `number`. Requires that `number` has none and that no interval overlaps `range`.
     ///
-    /// `NoMemory` (7) comes where there is no memory; then nothing changes.
+    /// `NoMemory` (7) if there is no memory; then nothing changes.
     pub fn hold(&mut self, number: u64, range: Range) -> Result<(), Refusal>
         requires new { is_held number self.old ≡ false }
         requires apart { conflict range.first.0 range.count self.old ≡ None }
@@ -106,7 +106,7 @@ impl Held {
         Ok(())
     }
 
-    /// The number holds nothing from now on. It takes no memory.
+    /// Removes the interval of `number`, if it has one. It takes no memory.
     pub fn release(&mut self, number: u64)
         ensures { self.new ≡ without number self.old }
     {
@@ -115,7 +115,7 @@ impl Held {
         }
     }
 
-    /// Nothing is held any more. It takes no memory.
+    /// Removes all intervals. It takes no memory.
     pub fn clear(&mut self)
         ensures { self.new ≡ [] }
     {
@@ -124,8 +124,8 @@ impl Held {
     }
 }
 
-/// The lowest number of those holdings that have a block from `first` on. Of holdings that are apart, one
-/// that begins at or before this block ends all before it, so none of these is looked at.
+/// Returns the lowest number whose interval has a block from `first` on. Intervals do not overlap: those before one
+/// that begins at or before `first` end before it, so the search stops there.
 fn lowest_holder(mut holdings: Entries<'_, u64, Holder>, first: u64) -> Option<u64>
     requires { AreApart holdings }
     ensures { result ≡ lowest_of first holdings.entry }
@@ -140,7 +140,7 @@ fn lowest_holder(mut holdings: Entries<'_, u64, Holder>, first: u64) -> Option<u
     lowest
 }
 
-/// One holder more, which counts where it has a block from `first` on.
+/// Returns the lower of `lowest` and the holder's number, if its interval has a block from `first` on; else `lowest`.
 fn with_holder(lowest: Option<u64>, first: u64, start: u64, holder: &Holder) -> Option<u64>
     ensures { result ≡ lowest_with first lowest (start, holder.now) }
 {
@@ -150,7 +150,7 @@ fn with_holder(lowest: Option<u64>, first: u64, start: u64, holder: &Holder) -> 
     lowest
 }
 
-/// The lower of the two numbers; the first may be missing.
+/// Returns the lower of the two numbers; the first may be missing.
 fn lower(lowest: Option<u64>, number: u64) -> u64
     ensures { result ≡ lower_of lowest number }
 {

@@ -1,4 +1,4 @@
-//! Which blocks are held, and by which write.
+//! The intervals of open writes and of a resync's block, with their overlap check.
 #![tactic(auto)]
 
 mod held;

@@ -14,11 +14,11 @@ pub record IsHeaded (header : Header) (frame : List ℕ) : Type 0 where
   pub whole : length frame ≡ 8 + header.len
   pub bytes : (i : ℕ) → slice_index frame i < 256
 
--- whether a frame of this command is what a hello expects, where one goes on
+-- whether a frame of this command is what a hello expects; with no hello, each frame is
 abbrev pub is_awaited : Option Command → Command → Bool
 is_awaited None command = true
 is_awaited (Some expected) command = number_of command == number_of expected
 
--- what an acknowledgement names, if its fields are as they have to be
+-- what an acknowledgement names, if its fields are valid
 abbrev pub named : Bool → Acknowledgement → Result Acknowledgement Refusal
 named fields ack = if fields then Ok ack else Err BadField

@@ -1,4 +1,4 @@
--- The bytes of a frame, wherever they stand.
+-- The bytes of a frame, wherever they are stored.
 use Rattle.std.specs.Prelude.{ℕ, List}
 use Rattle.packets.specs.declared.frame.Held.{Held}
 use Rattle.packets.specs.declared.frame.Held.TheVariants.{Inline, Shared}

@@ -1,4 +1,4 @@
--- What stands in a header, and what a payload says.
+-- What a header has, and what a payload says.
 use Rattle.std.specs.Prelude.{ℕ, ◌/◌, ◌%◌, ◌==◌, Bool, ◌&&◌, nat_lt, if◌then◌else◌, List, drop, Option, Some, None, Result, Ok, Err}
 use Rattle.blocks.specs.declared.command.Command.{Command}
 use Rattle.blocks.specs.declared.command.Command.TheVariants as command
@@ -12,7 +12,7 @@ use Rattle.packets.specs.declared.packet.Packet.TheVariants as packet
 use Rattle.packets.specs.Numbers.{number_in}
 use Rattle.packets.specs.Table.{magic, command_at, is_length, is_blocks}
 
--- the row of a command, where there is one, and the length against it
+-- the header of a command with this length, if there is such a command and its payload may be so long
 abbrev pub row_at : Option Command → ℕ → Result Header Refusal
 row_at None len = Err BadCommand
 row_at (Some command) len = if is_length command len then Ok (record { command = command; len = len }) else Err BadLength
@@ -22,7 +22,7 @@ unfoldable pub header_at : List ℕ → Result Header Refusal
 header_at bytes =
     if number_in 2 0 bytes == magic then row_at (command_at (number_in 2 2 bytes)) (number_in 4 4 bytes) else Err BadMagic
 
--- a packet, if its fields are as they have to be
+-- a packet, if its fields are valid
 abbrev pub checked : Bool → Packet → Result Packet Refusal
 checked fields p = if fields then Ok p else Err BadField
 
@@ -67,11 +67,13 @@ acknowledgement_at bytes = record {
   place = number_in 4 20 bytes;
 }
 
--- it may name a write: the sector is a block's first, the number is not zero, and the size is of whole blocks
+-- the acknowledgement may name a write: the sector is a block's first, the number is not zero, and the size is of whole
+-- blocks
 unfoldable pub names_write : List ℕ → Bool
 names_write bytes = (number_in 8 0 bytes % 8 == 0) && nat_lt 0 (number_in 8 8 bytes) && is_blocks (number_in 4 16 bytes)
 
--- it may name a resync block: the sector is a block's first, the number is zero, and the size is of one block
+-- the acknowledgement may name a resync block: the sector is a block's first, the number is zero, and the size is of
+-- one block
 unfoldable pub names_resync : List ℕ → Bool
 names_resync bytes = (number_in 8 0 bytes % 8 == 0) && (number_in 8 8 bytes == 0) && (number_in 4 16 bytes == 4096)
 

@@ -1,7 +1,7 @@
--- The grammar: each packet and its one spelling. A frame is a header and a payload, whose fields stand one
--- after the other. The fields of DATA and RS_DATA_REPLY, of BARRIER, of RECV_ACK, WRITE_ACK and RS_WRITE_ACK and of
--- BARRIER_ACK are those of DRBD's `p_data`, `p_barrier`, `p_block_ack` and `p_barrier_ack` (`drbd_protocol.h`); those
--- of PROTOCOL, SIZES, UUIDS and SYNC_UUID are this project's. A sector has 512 bytes, so a block has 8 of them.
+-- The grammar: each packet and its one spelling. A frame is a header and a payload, whose fields follow one another.
+-- The fields of DATA and RS_DATA_REPLY, of BARRIER, of RECV_ACK, WRITE_ACK and RS_WRITE_ACK and of BARRIER_ACK are
+-- those of DRBD's `p_data`, `p_barrier`, `p_block_ack` and `p_barrier_ack` (`drbd_protocol.h`); those of PROTOCOL,
+-- SIZES, UUIDS and SYNC_UUID are this project's. A sector has 512 bytes, so a block has 8 of them.
 use Rattle.std.specs.Prelude.{ℕ, ◌≡◌, ◌*◌, ◌/◌, ◌<◌, ◌≤◌, ◌^◌, List, ◌++◌, length}
 use Rattle.blocks.specs.declared.settings.Protocol.{Protocol}
 use Rattle.blocks.specs.declared.settings.Protocol.TheVariants.{A, B, C}
@@ -51,8 +51,8 @@ NamesWrite ack = (8 * ack.first.0 < 2 ^ 64) × (0 < ack.number) × (0 < ack.coun
 abbrev pub NamesResync : Acknowledgement → Type 0
 NamesResync ack = (8 * ack.first.0 < 2 ^ 64) × (ack.number ≡ 0) × (ack.count ≡ 1)
 
--- which packets have a spelling: the first block has a sector number, a write's number is not 0, and there
--- are 1 to 32 whole blocks, or one where it is a resync block
+-- which packets have a spelling: the first block has a sector number, a write's number is not 0, and there are 1 to 32
+-- whole blocks, or one if it is a resync block
 abbrev pub IsSpellable : Packet → Type 0
 IsSpellable (packet.Data first number place contents) = (8 * first.0 < 2 ^ 64) × (0 < number) × (0 < length contents) × (length contents ≤ 131072)
     × (4096 * (length contents / 4096) ≡ length contents)

@@ -11,13 +11,13 @@ use Rattle.packets.specs.Spelling.{spelling}
 use Rattle.packets.specs.Reading.{header_at}
 use Rattle.packets.specs.Stream.{IsWritten, IsPart, IsFaultAt}
 
--- the header that bytes begin with, or its fault, or that its 8 bytes are not there
+-- the header that bytes begin with, or its fault, or nothing while its 8 bytes are not there
 abbrev pub IsJudged : Result (Option Header) Refusal → List ℕ → Type 0
 IsJudged (Ok None) bytes = length bytes < 8
 IsJudged (Ok (Some header)) bytes = (8 ≤ length bytes) × (header_at bytes ≡ Ok header)
 IsJudged (Err fault) bytes = (8 ≤ length bytes) × (header_at bytes ≡ Err fault)
 
--- what stands at the front of bytes: a frame, or less than one, or a fault, unless memory ran out
+-- what is at the front of bytes: a frame, or less than one, or a fault, unless memory ran out
 abbrev pub Advances : Result Next Refusal → List ℕ → Type 0
 Advances (Ok (Whole p after)) bytes = IsWritten p × (bytes ≡ spelling p ++ after.now)
 Advances (Ok (Part header)) bytes = IsPart header bytes

@@ -22,7 +22,7 @@ abbrev pub IsPart : Option Header → List ℕ → Type 0
 IsPart None bytes = length bytes < 8
 IsPart (Some header) bytes = (8 ≤ length bytes) × (header_at bytes ≡ Ok header) × (length bytes < 8 + header.len)
 
--- bytes with which a frame may begin, and which are none yet
+-- bytes with which a frame may begin, and which are no whole frame yet
 abbrev pub IsFront : List ℕ → Type 0
 IsFront bytes = (header : Option Header) × IsPart header bytes
 
@@ -33,7 +33,7 @@ IsFaultWith (Err fault) bytes refusal = refusal ≡ fault
 IsFaultWith (Ok header) bytes refusal =
     (8 + header.len ≤ length bytes) × (refusal ≡ BadField) × IsNoSpelling (take (8 + header.len) bytes)
 
--- the fault that stands in a frame's place at the front of bytes
+-- the fault in place of a frame at the front of bytes
 abbrev pub IsFaultAt : List ℕ → Refusal → Type 0
 IsFaultAt bytes refusal = (8 ≤ length bytes) × IsFaultWith (header_at bytes) bytes refusal
 
@@ -52,12 +52,12 @@ pub record Reads (stream : List ℕ) (packets : List Packet) (rest : List ℕ) (
 abbrev pub Decodes : List (List ℕ) → List Packet → Option Refusal → Type 0
 Decodes pieces packets fault = (rest : List ℕ) × Reads (flat_map (λ piece. piece) pieces) packets rest fault
 
--- what a clause sees of a decoder: the bytes that are not yet a whole frame, and the fault that it met
+-- a decoder as contracts see it: the bytes that are not yet a whole frame, and the fault that it met
 pub record Held : Type 0 where
   pub rest : List ℕ
   pub fault : Option Refusal
 
--- packets were put at the end of a list, and the bytes are their spellings and then what is left
+-- packets were put at the end of a list, and the bytes are their spellings and then the remaining ones
 pub record Gives (bytes : List ℕ) (old new : List Packet) (left : List ℕ) : Type 0 where
   pub packets : List Packet
   pub added : new ≡ old ++ packets

@@ -1,4 +1,4 @@
--- How a frame is put together: its front, and then the blocks where it has some.
+-- How a frame is put together: its front, and then its blocks if it has some.
 use Rattle.std.specs.Prelude.{ℕ, List, [], ◌++◌, length}
 use Rattle.packets.specs.declared.packet.Packet.{Packet}
 use Rattle.packets.specs.declared.packet.Packet.TheVariants as packet

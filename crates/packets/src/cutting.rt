@@ -1,12 +1,12 @@
-//! Where a frame ends in a row of bytes.
+//! The end of a frame in a sequence of bytes.
 ghost use Rattle.std.specs.Prelude.{◌≡◌, ◌≤◌, length};
 ghost use Rattle.packets.specs.Reading.{header_at};
 ghost use Rattle.packets.specs.Cutting.{cut_after};
 
 use crate::header::{HEADER_BYTES, Header};
 
-/// How many bytes a reader cuts off as one frame, by the first 8 of them: the header and its payload, or
-/// these 8 alone where the header is faulty. At most 131,104, those of the longest frame.
+/// Returns how many bytes a reader cuts off as one frame, by the first 8 of them: the header and its payload, or
+/// these 8 alone if the header is faulty. At most 131,104, those of the longest frame.
 #[tactic(auto, using(crate::proofs::Rows::header_most))]
 pub fn cut_length(header: &[u8]) -> usize
     requires { 8 ≤ length header.now }

@@ -1,4 +1,4 @@
-//! From a stream of bytes, in any pieces, to packets.
+//! The decoder of a stream of bytes, in any pieces, into packets.
 ghost use Rattle.std.specs.Prelude.{◌≡◌, ◌≢◌, ◌+◌, ◌<◌, ◌≤◌, ◌++◌, [], length, take, Option, Some, None, Err, IfErr, OnErr, OnOk, IfOk};
 ghost use Rattle.packets.specs.Stream.{IsPart, IsFront, Gives, Stops};
 ghost use Rattle.packets.specs.Steps.{IsJudged, Advances, Adds, left_of};
@@ -15,16 +15,16 @@ use bytes::BytesMut;
 use std::alloc::Global;
 use std::marker::Model;
 
-/// Takes a stream of frames in pieces, and gives their packets. It looks at each byte a bounded number of
-/// times, however small the pieces are.
+/// A decoder that takes a stream of frames in pieces, and gives their packets. It looks at each byte a bounded number
+/// of times, however small the pieces are.
 #[derive(Drop)]
 pub struct Decoder {
     alloc: Global,
-    // The front of a frame.
+    // The front of a frame that is not whole.
     rest: BytesMut,
     // The header of that frame, once its 8 bytes are there.
     header: Option<Header>,
-    // The fault that the stream has, once it is met.
+    // The fault of the stream, once it is met.
     fault: Option<Refusal>,
 }
 
@@ -39,7 +39,7 @@ impl Model for Decoder {
 }
 
 impl Decoder {
-    /// A decoder at the beginning of a stream. It takes no memory yet.
+    /// Returns a decoder at the beginning of a stream. It takes no memory yet.
     pub fn new(alloc: Global) -> Decoder
         ensures { result ≡ record { rest = []; fault = None } }
     {
@@ -51,21 +51,20 @@ impl Decoder {
         }
     }
 
-    /// Takes the next piece of the stream, and puts the packet of each frame that is whole now at the end
-    /// of `out`.
+    /// Takes the next piece of the stream, and appends to `out` the packet of each frame that is whole now.
     ///
-    /// A header is judged once its 8 bytes are there: `BadMagic` (20), then `BadCommand` (21), then
-    /// `BadLength` (22). A payload is judged once all of it is there: `BadField` (23). The packets before
-    /// the fault are given; each further call answers the same refusal and gives nothing. `NoMemory` (7)
-    /// leaves the decoder and `out` as they were.
+    /// A header is checked once its 8 bytes are there: `BadMagic` (20), then `BadCommand` (21), then `BadLength`
+    /// (22). A payload is checked once all of it is there: `BadField` (23). The packets before the fault are
+    /// appended; each further call returns the same refusal and appends nothing. `NoMemory` (7) leaves the decoder
+    /// and `out` as they were.
     pub fn feed(&mut self, piece: &[u8], out: &mut Vec<Packet>) -> Result<(), Refusal>
-        // The bytes that came are the spellings of the packets that are given, and then the rest.
+        // The bytes that came are the encodings of the appended packets, and then the rest.
         ensures given { OnOk result (Gives (self.old.rest ++ piece.now)
             out.old.items out.new.items self.new.rest) }
         // The rest is less than a whole frame.
         ensures part { OnOk result (IsFront self.new.rest) }
         ensures running { OnOk result (self.new.fault ≡ None) }
-        // The fault stands in a frame's place, after the packets that are given.
+        // The fault is in the frame after the appended packets.
         ensures fault { IfErr result (λ e. e ≢ NoMemory → self.old.fault ≡ None
             → Stops (self.old.rest ++ piece.now) out.old.items out.new.items e) }
         ensures stopped { IfErr result (λ e. e ≢ NoMemory → self.new.fault ≡ Some e) }
@@ -88,8 +87,8 @@ impl Decoder {
         taken
     }
 
-    /// Takes the whole frames, and keeps what is left. An error leaves the decoder as it was, with packets
-    /// at the end of the list.
+    /// Takes the whole frames, and keeps the remaining bytes. An error leaves the decoder as it was, with packets at
+    /// the end of the list.
     #[tactic(auto, using(crate::proofs::Rows::part_bounded))]
     fn take(&mut self, piece: &[u8], out: &mut Vec<Packet>) -> Result<(), Refusal>
         ensures given { OnOk result (Gives (self.old.rest ++ piece.now)
@@ -112,7 +111,7 @@ impl Decoder {
         Ok(())
     }
 
-    /// Answers nothing but this fault from now on.
+    /// Makes each further call return this fault.
     fn stop(&mut self, fault: Refusal)
         ensures { self.new ≡ record { rest = []; fault = Some fault } }
     {
@@ -122,7 +121,7 @@ impl Decoder {
     }
 }
 
-/// What is left of a rest and a piece once the whole frames at their front are taken.
+/// The remainder of a rest and a piece once the whole frames at their front are taken.
 #[derive(Drop)]
 struct Left<'a> {
     /// Whether a frame was taken, and with it the whole rest.
@@ -133,16 +132,17 @@ struct Left<'a> {
     header: Option<Header>,
 }
 
-/// What stands at the front of a stream.
+/// The front of a stream.
 #[derive(Drop)]
 enum Next<'a> {
-    /// A whole frame, and what comes after it.
+    /// A whole frame, and the bytes after it.
     Whole(Packet, &'a [u8]),
-    /// Less than that, with its header once that is there.
+    /// Less than a whole frame, with its header once that is there.
     Part(Option<Header>),
 }
 
-/// Gives the packets of the whole frames that the rest and the piece after it begin with.
+/// Appends to `out` the packets of the whole frames that the rest and the piece after it begin with. Returns the
+/// remainder.
 fn whole_frames<'a>(
     alloc: Global,
     rest: &[u8],
@@ -182,7 +182,7 @@ fn whole_frames<'a>(
     }
 }
 
-/// Judges the frame that begins with `front` and goes on in `piece`.
+/// Decodes the frame that begins with `front` and goes on in `piece`.
 fn next_frame<'a>(
     alloc: Global,
     front: &[u8],
@@ -204,8 +204,8 @@ fn next_frame<'a>(
     Ok(Next::Whole(packet_of(header, frame)?, after))
 }
 
-/// The header of the frame that begins with `front` and goes on in `piece`, where its 8 bytes are there.
-/// One that was judged before is not judged again.
+/// Returns the header of the frame that begins with `front` and goes on in `piece`, if its 8 bytes are there. Does
+/// not check a header again that was checked before.
 fn header_of(front: &[u8], header: Option<Header>, piece: &[u8]) -> Result<Option<Header>, Refusal>
     requires { IsPart header front.now }
     ensures { IsJudged result (front.now ++ piece.now) }
@@ -217,7 +217,7 @@ fn header_of(front: &[u8], header: Option<Header>, piece: &[u8]) -> Result<Optio
     }
 }
 
-/// The first 8 bytes of a frame that begins with `front` and goes on in `piece`.
+/// Returns the first 8 bytes of a frame that begins with `front` and goes on in `piece`.
 fn first_bytes(front: &[u8], piece: &[u8]) -> [u8; HEADER_BYTES]
     requires short { length front.now < 8 }
     requires long { 8 ≤ length front.now + length piece.now }
@@ -230,7 +230,7 @@ fn first_bytes(front: &[u8], piece: &[u8]) -> [u8; HEADER_BYTES]
     bytes
 }
 
-/// A frame of these bytes. Where it does not stand inline, it has a buffer of its own.
+/// Returns a frame of these bytes. If it is too long to be inline, it has a buffer of its own.
 fn frame_of(alloc: Global, front: &[u8], end: &[u8]) -> Result<Frame, Refusal>
     ensures joined { IfOk result (λ frame. frame ≡ front.now ++ end.now) }
     ensures refused { IfErr result (λ e. e ≡ NoMemory) }

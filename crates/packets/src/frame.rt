@@ -5,16 +5,16 @@ use crate::short::Short;
 use bytes::Bytes;
 use std::marker::Model;
 
-/// The bytes of one frame of a link. Any bytes may stand here: who takes the frame judges them.
+/// The bytes of one frame of a link. Any bytes are allowed here: who takes the frame checks them.
 ///
-/// A frame of at most 40 bytes, which is each but those with blocks, stands inline and takes no memory. A
-/// longer one shares its buffer.
+/// A frame of at most 40 bytes, which is each one without blocks, is stored inline and takes no memory. A longer one
+/// shares its buffer.
 #[derive(Debug, Drop)]
 pub struct Frame {
     held: Held,
 }
 
-/// Where the bytes of a frame stand.
+/// The storage of a frame's bytes.
 #[derive(Debug, Drop)]
 enum Held {
     Inline(Short),
@@ -32,7 +32,7 @@ impl Model for Frame {
 }
 
 impl Frame {
-    /// A frame of these bytes. It takes no memory.
+    /// Returns a frame of these bytes. It takes no memory.
     pub fn new(bytes: Bytes) -> Frame
         ensures { result ≡ bytes }
     {
@@ -41,7 +41,7 @@ impl Frame {
         }
     }
 
-    /// A frame of at most 40 bytes. It takes no memory.
+    /// Returns a frame of at most 40 bytes. It takes no memory.
     pub fn inline(bytes: &[u8]) -> Frame
         requires { length bytes.now ≤ 40 }
         ensures { result ≡ bytes.now }
@@ -51,7 +51,7 @@ impl Frame {
         Frame::of(short)
     }
 
-    /// A frame of bytes that stand inline already.
+    /// Returns a frame of bytes that are inline already.
     pub(crate) fn of(short: Short) -> Frame
         ensures { result ≡ short }
     {
@@ -60,7 +60,7 @@ impl Frame {
         }
     }
 
-    /// Its bytes.
+    /// Returns its bytes.
     pub fn as_slice(&self) -> &[u8]
         ensures { result.now ≡ self.now }
     {
@@ -70,14 +70,14 @@ impl Frame {
         }
     }
 
-    /// The bytes of a frame of more than 40, in the same buffer. It takes no memory.
+    /// Returns the bytes of a frame of more than 40, in the same buffer. It takes no memory.
     pub fn into_bytes(self) -> Bytes
         requires { 40 < length self }
         ensures { result ≡ self }
     {
         match self.held {
             Held::Inline(short) => {
-                // What stands inline has at most 40 bytes.
+                // Proof hint: brings the fact that inline bytes are at most 40 into scope.
                 let _ = short.as_slice();
                 unreachable!()
             }

@@ -8,7 +8,7 @@ ghost use Rattle.packets.specs.Numbers.{number_in};
 use crate::numbers::u64_at;
 use blocks::{BLOCK_BYTES, Command, MAX_RANGE, Refusal};
 
-/// What each frame begins with. The header is that of DRBD's large packets, `p_header95`, with its
+/// The magic number that each frame begins with. The header is that of DRBD's large packets, `p_header95`, with its
 /// `DRBD_MAGIC_BIG` (`drbd_protocol.h`); here each packet has it.
 pub(crate) const MAGIC: u16 = 0x835A;
 
@@ -18,19 +18,19 @@ pub(crate) const HEADER_BYTES: usize = 8;
 /// Bytes of the numbers of a DATA frame, before its blocks.
 pub(crate) const DATA_NUMBERS: u32 = 24;
 
-/// A header that was judged: a command of the table, and a length that its row allows.
+/// A checked header: a command of the table, and a length that its row allows.
 #[derive(Clone, Copy, PartialEq, Eq)]
 pub(crate) struct Header {
-    /// What the frame says.
+    /// The frame's command.
     pub(crate) command: Command,
     /// Bytes of its payload.
     pub(crate) len: u32,
 }
 
 impl Header {
-    /// The header in the first 8 bytes. `BadMagic` (20) where they do not begin with the magic number, then
-    /// `BadCommand` (21) where the table has no such command, then `BadLength` (22) where its row does not
-    /// allow the length.
+    /// Returns the header in the first 8 bytes. `BadMagic` (20) if they do not begin with the magic number, then
+    /// `BadCommand` (21) if the table has no such command, then `BadLength` (22) if its row does not allow the
+    /// length.
     #[tactic(auto, unfolding(crate::specs::Reading::header_at))]
     pub(crate) fn judge(bytes: &[u8]) -> Result<Header, Refusal>
         requires { 8 ≤ length bytes.now }
@@ -53,7 +53,7 @@ impl Header {
     }
 }
 
-/// The numbers of a header, before they are judged.
+/// The numbers of a header, before they are checked.
 #[derive(Clone, Copy)]
 struct HeaderNumbers {
     magic: u16,
@@ -61,7 +61,7 @@ struct HeaderNumbers {
     len: u32,
 }
 
-/// The numbers in the first 8 bytes, which are read once, as one word.
+/// Returns the numbers in the first 8 bytes, which it reads once, as one word.
 fn header_numbers(bytes: &[u8]) -> HeaderNumbers
     requires { 8 ≤ length bytes.now }
     ensures magic { result.magic ≡ number_in 2 0 bytes.now }
@@ -76,7 +76,7 @@ fn header_numbers(bytes: &[u8]) -> HeaderNumbers
     }
 }
 
-/// The number of a command in a header.
+/// Returns the number of a command in a header.
 pub(crate) fn command_number(command: Command) -> u16
     ensures { result ≡ number_of command }
 {
@@ -95,7 +95,7 @@ pub(crate) fn command_number(command: Command) -> u16
     }
 }
 
-/// The command that has a number.
+/// Returns the command that has a number.
 fn command_with(number: u16) -> Option<Command>
     ensures { result ≡ command_at number }
 {
@@ -115,7 +115,7 @@ fn command_with(number: u16) -> Option<Command>
     }
 }
 
-/// Whether the payload of a command may have `len` bytes.
+/// Returns whether the payload of a command may have `len` bytes.
 fn may_have(command: Command, len: u32) -> bool
     ensures { result ≡ is_length command len }
 {
@@ -129,7 +129,7 @@ fn may_have(command: Command, len: u32) -> bool
     }
 }
 
-/// Whether `bytes` bytes are 1 to 32 whole blocks.
+/// Returns whether `bytes` bytes are 1 to 32 whole blocks.
 pub(crate) fn is_whole_blocks(bytes: u32) -> bool
     ensures { result ≡ is_blocks bytes }
 {

@@ -1,5 +1,5 @@
-//! The frames of a link as bytes: what each packet is spelled as, and what bytes are read as, whole frames
-//! or a stream in any pieces.
+//! The frames of a link as bytes: the encoding of each packet, and the decoding of whole frames or of a stream in any
+//! pieces.
 #![tactic(auto)]
 
 mod cutting;

@@ -1,11 +1,11 @@
-//! Numbers among bytes, the highest byte first.
+//! Numbers in bytes, the highest byte first.
 ghost use Rattle.std.specs.Prelude.{◌≡◌, ◌+◌, ◌≤◌, ◌++◌, length};
 ghost use Rattle.packets.specs.Numbers.{number_in, number_bytes};
 
 use crate::short::Short;
 use byteorder::{BigEndian, ByteOrder};
 
-/// The number in the four bytes at a place.
+/// Returns the number in the four bytes at a place.
 #[tactic(auto, unfolding(crate::specs::Numbers::number_in))]
 pub(crate) fn u32_at(bytes: &[u8], place: usize) -> u32
     requires { place + 4 ≤ length bytes.now }
@@ -14,7 +14,7 @@ pub(crate) fn u32_at(bytes: &[u8], place: usize) -> u32
     BigEndian::read_u32(&bytes[place..])
 }
 
-/// The number in the eight bytes at a place.
+/// Returns the number in the eight bytes at a place.
 #[tactic(auto, unfolding(crate::specs::Numbers::number_in))]
 pub(crate) fn u64_at(bytes: &[u8], place: usize) -> u64
     requires { place + 8 ≤ length bytes.now }

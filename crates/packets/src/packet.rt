@@ -5,7 +5,7 @@ ghost use Rattle.packets.specs.Table.{command_of};
 use blocks::{Block, Command, Protocol, Tuple};
 use bytes::Bytes;
 
-/// What an acknowledgement names: a write, or a block of a resync.
+/// The write, or the block of a resync, that an acknowledgement names.
 #[derive(Clone, Copy, Debug, PartialEq, Eq)]
 pub struct Acknowledgement {
     /// The first block that it covers.
@@ -18,7 +18,7 @@ pub struct Acknowledgement {
     pub place: u32,
 }
 
-/// What a frame says. The packets are DRBD's (`drbd_protocol.h`); those of a hello carry less here.
+/// The meaning of a frame. The packets are DRBD's (`drbd_protocol.h`); those of a hello carry less here.
 #[derive(Debug, PartialEq, Eq, Drop)]
 pub enum Packet {
     /// The replication protocol of the sender, the first frame of a hello.
@@ -38,7 +38,7 @@ pub enum Packet {
         number: u64,
         /// Its place in the stream.
         place: u32,
-        /// What it writes, 1 to 32 whole blocks of 4,096 bytes.
+        /// The bytes that it writes, 1 to 32 whole blocks of 4,096 bytes.
         contents: Bytes,
     },
     /// A block of a resync.
@@ -47,7 +47,7 @@ pub enum Packet {
         first: Block,
         /// Its place in the stream.
         place: u32,
-        /// What stands in it, 4,096 bytes.
+        /// The block's bytes, 4,096 of them.
         contents: Bytes,
     },
     /// The end of an epoch.
@@ -57,7 +57,7 @@ pub enum Packet {
     },
     /// A resync begins, and the sender's disk has this generation identifier for it.
     SyncUuid {
-        /// The identifier. A node takes no 0 here; the bytes of a frame may say it.
+        /// The identifier. A node takes no 0 here, but a frame may carry it.
         word: u64,
     },
     /// The peer has the write in memory.
@@ -76,7 +76,7 @@ pub enum Packet {
 }
 
 impl Packet {
-    /// The name of its frame.
+    /// Returns the command of its frame.
     pub fn command(&self) -> Command
         ensures { result ≡ command_of self.now }
     {

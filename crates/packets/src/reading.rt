@@ -1,4 +1,4 @@
-//! From bytes to packets.
+//! Decoding of frames into packets.
 ghost use Rattle.std.specs.Prelude.{◌≡◌, ◌≢◌, ◌+◌, ◌<◌, ◌≤◌, true, false, length, drop, Ok, Err, IfOk, IfErr};
 ghost use Rattle.packets.specs.Spelling.{IsSpellable, Spells};
 ghost use Rattle.packets.specs.Frames.{IsFrameFault, frame_read, in_hello, is_fault, fault_in_hello};
@@ -18,17 +18,16 @@ use bytes::Bytes;
 /// Sectors of 512 bytes in a block.
 pub(crate) const BLOCK_SECTORS: u64 = 8;
 
-/// The packet that one whole frame spells. It takes no memory: the blocks of a DATA or RS_DATA_REPLY frame
+/// Returns the packet that one whole frame encodes. It takes no memory: the blocks of a DATA or RS_DATA_REPLY frame
 /// stay in the frame's buffer.
 ///
-/// `BadMagic` (20), `BadCommand` (21) and `BadLength` (22) come for a header with such a fault, in this
-/// order, and `BadLength` also where the frame has no whole header, or ends before or goes on after its
-/// payload. `BadField` (23) comes last, for a field with a value that it may not have (this project's
-/// layout). A frame that is refused is dropped.
+/// `BadMagic` (20), `BadCommand` (21) or `BadLength` (22) if the header has such a fault, in this order, and
+/// `BadLength` also if the frame has no whole header, or ends before or goes on after its payload. `BadField` (23)
+/// comes last, if a field has a value that it may not have (this project's layout). A refused frame is dropped.
 pub fn decode(frame: Frame) -> Result<Packet, Refusal>
-    // What is read is spelled so.
+    // The frame is an encoding of the packet that it decodes to.
     ensures found { IfOk result (λ p. IsSpellable p × Spells p frame) }
-    // What is spelled so is read.
+    // An encoding of a packet decodes to that packet.
     ensures only { (p : Packet) → IsSpellable p → Spells p frame → result ≡ Ok p }
     // A refusal is the frame's first fault.
     ensures fault { IfErr result (λ e. IsFrameFault frame e) }
@@ -38,17 +37,17 @@ pub fn decode(frame: Frame) -> Result<Packet, Refusal>
     packet_of(header, frame)
 }
 
-/// The packet that one whole frame spells, as [`decode`] reads it; but while a hello expects a frame of one
-/// command, a frame of another command with a field that it may not have is `BadCommand` (21), since that
-/// comes before its fields are judged (this project's rule). It takes no memory.
+/// Returns the packet that one whole frame encodes, as [`decode`] does. But while a hello expects a frame of one
+/// command, a frame of another command with a fault of its fields (23) is `BadCommand` (21), since the command is
+/// checked before the fields (this project's rule). It takes no memory.
 pub fn read(frame: Frame, hello: Option<Command>) -> Result<Packet, Refusal>
     ensures is { result ≡ in_hello hello frame (frame_read frame) }
     ensures spellable { IfOk result IsSpellable }
     ensures faults { IfErr result (λ e. is_fault e ≡ true) }
-    // One without blocks stands in a short frame.
+    // A packet without blocks has a short frame.
     ensures short { IfOk result (λ p. has_blocks p ≡ false → length frame ≤ 40) }
 {
-    // A fault that comes before the fields is the answer, whatever command a hello expects.
+    // A fault that comes before the fields is returned, whatever command a hello expects.
     let header = whole_header(&frame)?;
     match packet_of(header, frame) {
         Ok(packet) => Ok(packet),
@@ -56,7 +55,7 @@ pub fn read(frame: Frame, hello: Option<Command>) -> Result<Packet, Refusal>
     }
 }
 
-/// Whether a hello goes on that expects this command, or none goes on.
+/// Returns whether a hello goes on that expects this command, or no hello goes on.
 fn is_awaited(hello: Option<Command>, command: Command) -> bool
     ensures { result ≡ is_awaited hello command }
 {
@@ -66,8 +65,8 @@ fn is_awaited(hello: Option<Command>, command: Command) -> bool
     }
 }
 
-/// A frame's fault, while a hello goes on or none: that the frame is not the expected one comes before a
-/// fault of its fields.
+/// Returns a frame's fault, given whether its command is the expected one: another command (21) comes before a fault
+/// of its fields (23).
 fn fault_in_hello(is_expected: bool, fault: Refusal) -> Refusal
     ensures { result ≡ fault_in_hello is_expected fault }
 {
@@ -77,7 +76,7 @@ fn fault_in_hello(is_expected: bool, fault: Refusal) -> Refusal
     }
 }
 
-/// The header of a frame that is as long as its header says, or the frame's first fault before its fields.
+/// Returns the header of a frame that is as long as its header says, or the frame's first fault before its fields.
 #[tactic(auto, unfolding(crate::specs::Frames::frame_read))]
 fn whole_header(frame: &Frame) -> Result<Header, Refusal>
     ensures headed { IfOk result (λ header. IsHeaded header frame.now) }
@@ -96,7 +95,7 @@ fn whole_header(frame: &Frame) -> Result<Header, Refusal>
     Ok(header)
 }
 
-/// What the payload of a frame says that is as long as its header says.
+/// Decodes the payload of a frame that is as long as its header says.
 #[tactic(auto, unfolding(crate::specs::Reading::payload_at))]
 pub(crate) fn packet_of(header: Header, frame: Frame) -> Result<Packet, Refusal>
     requires whole { length frame ≡ 8 + header.len }
@@ -126,7 +125,7 @@ pub(crate) fn packet_of(header: Header, frame: Frame) -> Result<Packet, Refusal>
     }
 }
 
-/// The payload of a frame with blocks, in the frame's buffer.
+/// Returns the payload of a frame with blocks, in the frame's buffer.
 fn payload_of(frame: Frame) -> Bytes
     requires { 40 < length frame }
     ensures { result ≡ drop 8 frame }
@@ -215,7 +214,7 @@ fn barrier_of(bytes: &[u8]) -> Result<Packet, Refusal>
     })
 }
 
-/// The write that an acknowledgement names. `BadField` (23) where its fields may name none.
+/// Returns the write that an acknowledgement names. `BadField` (23) if its fields may name none.
 #[tactic(auto, unfolding(crate::specs::Reading::names_write, crate::specs::Reading::acknowledgement_at))]
 fn write_named(bytes: &[u8]) -> Result<Acknowledgement, Refusal>
     requires { 24 ≤ length bytes.now }
@@ -235,7 +234,7 @@ fn write_named(bytes: &[u8]) -> Result<Acknowledgement, Refusal>
     })
 }
 
-/// The block of a resync that an acknowledgement names. `BadField` (23) where its fields may name none.
+/// Returns the block of a resync that an acknowledgement names. `BadField` (23) if its fields may name none.
 #[tactic(auto, unfolding(crate::specs::Reading::names_resync, crate::specs::Reading::acknowledgement_at))]
 fn resync_named(bytes: &[u8]) -> Result<Acknowledgement, Refusal>
     requires { 24 ≤ length bytes.now }

@@ -1,9 +1,9 @@
-//! A few bytes that stand inline.
+//! A few bytes that are stored inline.
 ghost use Rattle.std.specs.Prelude.{◌≡◌, ◌+◌, ◌≤◌, [], ◌++◌, length};
 
 use std::marker::Model;
 
-/// The most bytes of a frame that stands inline: those of the longest one without blocks, UUIDS.
+/// The most bytes of an inline frame: those of the longest frame without blocks, UUIDS.
 pub(crate) const SHORT_BYTES: usize = 40;
 
 /// At most 40 bytes. It takes no memory.
@@ -24,7 +24,7 @@ impl Model for Short {
 }
 
 impl Short {
-    /// No bytes.
+    /// Returns an empty one.
     pub(crate) fn new() -> Short
         ensures { result ≡ [] }
     {
@@ -44,7 +44,7 @@ impl Short {
         self.len = end;
     }
 
-    /// The bytes.
+    /// Returns the bytes.
     pub(crate) fn as_slice(&self) -> &[u8]
         ensures value { result.now ≡ self.now }
         ensures few { length self.now ≤ 40 }

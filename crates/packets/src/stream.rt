@@ -1,4 +1,4 @@
-//! A whole stream at once.
+//! Decoding of a whole stream at once.
 ghost use Rattle.std.specs.Prelude.{◌≡◌, ℕ, List, map, Option, IfOk, IfErr};
 ghost use Rattle.std.specs.List.{flat_map};
 ghost use Rattle.blocks.specs.declared.refusal.Refusal.{Refusal};
@@ -10,21 +10,21 @@ use crate::{Decoder, Packet};
 use blocks::Refusal;
 use std::alloc::Global;
 
-/// What a stream says.
+/// The result of decoding a stream.
 #[derive(Debug, Drop)]
 pub struct Transcript {
     /// The packets of its frames, up to the first fault.
     pub packets: Vec<Packet>,
-    /// The fault that stands in a frame's place after them: 20 to 23, where there is one.
+    /// The fault of the frame after them, 20 to 23, if there is one.
     pub fault: Option<Refusal>,
 }
 
-/// What the stream says that comes in these pieces. It does not matter how it was cut. `NoMemory` (7) is the
-/// only refusal.
+/// Decodes the stream that comes in these pieces. It does not matter how it was cut. `NoMemory` (7) is the only
+/// refusal.
 pub fn decode_all(alloc: Global, pieces: &[&[u8]]) -> Result<Transcript, Refusal>
-    // The stream is the spellings of the packets, and then less than a frame, or the fault in a frame's place.
+    // The stream is the encodings of the packets, and then less than a frame, or a frame with the fault.
     ensures read { IfOk result (λ t. Decodes (map (λ piece. piece.now) pieces.now) t.packets.items t.fault) }
-    // It reads as nothing else, however it was cut.
+    // It decodes to nothing else, however it was cut.
     ensures only { IfOk result (λ t. (others : List (List ℕ)) (packets : List Packet) (fault : Option Refusal)
         → flat_map (λ piece. piece) others ≡ flat_map (λ piece. piece.now) pieces.now
         → Decodes others packets fault → (t.packets.items ≡ packets) × (t.fault ≡ fault)) }
@@ -33,7 +33,7 @@ pub fn decode_all(alloc: Global, pieces: &[&[u8]]) -> Result<Transcript, Refusal
     read_pieces(alloc, pieces)
 }
 
-/// What a decoder makes of the pieces, up to the first fault.
+/// Decodes the pieces one after another, up to the first fault.
 fn read_pieces(alloc: Global, pieces: &[&[u8]]) -> Result<Transcript, Refusal>
     ensures read { IfOk result (λ t. (rest : List ℕ)
         × Reads (flat_map (λ piece. piece.now) pieces.now) t.packets.items rest t.fault) }

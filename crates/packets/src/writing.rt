@@ -1,4 +1,4 @@
-//! From packets to bytes.
+//! Encoding of packets into frames.
 ghost use Rattle.std.specs.Prelude.{◌≡◌, ◌*◌, ◌^◌, ◌<◌, ◌≤◌, ◌++◌, true, false, length, IsOk, IfOk, IfErr, MatchOption};
 ghost use Rattle.packets.specs.Spelling.{payload, protocol_number, acknowledgement_bytes, data_numbers, NamesWrite, FitsAcknowledgement, FitsFields, IsSpellable, Spells};
 ghost use Rattle.packets.specs.Table.{has_blocks};
@@ -15,7 +15,7 @@ use blocks::{BLOCK_BYTES, Block, Protocol, Refusal, Tuple};
 use bytes::Bytes;
 use std::alloc::Global;
 
-/// The frame that spells a packet. `NoMemory` (7) where the buffer of a packet with blocks cannot be had;
+/// Returns the frame that encodes a packet. `NoMemory` (7) if the buffer of a packet with blocks cannot be allocated;
 /// there is no other refusal, and none for a packet without blocks, whose frame takes no memory.
 pub fn encode(alloc: Global, packet: &Packet) -> Result<Frame, Refusal>
     requires { IsSpellable packet.now }
@@ -30,7 +30,7 @@ pub fn encode(alloc: Global, packet: &Packet) -> Result<Frame, Refusal>
     }
 }
 
-/// The blocks of a packet that carries some.
+/// Returns the blocks of a packet that carries some.
 fn blocks_of(packet: &Packet) -> Option<&[u8]>
     ensures { MatchOption result (has_blocks packet.now ≡ false)
         (λ blocks. (has_blocks packet.now ≡ true) × (blocks.now ≡ blocks_in packet.now)) }
@@ -43,7 +43,7 @@ fn blocks_of(packet: &Packet) -> Option<&[u8]>
     }
 }
 
-/// The bytes of both, in a buffer of their own. `NoMemory` (7) where it cannot be had.
+/// Returns the bytes of both, in a buffer of their own. `NoMemory` (7) if it cannot be allocated.
 pub(crate) fn joined(alloc: Global, front: &[u8], end: &[u8]) -> Result<Bytes, Refusal>
     ensures joined { IfOk result (λ b. b ≡ front.now ++ end.now) }
     ensures refused { IfErr result (λ e. e ≡ NoMemory) }
@@ -54,7 +54,7 @@ pub(crate) fn joined(alloc: Global, front: &[u8], end: &[u8]) -> Result<Bytes, R
     Ok(Bytes::from_vec(bytes)?)
 }
 
-/// The front of a packet's frame: its header, and the numbers of its payload.
+/// Returns the front of a packet's frame: its header, and the numbers of its payload.
 fn front_of(packet: &Packet) -> Short
     requires { IsSpellable packet.now }
     ensures front { result ≡ front packet.now }
@@ -68,7 +68,7 @@ fn front_of(packet: &Packet) -> Short
     out
 }
 
-/// Bytes of a packet's payload.
+/// Returns how many bytes a packet's payload has.
 #[tactic(auto, using(crate::proofs::Lengths::payload_length))]
 fn payload_len(packet: &Packet) -> u32
     requires { IsSpellable packet.now }
@@ -122,7 +122,7 @@ fn put_numbers(out: &mut Short, packet: &Packet)
     }
 }
 
-/// The number of a replication protocol in a frame.
+/// Returns the number of a replication protocol in a frame.
 fn protocol_word(protocol: Protocol) -> u32
     ensures { result ≡ protocol_number protocol }
 {
@@ -157,7 +157,7 @@ fn put_data(out: &mut Short, first: Block, number: u64, place: u32)
     put_u32(out, 0);
 }
 
-/// Puts what an acknowledgement names at the end.
+/// Puts the fields of an acknowledgement at the end.
 fn put_acknowledgement(out: &mut Short, ack: &Acknowledgement)
     requires sector { 8 * ack.now.first.0 < 2 ^ 64 }
     requires few { ack.now.count ≤ 32 }

@@ -1,10 +1,11 @@
--- What the events of a pair stand for.
+-- The events of a pair as events of the model.
 use Rattle.primary_protocol.specs.Transitions.{whole_blocks}
 use Rattle.model.specs.Pair as model
 use Rattle.pair.specs.declared.event.Event.{Event}
 use Rattle.pair.specs.declared.event.Event.TheVariants as event
 
--- an event as the history has it; the bytes of a submission are its blocks of 4096 bytes, or none where they are not whole
+-- an event as the model has it; the bytes of a submission become blocks of 4096 bytes, or none if they are not whole
+-- blocks
 abbrev pub event_of : Event → model.Event
 event_of (event.Open sync loss) = model.OpenEvent sync loss
 event_of (event.Submit first contents) = model.SubmitEvent first (whole_blocks contents)

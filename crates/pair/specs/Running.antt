@@ -1,4 +1,4 @@
--- A run, as far as it has come.
+-- A run so far.
 use Rattle.std.specs.Prelude.{ℕ, ◌≡◌, ◌≤◌, List, length, map, take}
 use Rattle.blocks.specs.declared.outcome.Reply.{Reply}
 use Rattle.pair_protocol.specs.State.{Ran}
@@ -6,7 +6,8 @@ use Rattle.pair.specs.declared.event.Event.{Event}
 use Rattle.pair.specs.Events.{event_of}
 use Rattle.pair.specs.State.{PairView, state}
 
--- So many events went from one pair to another, and these are their replies, for all of which there is room.
+-- The first `count` events lead from one pair to the other, these are their replies, and there is room for the replies
+-- to all events.
 pub record HasRun (events : List Event) (count : ℕ) (replies : List Reply) (len capacity : ℕ) (start now : PairView) : Type 0 where
   pub ran : Ran (map event_of (take count events)) replies (state start) (state now)
   pub told : length replies ≡ count

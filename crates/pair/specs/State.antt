@@ -1,4 +1,4 @@
--- What the fields of a pair stand for.
+-- The fields of a pair as plain values, and their invariant.
 use Rattle.std.specs.Prelude.{◌≡◌, true}
 use Rattle.primary.specs.State.{PrimaryView}
 use Rattle.secondary.specs.State.{SecondaryView}
@@ -9,7 +9,7 @@ pub record PairView : Type 0 where
   pub primary : PrimaryView
   pub secondary : SecondaryView
 
--- both nodes in plain values: what one sends the other takes
+-- both nodes in plain values, with a sender and a receiver for each direction of the link
 abbrev pub state : PairView → PairState
 state v = record {
   primary = v.primary.core;
@@ -20,7 +20,7 @@ state v = record {
   back = record { out = v.secondary.outgoing; inn = v.primary.incoming };
 }
 
--- Some history is had, and neither disk fails by itself.
+-- Invariant: the pair refines some model history, and the calls of both disks are known not to fail.
 pub record IsPairView (v : PairView) : Type 0 where
   pub pair : IsPair (state v)
   pub local : v.primary.steady ≡ true

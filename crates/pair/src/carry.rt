@@ -1,4 +1,4 @@
-//! Taking a frame: the direction's queue is lent to the side that takes, for the one call.
+//! Receiving a frame: the direction's queue is lent to the receiving node for the one call.
 ghost use Rattle.std.specs.Prelude.{◌≡◌};
 ghost use Rattle.blocks.specs.declared.outcome.Reply.TheVariants as reply;
 ghost use Rattle.endpoint.specs.Calls.{is_out_of_memory};
@@ -14,7 +14,7 @@ use blocks::{Done, Refusal};
 use endpoint::joined;
 
 impl Pair {
-    // The secondary takes the next frame of the primary.
+    // Has the secondary take the next frame of the primary.
     pub(crate) fn receive(&mut self) -> Result<Done, Refusal>
         ensures step { IsPairStep ReceiveEvent (is_out_of_memory result) (state self.old) (from_secondary.replied (λ done. done) result) (state self.new) }
     {
@@ -31,7 +31,7 @@ impl Pair {
         done
     }
 
-    // The primary takes the next acknowledgement of the secondary.
+    // Has the primary take the next acknowledgement of the secondary.
     pub(crate) fn ack_in(&mut self) -> Result<Done, Refusal>
         ensures step { IsPairStep AckInEvent (is_out_of_memory result) (state self.old) (replied reply.Ok result) (state self.new) }
     {
@@ -49,7 +49,8 @@ impl Pair {
     }
 }
 
-/// Both sides of the way there tell their frames alike. It does nothing.
+/// Proof hint for the way to the secondary: if the frames taken are a prefix of those sent, so are their packets.
+/// It does nothing.
 pub(crate) fn told_there(primary: &LocalNode, secondary: &PeerNode)
     ensures { IsTold (record { out = primary.now.outgoing; inn = secondary.now.incoming }) }
 {
@@ -58,7 +59,7 @@ pub(crate) fn told_there(primary: &LocalNode, secondary: &PeerNode)
     }
 }
 
-/// The same of the way back. It does nothing.
+/// Proof hint: the same for the way back to the primary. It does nothing.
 pub(crate) fn told_back(primary: &LocalNode, secondary: &PeerNode)
     ensures { IsTold (record { out = secondary.now.outgoing; inn = primary.now.incoming }) }
 {

@@ -1,17 +1,18 @@
 //! Events of a pair.
 use bytes::Bytes;
 
-/// One event. It is one call of a node, under which nothing else happens.
+/// An event of a pair: a call of one node, or `Open`, which opens both. Nothing else happens during it.
 #[derive(Debug, Drop)]
 pub enum Event {
-    /// Both ends open with a new link, and owe their hello. The two words are the generation identifiers that
-    /// a resync would begin, and that the loss of the connection begins.
+    /// Both ends open with a new link, and owe their hello. The two words are the generation identifiers for a
+    /// resync and for the loss of the connection.
     Open { sync: u64, loss: u64 },
     /// A write of whole blocks of 4,096 bytes, from a first block on.
     Submit { first: u64, contents: Bytes },
     /// The primary's disk does the write of this number.
     Local(u64),
-    /// It fails the write of this number, and keeps this number of its first blocks.
+    /// The primary's disk fails the write of the first number, and keeps as many of its first blocks as the second
+    /// says.
     LocalFault(u64, u64),
     /// The primary puts its next frame into the link.
     Send,
@@ -19,7 +20,8 @@ pub enum Event {
     Receive,
     /// The secondary's disk does the item at this place of the stream.
     Peer(u32),
-    /// It fails the item at this place, and keeps this number of its first blocks.
+    /// The secondary's disk fails the item at this place, and keeps as many of its first blocks as the second
+    /// number says.
     PeerFault(u32, u64),
     /// The secondary puts its next acknowledgement into the link.
     AckOut,
@@ -27,7 +29,7 @@ pub enum Event {
     AckIn,
     /// The primary reads the block that the resync copies next, and appends it to the stream.
     Resync,
-    /// Its disk fails that read.
+    /// The primary's disk fails that read.
     ResyncFault,
     /// The primary closes its end.
     ClosePrimary,

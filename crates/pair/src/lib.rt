@@ -1,5 +1,5 @@
 //! A primary and a secondary in one thread, with the link between them: `run` takes a pair through a list of
-//! events, and answers each. What it says of every run is its contract.
+//! events, and returns the reply to each. Its contract states what holds of every run.
 #![tactic(auto)]
 
 mod carry;

@@ -12,7 +12,7 @@ use blocks::{Done, Refusal, What};
 use link::PlainLink;
 
 impl Pair {
-    // Both ends open with a new link, or none.
+    // Opens both ends with a new link, or neither.
     pub(crate) fn open(&mut self, sync: u64, loss: u64) -> Result<Done, Refusal>
         ensures step { IsPairStep (OpenEvent sync loss) (is_out_of_memory result) (state self.old) (replied reply.Ok result) (state self.new) }
     {

@@ -15,14 +15,14 @@ use secondary::Secondary;
 use std::alloc::Global;
 use std::marker::Model;
 
-/// The primary of a pair, over a link in one thread and a disk in memory that fails where it is told to.
+/// The primary of a pair, over a link in one thread and a disk in memory that fails only where it is armed.
 pub type LocalNode = Primary<PlainOut, PlainIn, FaultStore>;
 
 /// The secondary of a pair.
 pub type PeerNode = Secondary<PlainOut, PlainIn, FaultStore>;
 
-/// A primary and a secondary over two disks in memory, and the link between them. Invariant: the pair has
-/// some history of the model (`PairHas`), and the queue of each direction rests at its sending end.
+/// A primary and a secondary over two disks in memory, and the link between them. Invariant: the pair refines some
+/// model history (`PairHas`), and the queue of each direction is at its sending end.
 #[derive(Drop)]
 pub struct Pair {
     pub(crate) alloc: Global,
@@ -41,10 +41,9 @@ impl Model for Pair {
 }
 
 impl Pair {
-    /// Two zero-filled disks with the tuple 1,0,0,0 and no marks, and both ends closed.
+    /// Creates a pair of zero-filled disks with the tuple 1,0,0,0 and no marks, both ends closed.
     ///
-    /// `BadSetting` (15) if a setting is out of its range, and `NoMemory` (7) if there is no
-    /// memory.
+    /// `BadSetting` (15) if a setting is out of its range, else `NoMemory` (7) if there is no memory.
     pub fn fresh(alloc: Global, settings: Settings) -> Result<Pair, Refusal>
         ensures history { IfOk result (λ p. PairHas (state p) (zero_filled settings)) }
         // Its identifiers say that the disks agree, and they do.
@@ -66,13 +65,13 @@ impl Pair {
         Pair::from_parts(alloc, settings, local, peer, tuple, tuple, marks)
     }
 
-    /// A pair of these disks, identifiers and marks, both ends closed. The caller owes honest identifiers:
-    /// where the peer's current one is the primary's current or bitmap one, the disks are equal but for the
-    /// marked blocks. Without that, nothing is said of the marks.
+    /// Creates a pair of these disks, identifiers and marks, both ends closed. The caller has to give honest
+    /// identifiers: if the peer's current one is the primary's current or bitmap one, the disks are equal except
+    /// for the marked blocks. Otherwise nothing is promised about the marks.
     ///
-    /// `BadSetting` (15) if a setting is out of its range, where a disk or the list of marks has
-    /// another size than the settings say, and where the primary's current identifier is zero; else
-    /// `NoMemory` (7) if there is no memory. What was handed over is dropped then.
+    /// `BadSetting` (15) if a setting is out of its range, if a disk or the list of marks has another size than the
+    /// settings say, or if the primary's current identifier is zero; else `NoMemory` (7) if there is no memory.
+    /// What was handed over is dropped then.
     pub fn from_parts(
         alloc: Global,
         settings: Settings,

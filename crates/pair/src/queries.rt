@@ -12,14 +12,14 @@ use crate::{LocalNode, Pair, PeerNode, Side};
 use blocks::{Block, Refusal, Store, Tuple};
 
 impl Pair {
-    /// The generation identifiers of the primary, and those of the secondary.
+    /// Returns the generation identifiers of the primary and those of the secondary.
     pub fn tuples(&self) -> (Tuple, Tuple)
         ensures { (h : PairHistory) → PairHas (state self.now) h → result ≡ tuples h }
     {
         (self.primary.tuple(), self.secondary.tuple())
     }
 
-    /// Whether the block is marked at the primary.
+    /// Returns whether the block is marked at the primary.
     pub fn is_marked(&self, block: Block) -> bool
         ensures { (h : PairHistory) → PairHas (state self.now) h → result ≡ is_marked h.primary block.0 }
     {
@@ -41,7 +41,7 @@ impl Pair {
         }
     }
 
-    /// Whether the two disks differ in a block, compared where it lies. Past their end they do not.
+    /// Returns whether the two disks differ in a block, compared in place. Past their end they do not.
     pub fn differs(&self, block: Block) -> bool
         ensures { (h : PairHistory) → PairHas (state self.now) h → result ≡ differs h block.0 }
     {
@@ -58,14 +58,14 @@ impl Pair {
         local.block(block) != peer.block(block)
     }
 
-    /// The primary, for reading.
+    /// Returns the primary, for reading.
     pub fn primary(&self) -> &LocalNode
         ensures { result.now ≡ self.now.primary }
     {
         &self.primary
     }
 
-    /// The secondary, for reading.
+    /// Returns the secondary, for reading.
     pub fn secondary(&self) -> &PeerNode
         ensures { result.now ≡ self.now.secondary }
     {

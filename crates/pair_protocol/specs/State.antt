@@ -1,4 +1,4 @@
--- A pair in plain values, and which histories it has.
+-- A pair in plain values, and the model histories that it refines.
 use Rattle.std.specs.Prelude.{ℕ, ◌≡◌, ◌≤◌, ◌-◌, Bool, true, false, List, [], ◌∷◌, ◌++◌, length, Option, Some, None}
 use Rattle.blocks.specs.declared.refusal.Refusal.TheVariants.{NoMemory}
 use Rattle.blocks.specs.declared.outcome.Reply.{Reply}
@@ -16,8 +16,8 @@ use Rattle.primary_protocol.specs.Node as primary
 use Rattle.secondary_protocol.specs.Core.{SecondaryState}
 use Rattle.secondary_protocol.specs.Node as secondary
 
--- One direction of the link between the nodes: the side that sends, and the side that takes. There is none before the first
--- connection.
+-- One direction of the link between the nodes: the side that sends, and the side that takes. There is none before the
+-- first connection.
 pub record Direction : Type 0 where
   pub out : Option PacketSenderState
   pub inn : Option PacketReceiverState
@@ -38,8 +38,8 @@ primary_of p = record { core = p.primary; disk = p.local; pushed = pushed_of p.t
 abbrev pub secondary_of : PairState → secondary.NodeState
 secondary_of p = record { core = p.secondary; disk = p.peer; pushed = pushed_of p.back.out; taken = taken_of p.there.inn }
 
--- Between two calls the queue of a direction rests at the side that sends: what was taken begins what was sent, the rest waits,
--- and there is room for as many as the link holds.
+-- Between two calls the side that sends keeps the queue of a direction: the taken frames are a beginning of the sent
+-- ones, the rest waits, and there is room for as many as the link holds.
 pub record AreEnds (capacity : ℕ) (out : PacketSenderState) (inn : PacketReceiverState) : Type 0 where
   pub waiting : List (List ℕ)
   pub row : out.frames ≡ inn.frames ++ waiting
@@ -57,7 +57,7 @@ IsDirection capacity d = elim d.out [
   | Some out ↦ (inn : PacketReceiverState) × (d.inn ≡ Some inn) × AreEnds capacity out inn
 ]
 
--- A list of events led to this history, from two disks of their size and settings in their ranges.
+-- A list of events leads to this history, from two disks of their size and settings in their ranges.
 pub record IsRun (h : PairHistory) : Type 0 where
   pub opening : Opening
   pub events : List (Event × Bool)
@@ -67,20 +67,21 @@ pub record IsRun (h : PairHistory) : Type 0 where
   pub peer : IsDisk opening.peer_settings.blocks opening.peer
   pub is : (run events (pair_at opening)).1 ≡ h
 
--- the pair has this history
+-- the pair refines this history, which some run of a pair reaches
 pub record PairHas (p : PairState) (h : PairHistory) : Type 0 where
   pub primary : primary.NodeHas (primary_of p) h.primary
   pub secondary : secondary.NodeHas (secondary_of p) h.secondary
   pub run : IsRun h
 
--- Some history is had, and both directions are as they are between two calls.
+-- Invariant: the pair refines some model history, and both directions are as they are between two calls.
 pub record IsPair (p : PairState) : Type 0 where
   pub history : PairHistory
   pub has : PairHas p history
   pub there : IsDirection p.primary.settings.link p.there
   pub back : IsDirection p.secondary.settings.link p.back
 
--- The call was the event's step, on whichever history the pair had; `out_of_memory` says whether memory was refused.
+-- The call was the event's step of the model, for every history that the pair refined; `out_of_memory` says whether
+-- memory was refused.
 pub record IsPairStep (event : Event) (out_of_memory : Bool) (p : PairState) (one : Reply) (next : PairState) : Type 0 where
   pub said : (h : PairHistory) → PairHas p h → one ≡ (step event out_of_memory h).0
   pub after : (h : PairHistory) → PairHas p h → PairHas next (step event out_of_memory h).1
@@ -96,12 +97,13 @@ answered [] replies = []
 answered (event ∷ events) [] = []
 answered (event ∷ events) (one ∷ replies) = (event, is_out_of_memory one) ∷ answered events replies
 
--- The replies are those of the run over the events, on whichever history the pair had, and it has the history then that this
--- leads to.
+-- For every history that the pair refined, the replies are those of the run over the events, and the pair refines the
+-- history that the run leads to.
 pub record Ran (events : List Event) (replies : List Reply) (p q : PairState) : Type 0 where
   pub said : (h : PairHistory) → PairHas p h → replies ≡ (run (answered events replies) h).0
   pub after : (h : PairHistory) → PairHas p h → PairHas q (run (answered events replies) h).1
 
--- The opening's identifiers were honest: where they say that the disks agree, or agree but for the marks, they do.
+-- The opening's identifiers were honest: the primary had data, and if the peer's current identifier was the primary's
+-- current or bitmap identifier, the disks differed only in marked blocks.
 abbrev pub WasHonest : PairHistory → Type 0
 WasHonest h = IsHonest h.primary.opening_tuple h.secondary.opening_tuple (opening_marked h.primary) h.primary.opening_map h.secondary.opening_map

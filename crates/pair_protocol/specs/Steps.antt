@@ -1,4 +1,4 @@
--- The nodes' calls over a link are the pair's steps, and what every history of a pair says.
+-- The nodes' calls over a link are the pair's steps, and what holds of every history of a pair.
 use Rattle.std.specs.Prelude.{◌≡◌, ◌&&◌, ◌∷◌, ◌++◌, [], List, Bool, Option, Some, is_none, Result}
 use Rattle.blocks.specs.declared.refusal.Refusal.{Refusal}
 use Rattle.blocks.specs.declared.outcome.Done.{Done}
@@ -18,7 +18,7 @@ use Rattle.secondary_protocol.specs.Steps as from_secondary
 use Rattle.pair_protocol.specs.Carried.{Gave}
 use Rattle.pair_protocol.specs.State.{IsDirection, IsPairStep, IsRun, PairState, WasHonest, primary_of, secondary_of}
 
--- The primary's push is the pair's: it is full exactly where as many frames are on their way as the link holds.
+-- The primary's send is the pair's step: the link is full exactly if as many frames are on their way as it holds.
 abbrev pub SendsAreSteps : Type 0
 SendsAreSteps =
     (p q : PairState) (result : Result Done Refusal) → IsDirection p.primary.settings.link p.there → link.Sends result p.there.out q.there.out
@@ -26,7 +26,7 @@ SendsAreSteps =
     → secondary_of p ≡ secondary_of q
     → IsPairStep SendEvent (is_out_of_memory result) p (from_primary.replied reply.Ok result) q
 
--- the same of the secondary's
+-- the same of the secondary's send
 abbrev pub AnswersAreSteps : Type 0
 AnswersAreSteps =
     (p q : PairState) (result : Result Done Refusal) → IsDirection p.secondary.settings.link p.back → link.Sends result p.back.out q.back.out
@@ -35,7 +35,7 @@ AnswersAreSteps =
     → primary_of p ≡ primary_of q
     → IsPairStep AckOutEvent (is_out_of_memory result) p (from_secondary.replied (λ done. done) result) q
 
--- What the secondary takes is the next of what the primary pushed.
+-- The secondary's receive is the pair's step: it takes the next frame that the primary pushed.
 abbrev pub ReceivesAreSteps : Type 0
 ReceivesAreSteps =
     (p q : PairState) (result : Result Done Refusal) (frame : Option Received) → Gave frame result p.there
@@ -44,7 +44,7 @@ ReceivesAreSteps =
     → ((one : Received) → frame ≡ Some one → (secondary_of q).taken ≡ (secondary_of p).taken ++ one ∷ []) → primary_of p ≡ primary_of q
     → IsPairStep ReceiveEvent (is_out_of_memory result) p (from_secondary.replied (λ done. done) result) q
 
--- the same of what the primary takes
+-- the same of the primary's receive
 abbrev pub AcknowledgesAreSteps : Type 0
 AcknowledgesAreSteps =
     (p q : PairState) (result : Result Done Refusal) (frame : Option Received) → Gave frame result p.back
@@ -52,8 +52,8 @@ AcknowledgesAreSteps =
     → ((one : Received) → frame ≡ Some one → (primary_of q).taken ≡ (primary_of p).taken ++ one ∷ []) → secondary_of p ≡ secondary_of q
     → IsPairStep AckInEvent (is_out_of_memory result) p (from_primary.replied reply.Ok result) q
 
--- What every history says that a list of events leads to: the headline clause by clause, the cover and the write order, and
--- that their premises are kept.
+-- What holds of every history that a list of events leads to: the headline clause by clause, the cover and the write
+-- order, and that their premises are kept.
 pub record HasClauses (h : PairHistory) : Type 0 where
   pub beginning : TakesABeginning h.primary h.secondary
   pub closed : (more : List (Event × Bool)) → StaysClosed h.primary (run more h).1.primary × StaysClosedToo h.secondary (run more h).1.secondary
@@ -62,10 +62,10 @@ pub record HasClauses (h : PairHistory) : Type 0 where
   pub marks : WasHonest h → MarksDifferences h.primary h.secondary
   pub cover : WasHonest h → CoversDifferences h.primary h.secondary
   pub order : WasHonest h → IsUnharmed h.primary h.secondary → KeepsWriteOrder h.primary h.secondary
-  -- nothing changes how it began, and what is grounded stays so
+  -- no event changes the opening, and a grounded history stays grounded
   pub honest : (more : List (Event × Bool)) → WasHonest h → WasHonest (run more h).1
   pub grounded : (more : List (Event × Bool)) → IsGrounded h.primary h.secondary → IsGrounded (run more h).1.primary (run more h).1.secondary
 
--- every history has them
+-- every history of a run has these clauses
 abbrev pub RunsHaveClauses : Type 0
 RunsHaveClauses = (h : PairHistory) → IsRun h → HasClauses h

@@ -1,4 +1,4 @@
-//! Tests by calls of what the nodes stand on: their parts, frames and their links.
+//! Tests by calls of what the nodes are built on: their parts, frames and their links.
 #![tactic(auto)]
 
 #[cfg(test)]

@@ -1,4 +1,4 @@
-//! The frames of the packets, byte by byte, as the format's vectors have them.
+//! The frames of the packets, byte by byte, as in the format's vectors.
 use blocks::BLOCK_BYTES;
 use bytes::Bytes;
 use packets::Frame;
@@ -76,7 +76,7 @@ fn with_blocks_in(
     Ok(frame)
 }
 
-/// The front of a frame, and then `blocks` blocks filled with one byte.
+/// Returns the front of a frame, followed by `blocks` blocks filled with one byte.
 pub(crate) fn with_blocks(
     rt: &impl Abort,
     alloc: Global,

@@ -1,9 +1,9 @@
--- The blocks that the items of the last epoch have: for each block of the device whether one has it.
+-- The blocks that the items of the last epoch cover: for each block of the device whether one does.
 use Rattle.std.specs.Prelude.{ℕ, ◌+◌, Bool, false, ◌||◌, List, map, length, Option, Some, None, slice_get}
 use Rattle.std.specs.List.{list_any}
 use Rattle.blocks.specs.Ranges.{is_between, below}
 
--- for each of the first `size` blocks whether it passes
+-- for each of the first `size` blocks whether it passes the test
 abbrev pub flags : ℕ → (ℕ → Bool) → List Bool
 flags size test = map test (below size)
 
@@ -19,7 +19,7 @@ has blocks block = is_set (slice_get blocks block)
 abbrev pub none_of : ℕ → List Bool
 none_of size = flags size (λ block. false)
 
--- these blocks too
+-- adds these blocks
 abbrev pub adding : ℕ → ℕ → List Bool → List Bool
 adding first count blocks = flags (length blocks) (λ block. has blocks block || is_between first count block)
 

@@ -1,4 +1,4 @@
--- The items of a row lie in a slab, each under the key in its slot.
+-- The items of a row are in a slab, each under the key in its slot.
 use Rattle.std.specs.Prelude.{ℕ, ◌≡◌, ◌≤◌, List, map, Option, None, Some, option_map, slice_index_or}
 use Rattle.slab.specs.Slab.{Slab, ContainsKey, get, slab_len}
 use Rattle.peerdisk.specs.Slots.{Filled, IsRow}
@@ -14,7 +14,7 @@ module _ {X : Type 0} where
   abbrev pub filled : Slab X → List (Option Entry) → List (Option (Filled X))
   filled items slots = map (fill items) slots
 
--- Each key in the row has an item, and no two slots have one key.
+-- Each key in the row has an item, and no two slots have the same key.
 pub record Holds {X : Type 0} (items : Slab X) (slots : List (Option Entry)) : Type 0 where
   pub present : (i : ℕ) (e : Entry) → slice_index_or slots i None ≡ Some e → ContainsKey items e.key
   pub apart : (i j : ℕ) (e other : Entry) → slice_index_or slots i None ≡ Some e → slice_index_or slots j None ≡ Some other → e.key ≡ other.key → i ≡ j

@@ -17,13 +17,13 @@ pub record PeerDiskState (X : Type 0) : Type 0 where
   pub pending : List (Pending X)
   pub reach : ℕ
 
--- what was refused for want of memory
+-- whether memory was refused
 abbrev pub is_out_of_memory : Result (Unit {0}) Refusal → Bool
 is_out_of_memory (Err NoMemory) = true
 is_out_of_memory _ = false
 
 module _ {X : Type 0} where
-  -- what is pending at a place
+  -- the pending item at a place
   abbrev pub at_place : ℕ → List (Pending X) → Option (Pending X)
   at_place place pending = find (λ p. nat_eq place p.place) pending
 
@@ -43,12 +43,12 @@ module _ {X : Type 0} where
   abbrev pub has_earlier : ℕ → List (Pending X) → Bool
   has_earlier place pending = list_any (λ p. nat_lt p.epoch (epoch_at place pending)) pending
 
-  -- what is pending but for this place
+  -- the pending items without the one at this place
   abbrev pub without : ℕ → List (Pending X) → List (Pending X)
   without place [] = []
   without place (p ∷ pending) = if nat_eq place p.place then pending else p ∷ without place pending
 
-  -- what is left when the item of a place failed: none of a later epoch
+  -- the pending items after the one at this place failed: without it, and none of a later epoch
   abbrev pub after_fault : ℕ → List (Pending X) → List (Pending X)
   after_fault place pending = filter (λ p. nat_le p.epoch (epoch_at place pending)) (without place pending)
 
@@ -65,7 +65,7 @@ module _ {X : Type 0} where
       started None = Err UnknownJob
       started (Some p) = if has_earlier place pending then Err EpochOpen else Ok p.item
 
-  -- an item is taken, unless the disk is full or there is no memory
+  -- adds a pending item, unless as many are pending as may be or memory is refused
   abbrev pub put : ℕ → ℕ → X → Bool → PeerDiskState X → Result (Unit {0}) Refusal × PeerDiskState X
   put place epoch item out_of_memory s =
       if nat_le s.limit (length s.pending) then (Err PendingFull, s)

@@ -1,4 +1,4 @@
--- What the slots of a row stand for: the item at the place of each slot, or a hole.
+-- The slots of a row: each has the item at its place, or is a hole.
 use Rattle.std.specs.Prelude.{ℕ, zero, suc, ◌≡◌, ◌+◌, ◌^◌, ◌<◌, ◌≤◌, nat_le, Bool, true, false, List, [], ◌∷◌, length, Option, None, Some}
 use Rattle.std.specs.List.{AllByRecursion}
 use Rattle.peerdisk.specs.Pending.{Pending}
@@ -48,7 +48,8 @@ abbrev pub stays : ℕ → Option Entry → Bool
 stays epoch None = false
 stays epoch (Some e) = nat_le e.epoch epoch
 
--- The items are in order and counted, and the first slot is no hole. A row that has begun somewhere has room for a slot.
+-- The items are in order and counted, and the first slot is no hole. A row that has begun somewhere has room for a
+-- slot.
 pub record IsRow {X : Type 0} (first : ℕ) (slots : List (Option (Filled X))) (count len capacity : ℕ) : Type 0 where
   pub order : AreInOrder (pending_from first slots)
   pub counted : count ≡ length (pending_from first slots)

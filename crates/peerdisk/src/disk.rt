@@ -17,15 +17,16 @@ pub(crate) struct Entry {
     pub(crate) key: usize,
 }
 
-/// The items of a stream that a secondary has taken and not applied, by their places in the stream. A
-/// later place has the same epoch or a later one, and no item may start while one of an earlier epoch is
-/// not applied (this project's rule, after DRBD's write barriers).
+/// The items of a stream that a secondary has taken and not applied, by their places in the stream. A later place has
+/// the same epoch or a later one, and no item may start while one of an earlier epoch is not applied (this project's
+/// rule, after DRBD's write barriers).
 ///
-/// A place has its slot in a row, so an item is found by subtraction; an applied one leaves a hole until all
-/// before it are gone, and so do places that have no item. The items lie in a slab, and a slot holds a key, so
-/// that a hole costs no item's memory. Each call takes constant time, but `put` for the places that it skips,
-/// `done` for the holes that it frees, and `fault` for the slots from the end down to the epoch that stays.
-/// What takes memory is `new`, for all items, and `reserve`, now and then in time for the whole row.
+/// Each place has a slot in a deque, so an item is found by subtraction. An applied item leaves a hole until all
+/// before it are gone; a place without an item is a hole too. The items are in a slab, and a slot has a key, so a
+/// hole takes no memory for an item. Each call takes constant time, except `put` for the places that it skips, `done`
+/// for the holes that it frees, and `fault` for those and for the slots from the end down to the epoch that stays.
+/// Only `new`, for all items, and `reserve`, which `put` calls, take memory; `reserve` now and then takes time for
+/// all slots.
 #[derive(Drop)]
 pub struct PeerDisk<T> {
     limit: usize,
@@ -52,8 +53,8 @@ impl<T> Model for PeerDisk<T> {
 }
 
 impl<T: Drop> PeerDisk<T> {
-    /// Nothing is pending, and no more than `limit` items may be. Room for that many items is made here, and
-    /// `NoMemory` (7) if there is none.
+    /// Returns a queue with nothing pending, and room for `limit` items, which is the most that may be. `NoMemory`
+    /// (7) if that room cannot be allocated.
     pub fn new(alloc: Global, limit: u32) -> Result<PeerDisk<T>, Refusal>
         ensures empty { IfOk result (λ d. d ≡ record { limit = limit; pending = []; reach = d.reach }) }
         ensures refused { IfErr result (λ e. e ≡ NoMemory) }
@@ -67,7 +68,7 @@ impl<T: Drop> PeerDisk<T> {
         })
     }
 
-    /// Makes room for an item of this place, which lies after all that are pending.
+    /// Makes room for an item of this place, which is after all that are pending.
     ///
     /// `NoMemory` (7) if there is no memory. Then nothing changes.
     pub fn reserve(&mut self, place: u32) -> Result<(), Refusal>
@@ -83,14 +84,14 @@ impl<T: Drop> PeerDisk<T> {
         let first = if len == 0 { place } else { self.first };
         let wanted = (place - first) as usize + 1;
         if wanted > self.slots.capacity() {
-            // No less than twice as many, so that rows grow in time for their length.
+            // At least twice the length, so that growth takes linear time in all.
             self.slots.reserve_exact(wanted.max(len + len) - len)?;
         }
         self.first = first;
         Ok(())
     }
 
-    /// Whether another item may be pending. `PendingFull` (18) if as many are pending as may be.
+    /// Checks whether another item may be pending. `PendingFull` (18) if `limit` items are.
     pub fn may_put(&self) -> Result<(), Refusal>
         ensures { result ≡ (if nat_le self.now.limit (length self.now.pending) then Err PendingFull else Ok tt) }
     {
@@ -100,12 +101,11 @@ impl<T: Drop> PeerDisk<T> {
         Ok(())
     }
 
-    /// An item was taken: its place lies after all that are pending, and its epoch is none of theirs or the
-    /// last.
+    /// Adds an item. Requires that its place is after all that are pending, and its epoch is the last of theirs or a
+    /// later one.
     ///
-    /// `PendingFull` (18) if as many items are pending as may be; else `NoMemory` (7) if there
-    /// is no memory, and never where there is room for the place. Then nothing changes, and the item is
-    /// dropped.
+    /// `PendingFull` (18) if `limit` items are pending; else `NoMemory` (7) if there is no memory, but never if there
+    /// is room for the place. In both cases nothing changes, and the item is dropped.
     pub fn put(&mut self, place: u32, epoch: u32, item: T) -> Result<(), Refusal>
         requires above { All (λ p. p.place < place) self.old.pending }
         requires no_earlier { All (λ p. p.epoch ≤ epoch) self.old.pending }
@@ -126,7 +126,7 @@ impl<T: Drop> PeerDisk<T> {
         Ok(())
     }
 
-    /// The lowest pending place. `NothingThere` (13) if nothing is pending.
+    /// Returns the lowest pending place. `NothingThere` (13) if nothing is pending.
     pub fn next(&self) -> Result<u32, Refusal>
         ensures { result ≡ next self.now.pending }
     {
@@ -136,12 +136,12 @@ impl<T: Drop> PeerDisk<T> {
         Ok(self.first as u32)
     }
 
-    /// The item of a place, whose write to the disk may start. `UnknownJob` (16) if the place is
-    /// not pending, `EpochOpen` (17) if an item of an earlier epoch is.
+    /// Returns the item of a place, whose write to the disk may start. `UnknownJob` (16) if the place is not pending,
+    /// `EpochOpen` (17) if an item of an earlier epoch is.
     pub fn start(&self, place: u32) -> Result<&T, Refusal>
         ensures { MatchResult result (λ item. start place self.now.pending ≡ Ok item.now) (λ e. start place self.now.pending ≡ Err e) }
     {
-        // What the fields keep says that later places have no earlier epochs.
+        // Proof hint: brings the invariant that later places have no earlier epochs into scope.
         let _ = &self.first;
         let Some(first) = self.first_epoch() else {
             return Err(Refusal::UnknownJob);
@@ -155,7 +155,7 @@ impl<T: Drop> PeerDisk<T> {
         Ok(item)
     }
 
-    /// The item of a pending place is applied: gives it, and it is pending no more. It takes no memory.
+    /// Removes the item of a pending place, as it is applied, and returns it. It takes no memory.
     pub fn done(&mut self, place: u32) -> T
         requires { is_pending place self.old.pending ≡ true }
         ensures item { item_at place self.old.pending ≡ Some result }
@@ -169,8 +169,8 @@ impl<T: Drop> PeerDisk<T> {
         item
     }
 
-    /// The disk failed to write the item of a pending place: it and all items of later epochs are dropped.
-    /// Answers the epoch of that item. It takes no memory.
+    /// Records that the disk failed to write the item of a pending place: drops it and all items of later epochs.
+    /// Returns the epoch of that item. It takes no memory.
     pub fn fault(&mut self, place: u32) -> u32
         requires { is_pending place self.old.pending ≡ true }
         ensures epoch { result ≡ epoch_at place self.old.pending }
@@ -185,21 +185,21 @@ impl<T: Drop> PeerDisk<T> {
         epoch
     }
 
-    /// Whether nothing is pending.
+    /// Returns whether nothing is pending.
     pub fn is_empty(&self) -> bool
         ensures { result ≡ nat_eq (length self.now.pending) 0 }
     {
         self.count == 0
     }
 
-    /// How many items are pending.
+    /// Returns how many items are pending.
     pub fn len(&self) -> usize
         ensures { result ≡ length self.now.pending }
     {
         self.count
     }
 
-    /// The epoch of the lowest pending place: all items of the epochs before it are applied.
+    /// Returns the epoch of the lowest pending place: no item of an earlier epoch is pending.
     pub fn first_epoch(&self) -> Option<u32>
         ensures { result ≡ option_map (λ p. p.epoch) (slice_get self.now.pending 0) }
     {
@@ -207,7 +207,7 @@ impl<T: Drop> PeerDisk<T> {
         Some(first.epoch)
     }
 
-    // What is pending at a place: its epoch, and the item.
+    // Returns the epoch and the item of a pending place.
     fn entry(&self, place: u32) -> Option<(u32, &T)>
         ensures { option_map (λ found. record { place = place; epoch = found.0; item = found.1.now }) result ≡ at_place place self.now.pending }
     {

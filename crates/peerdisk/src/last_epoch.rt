@@ -7,13 +7,13 @@ use blocks::{Range, Refusal};
 use std::alloc::Global;
 use std::marker::Model;
 
-/// Which blocks of a device the items of the last epoch have. Each block has the number of the last epoch
-/// that had it, so an epoch begins without a look at the blocks: `has_any` and `add` take time for the
-/// blocks of their range, and `begin` takes constant time but once in four billion epochs.
+/// The blocks of a device that the items of the last epoch cover. Each block has the number of the last epoch that
+/// covered it, so an epoch begins without a pass over the blocks: `has_any` and `add` take time for the blocks of
+/// their range, and `begin` takes constant time except once in four billion epochs.
 #[derive(Drop)]
 pub struct LastEpoch {
     stamps: Vec<u32>,
-    // Its number, which is no epoch's of a stream: it goes on rising from one connection to the next.
+    // A number of its own, not the epoch's number in a stream: it rises from one connection to the next too.
     epoch: u32,
 }
 
@@ -24,13 +24,13 @@ impl Model for LastEpoch {
 
     ghost view = { λ e. map (λ stamp. stamp == e.epoch) e.stamps.items };
 
-    // No block has a stamp of an epoch to come.
+    // No block has the stamp of a later epoch.
     ghost invariant = { λ e. (0 < e.epoch) × All (λ stamp. stamp ≤ e.epoch) e.stamps.items };
 }
 
 impl LastEpoch {
-    /// For a device of `blocks` blocks, with no item yet. `NoMemory` (7) if there is no memory; nothing
-    /// takes memory later.
+    /// Returns a last epoch without items, for a device of `blocks` blocks. `NoMemory` (7) if there is no memory; no
+    /// later call takes memory.
     pub fn new(alloc: Global, blocks: u32) -> Result<LastEpoch, Refusal>
         ensures empty { IfOk result (λ e. e ≡ none_of blocks) }
         ensures refused { IfErr result (λ e. e ≡ NoMemory) }
@@ -39,7 +39,7 @@ impl LastEpoch {
         Ok(LastEpoch { stamps, epoch: 1 })
     }
 
-    /// Whether one of these blocks is among them.
+    /// Returns whether an item of the epoch covers one of these blocks.
     pub fn has_any(&self, range: Range) -> bool
         requires { range.first.0 + range.count ≤ length self.now }
         ensures { result ≡ has_any range.first.0 range.count self.now }
@@ -55,7 +55,7 @@ impl LastEpoch {
         false
     }
 
-    /// An item of the epoch has these blocks.
+    /// Adds the blocks of an item of the epoch.
     pub fn add(&mut self, range: Range)
         requires { range.first.0 + range.count ≤ length self.old }
         ensures { self.new ≡ adding range.first.0 range.count self.old }
@@ -68,7 +68,7 @@ impl LastEpoch {
         }
     }
 
-    /// An epoch begins, with no item yet.
+    /// Begins the next epoch, with no item yet.
     pub fn begin(&mut self)
         ensures { self.new ≡ none_of (length self.old) }
     {

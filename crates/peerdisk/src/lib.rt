@@ -1,4 +1,4 @@
-//! The items that a secondary has taken and not applied yet, and the blocks that those of the last epoch cover.
+//! The items that a secondary has taken and not applied yet, and the blocks that the items of the last epoch cover.
 #![tactic(auto)]
 
 mod disk;

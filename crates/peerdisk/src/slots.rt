@@ -1,4 +1,4 @@
-//! Changes of a row of slots, and of the items that lie in a slab under the slots' keys.
+//! Changes of the slots, and of the items in the slab under the slots' keys.
 ghost use Rattle.std.specs.Prelude.{ℕ, ◌≡◌, ◌+◌, ◌<◌, ◌≤◌, ◌++◌, ◌∷◌, [], true, None, Some, filter, is_some, nat_le, length, slice_index_or, slice_set};
 ghost use Rattle.std.specs.Int.{from_bool};
 ghost use Rattle.std.specs.VecDeque.{deque_len, deque_capacity};
@@ -10,7 +10,7 @@ use crate::disk::Entry;
 use slab::Slab;
 use std::collections::VecDeque;
 
-/// Brings the row to this length, by holes at its end. It takes no memory.
+/// Brings the slots to this length, with holes at the end. It takes no memory.
 pub(crate) fn put_holes(slots: &mut VecDeque<Option<Entry>>, len: usize)
     requires room { len ≤ deque_capacity slots.old }
     ensures len { deque_len slots.new ≡ len }
@@ -23,7 +23,7 @@ pub(crate) fn put_holes(slots: &mut VecDeque<Option<Entry>>, len: usize)
     }
 }
 
-/// Drops the holes at the row's start. Answers the place of the first slot then.
+/// Drops the holes at the front. Returns the place of the first slot then.
 pub(crate) fn drop_holes(slots: &mut VecDeque<Option<Entry>>, first: u64) -> u64
     requires small { first + deque_len slots.old < 18446744073709551616 }
     ensures slots { slots.new.items ≡ trimmed slots.old.items }
@@ -39,7 +39,7 @@ pub(crate) fn drop_holes(slots: &mut VecDeque<Option<Entry>>, first: u64) -> u64
     first
 }
 
-/// Takes an item, and its epoch, out of a slot that is no hole. The slot is a hole then.
+/// Takes an item, and its epoch, out of a slot that is not a hole. Leaves a hole there.
 pub(crate) fn take_item<T>(
     slots: &mut VecDeque<Option<Entry>>,
     items: &mut Slab<T>,
@@ -61,7 +61,7 @@ pub(crate) fn take_item<T>(
     (epoch, items.remove(key))
 }
 
-/// Drops the items of later epochs, which stand last. Answers how many.
+/// Drops the items of later epochs, which are at the end. Returns how many it dropped.
 pub(crate) fn drop_later<T: Drop>(
     slots: &mut VecDeque<Option<Entry>>,
     items: &mut Slab<T>,
@@ -87,7 +87,7 @@ pub(crate) fn drop_later<T: Drop>(
     dropped
 }
 
-// Drops the last slot, and its item if it has one. Answers how many items.
+// Drops the last slot, and its item if it has one. Returns how many items it dropped.
 fn drop_last<T: Drop>(slots: &mut VecDeque<Option<Entry>>, items: &mut Slab<T>) -> usize
     requires held { Holds items.old slots.old.items }
     requires some { 0 < deque_len slots.old }
@@ -108,7 +108,7 @@ fn drop_last<T: Drop>(slots: &mut VecDeque<Option<Entry>>, items: &mut Slab<T>) 
     }
 }
 
-// Whether a slot has an item of no later epoch.
+// Returns whether a slot has an item of this epoch or an earlier one.
 fn stays(slot: &Option<Entry>, epoch: u32) -> bool
     ensures { result ≡ stays epoch slot.now }
 {

@@ -1,4 +1,4 @@
--- What a node's calls are whose outcome the link or the disk has a say in.
+-- The calls of a node whose outcome depends on the link or the disk.
 use Rattle.std.specs.Prelude.{ℕ, ◌≡◌, ◌<◌, ◌&&◌, ◌⊎◌, List, Option, is_none, Result}
 use Rattle.blocks.specs.declared.refusal.Refusal.{Refusal}
 use Rattle.blocks.specs.declared.outcome.Done.{Done}
@@ -11,13 +11,13 @@ use Rattle.primary_protocol.specs.Node.{NodeSteps}
 use Rattle.primary_protocol.specs.Steps.{replied}
 use Rattle.primary.specs.State.{PrimaryView, node}
 
--- A frame was taken, or none, and that was the node's step. Memory is wanting only before a frame is taken.
+-- The call was the node's step of taking some frame, or none. Memory is refused only before a frame is taken.
 pub record TakesOne (result : Result Done Refusal) (old new : PrimaryView) : Type 0 where
   pub frame : Option Received
   pub link : link.Takes frame result old.incoming new.incoming
   pub step : NodeSteps (Takes frame (is_none frame && is_out_of_memory result)) (node old) (replied reply.Ok result) (node new)
 
--- The disk did the write of this number, or failed in this call, and left any of its blocks new.
+-- The disk finished the write of this number, or failed in this call after any of its blocks were written.
 abbrev pub WritesOne : ℕ → Result Done Refusal → PrimaryView → PrimaryView → Type 0
 WritesOne number result old new =
     ((new.faults ≡ old.faults) × NodeSteps (WritesLocally number) (node old) (replied reply.Ok result) (node new))

@@ -33,7 +33,7 @@ abbrev pub kind_of : Bool → CompletionKind
 kind_of true = Linked
 kind_of false = Alone
 
--- the receipt of an accepted write, where it was completed
+-- the receipt of an accepted write, if it was completed
 abbrev pub receipt_in : ℕ → JournalEntry → Option model.Receipt
 receipt_in number entry = elim entry.fate [
   | Open ↦ None

@@ -1,4 +1,4 @@
--- What the fields of a node stand for.
+-- The fields of a node as plain values, and their invariant.
 use Rattle.std.specs.Prelude.{ℕ, ◌≡◌, ◌≤◌, Bool, true, List, [], ◌∷◌, Option, Some, None, IfSome, is_some, Ok}
 use Rattle.model.specs.Frames.{Packet, Received}
 pub use Rattle.endpoint.specs.Calls.{pushed_of, taken_of}
@@ -8,7 +8,7 @@ use Rattle.primary_protocol.specs.Core.{PrimaryState, is_established}
 use Rattle.primary_protocol.specs.Transitions.{due}
 use Rattle.primary_protocol.specs.Node.{NodeState, NodeIsHad}
 
--- A node: its core, the blocks of its disk, both sides of its link where it was opened, how many of its disk's calls have
+-- A node: its core, the blocks of its disk, both sides of its link if it was opened, how many of its disk's calls have
 -- failed, and whether these are known not to fail.
 pub record PrimaryView : Type 0 where
   pub core : PrimaryState
@@ -18,11 +18,11 @@ pub record PrimaryView : Type 0 where
   pub faults : ℕ
   pub steady : Bool
 
--- what is seen of a node with this core, disk and link
+-- the view of a node with this core, disk and link
 abbrev pub seen : PrimaryState → List (List ℕ) → Option PacketSenderState → Option PacketReceiverState → ℕ → Bool → PrimaryView
 seen core disk outgoing incoming faults steady = record { core = core; disk = disk; outgoing = outgoing; incoming = incoming; faults = faults; steady = steady }
 
--- the node as its history sees it
+-- the node as the model's history has it
 abbrev pub node : PrimaryView → NodeState
 node v = record { core = v.core; disk = v.disk; pushed = pushed_of v.outgoing; taken = taken_of v.incoming }
 
@@ -54,8 +54,9 @@ abbrev pub IsNumbered : Option PacketSenderState → Option PacketReceiverState 
 IsNumbered (Some o) (Some i) s = (o.number ≤ s.connections) × (i.number ≤ s.connections)
 IsNumbered _ _ s = Unit {0}
 
--- Some history is had. An open end has both sides of its link, what went in part is due, and a link's connections are
--- numbered as the node's are. Once the stream has begun there is room for the next frame, whatever it is.
+-- Invariant: the node refines some model history. An open end has both sides of its link, what went in part is due, and
+-- a link's connections are numbered as the node's are. Once the stream has begun there is room for the next frame,
+-- whatever it is.
 pub record IsNode (v : PrimaryView) : Type 0 where
   pub had : NodeIsHad (node v)
   pub out_there : is_some v.core.end ≡ true → is_some v.outgoing ≡ true

@@ -7,12 +7,12 @@ use blocks::{Done, Refusal, Store};
 use link::{FrameIn, FrameOut};
 
 impl<O: FrameOut + Drop, I: FrameIn + Drop, S: Store + Drop> Primary<O, I, S> {
-    /// Takes the next frame that the link has: of the peer's hello, and then an acknowledgement.
+    /// Takes the next frame from the link: first those of the peer's hello, then acknowledgements.
     ///
-    /// `NotConnected` (12) if the end is closed, else, in the hello alone, `NoMemory` (7) if there
-    /// is no room for the longest frame, else `NothingThere` (13) if there is none; these change nothing.
-    /// Every other refusal is a protocol error (20 to 25, 30 to 35): the frame counts as taken, and the end
-    /// closes, with all effects of a close. Once the stream has begun it takes no memory.
+    /// `NotConnected` (12) if the end is closed, else, during the hello alone, `NoMemory` (7) if there is no room
+    /// for the longest frame, else `NothingThere` (13) if there is no frame; these change nothing. Every other
+    /// refusal is a protocol error (20 to 25, 30 to 35): the frame counts as taken, and the end closes, with all
+    /// effects of a close. Once the connection is established it takes no memory.
     pub fn ack_in(&mut self) -> Result<Done, Refusal>
         ensures step { TakesOne result self.old self.new }
         ensures rest { self.new ≡ record self.old { core = self.new.core; incoming = self.new.incoming } }

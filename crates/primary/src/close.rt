@@ -11,8 +11,8 @@ use blocks::{Refusal, Store};
 use link::{FrameIn, FrameOut};
 
 impl<O: FrameOut + Drop, I: FrameIn + Drop, S: Store + Drop> Primary<O, I, S> {
-    /// Closes the end: what is unreleased is marked, and no write has a connection any more. Answers how
-    /// many writes were completed by that. `NotConnected` (12) if it is closed. It takes no memory.
+    /// Closes the end: marks the blocks of every unreleased write, and detaches all writes from the connection.
+    /// Returns how many writes that completed. `NotConnected` (12) if it is closed. It takes no memory.
     pub fn close(&mut self) -> Result<u32, Refusal>
         ensures step { NodeSteps Closes (node self.old) (replied reply.Closed result) (node self.new) }
         ensures rest { self.new ≡ record self.old { core = self.new.core } }

@@ -12,7 +12,7 @@ use link::{FrameIn, FrameOut};
 use primary_core::{Fate, JournalEntry, PrimaryCore};
 
 impl<O: FrameOut + Drop, I: FrameIn + Drop, S: Store + Drop> Primary<O, I, S> {
-    /// Whether each of these receipts is that of an entry of the journal, and none is given twice. It takes no
+    /// Returns whether each of these receipts matches an entry of the journal, and none is given twice. It takes no
     /// memory, and time for each receipt and each accepted write.
     pub fn confirm(&mut self, receipts: &[Receipt]) -> bool
         ensures found { (h : PrimaryHistory) → NodeHas (node self.old) h → result ≡ not (has_strange h.journal [] receipts.now) }
@@ -28,7 +28,7 @@ impl<O: FrameOut + Drop, I: FrameIn + Drop, S: Store + Drop> Primary<O, I, S> {
     }
 }
 
-// Whether the receipt is that of a completed write.
+// Returns whether the receipt matches the journal's entry of a completed write.
 fn is_found(core: &PrimaryCore, receipt: &Receipt) -> bool
     ensures { result ≡ is_found receipt.now core.now.state }
 {
@@ -38,7 +38,7 @@ fn is_found(core: &PrimaryCore, receipt: &Receipt) -> bool
     }
 }
 
-// Whether the receipt is that of this entry, but for the number.
+// Returns whether the receipt matches this entry, apart from the number.
 fn is_entry_of(entry: &JournalEntry, receipt: &Receipt) -> bool
     ensures { result ≡ is_entry_of entry.now receipt.now }
 {
@@ -56,7 +56,7 @@ fn is_entry_of(entry: &JournalEntry, receipt: &Receipt) -> bool
         && same_home(home, receipt.home())
 }
 
-// Whether two homes are the same.
+// Returns whether two stream positions are the same.
 fn same_home(home: Option<StreamPosition>, told: Option<StreamPosition>) -> bool
     ensures { result ≡ same_home home told }
 {

@@ -1,4 +1,4 @@
-//! The primary as a node: its core, its disk and both ends of its link. Every call is the step of its history.
+//! The primary as a node: its core, its disk and both ends of its link. Every call is a step of its model history.
 #![tactic(auto)]
 
 mod acknowledge;

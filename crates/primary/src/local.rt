@@ -13,17 +13,17 @@ use blocks::{Done, FaultStore, Refusal, Store};
 use link::{FrameIn, FrameOut};
 
 impl<O: FrameOut + Drop, I: FrameIn + Drop, S: Store + Drop> Primary<O, I, S> {
-    /// The lowest number of a write that the disk has to do. It takes no memory.
+    /// Returns the lowest number of a write that waits for the disk. It takes no memory.
     pub fn next_local(&self) -> Option<u64>
         ensures { (h : PrimaryHistory) → NodeHas (node self.now) h → result ≡ next_local h }
     {
         self.core.next()
     }
 
-    /// Has the disk do a write. Where the disk fails, each block of the write is as it was or as it was to be,
+    /// Has the disk do write `number`. If the disk fails, each block of the write has its old or its new contents,
     /// they are marked, and the write is never completed.
     ///
-    /// `UnknownJob` (16) if the disk has not that write to do. It takes no memory.
+    /// `UnknownJob` (16) if the write does not wait for the disk. It takes no memory.
     pub fn local(&mut self, number: u64) -> Result<Done, Refusal>
         ensures step { WritesOne number result self.old self.new }
         ensures works { self.old.steady ≡ true → (self.new.faults ≡ self.old.faults) × (self.new.steady ≡ true) }
@@ -43,11 +43,10 @@ impl<O: FrameOut + Drop, I: FrameIn + Drop, S: Store + Drop> Primary<O, I, S> {
 }
 
 impl<O: FrameOut + Drop, I: FrameIn + Drop> Primary<O, I, FaultStore> {
-    /// Has the disk fail a write, after its first `kept` blocks. It does what `local` does then, and
-    /// afterwards no write is armed on the disk.
+    /// Has the disk fail write `number` after its first `kept` blocks, and does what `local` does then. Unless it is
+    /// refused, no write is armed on the disk afterwards.
     ///
-    /// `UnknownJob` (16) comes as there, else `BadRange` (1) if the write has fewer blocks. It takes no
-    /// memory.
+    /// `UnknownJob` (16) as for `local`, else `BadRange` (1) if the write has fewer blocks. It takes no memory.
     pub fn local_fault(&mut self, number: u64, kept: u64) -> Result<Done, Refusal>
         ensures step { IsStep (local_fault_kept number kept) (node self.old) (replied reply.Ok result) (node self.new) }
         ensures works { self.old.steady ≡ true → self.new.steady ≡ true }

@@ -17,12 +17,11 @@ use endpoint::{PacketReceiver, PacketSender};
 use link::{FrameIn, FrameOut};
 
 impl<O: FrameOut + Drop, I: FrameIn + Drop, S: Store + Drop> Primary<O, I, S> {
-    /// Opens the end, over unused ends of a link, with a word for a resync and one for the case that the
-    /// connection is lost.
+    /// Opens the end over unused ends of a link, with one word for a resync and one for the loss of the connection.
     ///
-    /// `NotDrained` (36) if it is open; `UsedIdentifier` (33) if a word is zero, or stands in a
-    /// tuple that is known, or both are one; `StreamFull` (6) if 4,294,967,295 connections were opened;
-    /// else `NoMemory` (7). The new ends are dropped then.
+    /// `NotDrained` (36) if it is open; `UsedIdentifier` (33) if a word is zero or is in a known tuple, or if both
+    /// are equal; `StreamFull` (6) if 4,294,967,295 connections were opened; else `NoMemory` (7). The new ends are
+    /// dropped then.
     pub fn open(&mut self, outward: O, inward: I, sync: u64, loss: u64) -> Result<(), Refusal>
         requires outward { IsNewOut (O.state outward) }
         requires inward { IsNewIn (I.state inward) }
@@ -40,18 +39,18 @@ impl<O: FrameOut + Drop, I: FrameIn + Drop, S: Store + Drop> Primary<O, I, S> {
         Ok(())
     }
 
-    /// Whether `open` with these words is refused, but for want of memory: `NotDrained` (36), `UsedIdentifier`
-    /// (33) and `StreamFull` (6) come as there. It changes nothing, and takes no memory.
+    /// Checks whether `open` would accept these words, except for memory: `NotDrained` (36), `UsedIdentifier` (33)
+    /// and `StreamFull` (6) as for `open`. It changes nothing, and takes no memory.
     pub fn may_open(&self, sync: u64, loss: u64) -> Result<(), Refusal>
         ensures { (h : PrimaryHistory) → NodeHas (node self.now) h → refusal_in result ≡ first_refusal (open_tests h sync loss false) }
     {
         self.core.may_open(sync, loss)
     }
 
-    /// Opens the end anew, over the ends of a link that it has, and answers the connection's number. The
-    /// caller owes that it was opened before.
+    /// Opens the end again, over the ends of the link that it has, and returns the connection's number. The node
+    /// must have been opened before.
     ///
-    /// `NotDrained` (36), `UsedIdentifier` (33), `StreamFull` (6) and `NoMemory` (7) come as for `open`.
+    /// `NotDrained` (36), `UsedIdentifier` (33), `StreamFull` (6) and `NoMemory` (7) as for `open`.
     pub fn reopen(&mut self, sync: u64, loss: u64) -> Result<u32, Refusal>
         requires opened { is_some self.old.outgoing ≡ true }
         requires opened_too { is_some self.old.incoming ≡ true }

@@ -14,8 +14,8 @@ use link::{FrameIn, FrameOut};
 impl<O: FrameOut + Drop, I: FrameIn + Drop, S: Store + Drop> Primary<O, I, S> {
     /// Reads a block of the disk into a buffer of 4,096 bytes.
     ///
-    /// `BadRange` (1) past the disk's end, else `ReadFault` (14) if the disk fails; the buffer then
-    /// holds nothing of use. It takes no memory.
+    /// `BadRange` (1) past the disk's end, else `ReadFault` (14) if the disk fails; the buffer's contents are then
+    /// of no use. It takes no memory.
     pub fn read_block(&mut self, block: Block, buffer: &mut [u8]) -> Result<(), Refusal>
         requires { length buffer.old ≡ BLOCK_BYTES }
         ensures read { OnOk result ((h : PrimaryHistory) → NodeHas (node self.old) h → local_map h block.0 ≡ Some buffer.new) }
@@ -34,10 +34,10 @@ impl<O: FrameOut + Drop, I: FrameIn + Drop, S: Store + Drop> Primary<O, I, S> {
         }
     }
 
-    /// Reads blocks of the disk, `count` from the first one on: 1 to 32 inside the device and inside one extent.
+    /// Reads `count` blocks of the disk, from block `first` on: 1 to 32 inside the device and inside one extent.
     ///
-    /// `BadRange` (1) if they are not that, else `NoMemory` (7) if there is no room for their
-    /// bytes, else `ReadFault` (14) if the disk fails.
+    /// `BadRange` (1) if they are not that, else `NoMemory` (7) if there is no room for their bytes, else
+    /// `ReadFault` (14) if the disk fails.
     pub fn read(&mut self, first: u64, count: u64) -> Result<Vec<u8>, Refusal>
         ensures read { IfOk result (λ bytes. (h : PrimaryHistory) → NodeHas (node self.old) h → IsRead (local_map h) first count bytes.items) }
         ensures rest { self.new ≡ record self.old { faults = self.new.faults; steady = self.new.steady } }

@@ -19,7 +19,7 @@ pub enum CompletionKind {
     Alone,
 }
 
-/// That a write was completed, and how. Only `take_completed` makes one, once for each write.
+/// A receipt: the write was completed, and how. Only `take_completed` makes one, once for each write.
 #[derive(Drop, Debug, PartialEq, Eq)]
 pub struct Receipt {
     number: u64,
@@ -45,7 +45,7 @@ impl Model for Receipt {
 }
 
 impl Receipt {
-    // The receipt of a completed write; none of one that is not.
+    // Returns the receipt of a completed write, and none of any other.
     fn of(number: u64, entry: &JournalEntry) -> Option<Receipt>
         ensures { result ≡ receipt_in number entry.now }
     {
@@ -65,35 +65,35 @@ impl Receipt {
         })
     }
 
-    /// The number of the write.
+    /// Returns the number of the write.
     pub fn number(&self) -> u64
         ensures { result ≡ self.now.number }
     {
         self.number
     }
 
-    /// Its first block.
+    /// Returns its first block.
     pub fn first(&self) -> Block
         ensures { result.0 ≡ self.now.first }
     {
         Block(self.first)
     }
 
-    /// How many blocks it has.
+    /// Returns how many blocks it has.
     pub fn count(&self) -> u64
         ensures { result ≡ self.now.count }
     {
         self.count
     }
 
-    /// How it was completed.
+    /// Returns how it was completed.
     pub fn kind(&self) -> CompletionKind
         ensures { kind_as result ≡ self.now.kind }
     {
         self.kind
     }
 
-    /// Where it stood in a connection's stream, if it did.
+    /// Returns its position in a connection's stream, if it had one.
     pub fn home(&self) -> Option<StreamPosition>
         ensures { result ≡ self.now.home }
     {
@@ -102,11 +102,10 @@ impl Receipt {
 }
 
 impl<O: FrameOut + Drop, I: FrameIn + Drop, S: Store + Drop> Primary<O, I, S> {
-    /// The receipt of a write, once.
+    /// Returns the receipt of a completed write, once.
     ///
-    /// `UnknownJob` (16) for a number that was never accepted, or whose receipt was taken;
-    /// `NotCompleted` (9) if the write is open; `LocalFault` (8), once, where the disk failed it. It takes
-    /// no memory, and constant time.
+    /// `UnknownJob` (16) for a number that was never accepted, or whose receipt was taken; `NotCompleted` (9) if
+    /// the write is open; `LocalFault` (8), once, if the disk failed it. It takes no memory, and constant time.
     pub fn take_completed(&mut self, number: u64) -> Result<Receipt, Refusal>
         ensures step { IsStep (take_receipt number) (node self.old) result (node self.new) }
         ensures rest { self.new ≡ record self.old { core = self.new.core } }

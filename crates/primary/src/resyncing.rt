@@ -17,10 +17,9 @@ use link::{FrameIn, FrameOut};
 impl<O: FrameOut + Drop, I: FrameIn + Drop, S: Store + Drop> Primary<O, I, S> {
     /// Reads the block that the resync copies next, and appends it to the stream, in one step.
     ///
-    /// `NotConnected` (12) if the end is closed; `NothingToDo` (10) if no resync runs, a block is
-    /// under way, or no marked block is free; `StreamFull` (6) if the stream has 4,294,967,288 items;
-    /// `NoMemory` (7) if there is no room for the block and its item; else `ReadFault` (14) if the disk
-    /// fails.
+    /// `NotConnected` (12) if the end is closed; `NothingToDo` (10) if no resync runs, a block is under way, or no
+    /// marked block is free; `StreamFull` (6) if the stream has 4,294,967,288 items or more; `NoMemory` (7) if there
+    /// is no room for the block and its item; else `ReadFault` (14) if the disk fails.
     pub fn resync_next(&mut self) -> Result<Done, Refusal>
         ensures step { CopiesOne result self.old self.new }
         ensures works { self.old.steady ≡ true → (self.new.faults ≡ self.old.faults) × (self.new.steady ≡ true) }
@@ -44,8 +43,9 @@ impl<O: FrameOut + Drop, I: FrameIn + Drop, S: Store + Drop> Primary<O, I, S> {
 }
 
 impl<O: FrameOut + Drop, I: FrameIn + Drop> Primary<O, I, FaultStore> {
-    /// Has the disk fail the read of the block that the resync copies next. It does what `resync_next` does
-    /// then: it is refused, `ReadFault` (14) at the last. Afterwards no read is armed on the disk.
+    /// Has the disk fail the read of the block that the resync copies next, and does what `resync_next` does then:
+    /// it is refused, with `ReadFault` (14) at the latest. If that is the refusal, no read is armed on the disk
+    /// afterwards.
     pub fn resync_fault(&mut self) -> Result<Done, Refusal>
         ensures step { NodeSteps (FailsResync (is_out_of_memory result)) (node self.old) (replied reply.Ok result) (node self.new) }
         ensures works { self.old.steady ≡ true → self.new.steady ≡ true }

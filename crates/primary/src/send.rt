@@ -15,12 +15,12 @@ use blocks::{Done, Refusal, Store};
 use link::{FrameIn, FrameOut};
 
 impl<O: FrameOut + Drop, I: FrameIn + Drop, S: Store + Drop> Primary<O, I, S> {
-    /// Sends the next frame that the end owes: of its hello, and then of its stream. Under protocol A that may
-    /// complete a write.
+    /// Sends the next frame: first those of the hello, then those of the stream. Under protocol A this may complete
+    /// a write.
     ///
-    /// `NotConnected` (12) if the end is closed, else `NothingThere` (13) if nothing is due, else
-    /// `NoMemory` (7) if there is no room for a frame with blocks, else `LinkFull` (11) if the link is
-    /// full. The reply tells the link's answer.
+    /// `NotConnected` (12) if the end is closed, else `NothingThere` (13) if nothing is due, else `NoMemory` (7) if
+    /// there is no room for a frame with blocks, else `LinkFull` (11) if the link is full. The reply shows whether
+    /// the link had room.
     pub fn send(&mut self) -> Result<Done, Refusal>
         ensures step { NodeSteps (Sends (has_room result) (is_out_of_memory result)) (node self.old) (replied reply.Ok result) (node self.new) }
         ensures link { link.Sends result self.old.outgoing self.new.outgoing }

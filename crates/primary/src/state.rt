@@ -13,9 +13,9 @@ use primary_core::PrimaryCore;
 use std::alloc::Global;
 use std::marker::Model;
 
-/// The primary node, which owns its disk. It accepts writes, has its disk do them, sends them to its peer in
-/// order, and takes what the peer acknowledges; its core decides what it may do. Invariant: the node has some history
-/// of the model (`NodeHas`), and a partly sent packet is the one that is due.
+/// The primary node, which owns its disk. It accepts writes, has its disk do them, sends them to its peer in order,
+/// and takes the peer's acknowledgements; its core decides what it may do. Invariant: the node refines some model
+/// history (`NodeHas`), and a partly sent packet is the one that is due.
 #[derive(Drop)]
 pub struct Primary<O: FrameOut + Drop, I: FrameIn + Drop, S: Store + Drop> {
     pub(crate) alloc: Global,
@@ -36,12 +36,12 @@ impl<O: FrameOut + Drop, I: FrameIn + Drop, S: Store + Drop> Model for Primary<O
 }
 
 impl<O: FrameOut + Drop, I: FrameIn + Drop, S: Store + Drop> Primary<O, I, S> {
-    /// A closed primary that was never opened, with its disk, that disk's generation identifiers, and for
+    /// Creates a closed primary that was never opened, with its disk, that disk's generation identifiers, and for
     /// each block whether it is marked.
     ///
-    /// `BadSetting` (15) if a setting is out of its range, where the disk or the list of marks has
-    /// another size than the settings say, and where the current identifier is zero; else `NoMemory` (7),
-    /// where there is no memory. A refused disk is dropped.
+    /// `BadSetting` (15) if a setting is out of its range, if the disk or the list of marks has another size than
+    /// the settings say, or if the current identifier is zero; else `NoMemory` (7) if there is no memory. A refused
+    /// disk is dropped.
     pub fn new(
         alloc: Global,
         settings: Settings,

@@ -15,15 +15,15 @@ use bytes::Bytes;
 use link::{FrameIn, FrameOut};
 
 impl<O: FrameOut + Drop, I: FrameIn + Drop, S: Store + Drop> Primary<O, I, S> {
-    /// Accepts a write of whole blocks from the first one on, and answers its number; the bytes are shared.
-    /// With a stream it goes there, and without one its blocks are marked.
+    /// Accepts a write of whole blocks, from block `first` on, and returns its number; the bytes are shared. If a
+    /// connection is established, the write goes to its stream, otherwise its blocks are marked.
     ///
-    /// `BadRange` (1) if it is not 1 to 32 whole blocks inside the device and inside one extent;
-    /// `NotConnected` (12) without a stream, where the bitmap records no generation; `JournalFull` (5) where
-    /// 1,048,576 writes were accepted; `LogFull` (3) if `backlog` writes are unreleased; `Conflict` (2)
-    /// where an open write, or for 0 the block under way, has a block of it; `ActivityFull` (4) if its
-    /// extent is not active and cannot become so; `StreamFull` (6) if the stream has 4,294,967,288 items;
-    /// else `NoMemory` (7) if there is no room for it and all that it may want later.
+    /// `BadRange` (1) if it is not 1 to 32 whole blocks inside the device and inside one extent; `NotConnected` (12)
+    /// if no connection is established and the bitmap records no generation; `JournalFull` (5) if 1,048,576 writes
+    /// were accepted; `LogFull` (3) if `backlog` writes are unreleased; `Conflict` (2) if an open write overlaps it,
+    /// or the block under way does, whose number here is 0; `ActivityFull` (4) if its extent is not active and cannot
+    /// become so; `StreamFull` (6) if the stream has 4,294,967,288 items or more; else `NoMemory` (7) if there is no
+    /// room for it and all that it may need later.
     pub fn submit(&mut self, first: u64, bytes: &Bytes) -> Result<(u64, Done), Refusal>
         ensures step { NodeSteps (Submits first (whole_blocks bytes.now) (is_out_of_memory result)) (node self.old) (replied (λ told. reply.Ok told.1) result) (node self.new) }
         ensures number { IfOk result (λ told. told.1.what ≡ what.Write told.0) }

@@ -13,56 +13,56 @@ use link::{FrameIn, FrameOut};
 use primary_core::JournalEntry;
 
 impl<O: FrameOut + Drop, I: FrameIn + Drop, S: Store + Drop> Primary<O, I, S> {
-    /// The settings.
+    /// Returns the settings.
     pub fn settings(&self) -> Settings
         ensures { (h : PrimaryHistory) → NodeHas (node self.now) h → result ≡ h.settings }
     {
         self.core.settings()
     }
 
-    /// The disk's generation identifiers.
+    /// Returns the disk's generation identifiers.
     pub fn tuple(&self) -> Tuple
         ensures { (h : PrimaryHistory) → NodeHas (node self.now) h → result ≡ h.tuple }
     {
         self.core.tuple()
     }
 
-    /// The peer's generation identifiers, as last seen.
+    /// Returns the peer's generation identifiers, as last seen.
     pub fn peer(&self) -> Option<Tuple>
         ensures { (h : PrimaryHistory) → NodeHas (node self.now) h → result ≡ h.peer }
     {
         self.core.peer()
     }
 
-    /// How many connections were opened.
+    /// Returns how many connections were opened.
     pub fn connections(&self) -> u32
         ensures { (h : PrimaryHistory) → NodeHas (node self.now) h → result ≡ length h.connections }
     {
         self.core.connection()
     }
 
-    /// Whether the end is open.
+    /// Returns whether the end is open.
     pub fn is_open(&self) -> bool
         ensures { (h : PrimaryHistory) → NodeHas (node self.now) h → result ≡ not (primary_connection h).closed }
     {
         self.core.is_open()
     }
 
-    /// Whether the stream has begun: the hello is done.
+    /// Returns whether the connection is established: the peer's hello was taken.
     pub fn is_established(&self) -> bool
         ensures { (h : PrimaryHistory) → NodeHas (node self.now) h → result ≡ is_established (primary_connection h) }
     {
         self.core.is_established()
     }
 
-    /// Whether a resync goes on.
+    /// Returns whether a resync runs.
     pub fn is_resync(&self) -> bool
         ensures { (h : PrimaryHistory) → NodeHas (node self.now) h → result ≡ resync_runs (primary_connection h) }
     {
         self.core.is_resync()
     }
 
-    /// How many items were sent on the last connection.
+    /// Returns how many items were sent on the last connection.
     pub fn items_sent(&self) -> u32
         ensures { (h : PrimaryHistory) → NodeHas (node self.now) h → result ≡ items_sent (primary_connection h) }
     {
@@ -74,36 +74,36 @@ impl<O: FrameOut + Drop, I: FrameIn + Drop, S: Store + Drop> Primary<O, I, S> {
         pushed.saturating_sub(u64::from(HELLO_FRAMES)) as u32
     }
 
-    /// How many writes were accepted, which is the number of the last one.
+    /// Returns how many writes were accepted, which is the number of the last one.
     pub fn accepted(&self) -> u64
         ensures { (h : PrimaryHistory) → NodeHas (node self.now) h → result ≡ length h.writes }
     {
         self.core.accepted()
     }
 
-    /// The journal: an entry for each accepted write, by number, the first being 1.
+    /// Returns the journal: an entry for each accepted write, by number, the first being 1.
     pub fn journal(&self) -> &[JournalEntry]
         ensures { result.now ≡ self.now.core.entries }
     {
         self.core.entries()
     }
 
-    /// How many blocks are marked.
+    /// Returns how many blocks are marked.
     pub fn marks(&self) -> u32
         ensures { (h : PrimaryHistory) → NodeHas (node self.now) h → result ≡ length (marked_blocks h) }
     {
         self.core.marks()
     }
 
-    /// How many writes are neither completed nor failed. It takes time for each number from the first unreleased
-    /// write on.
+    /// Returns how many writes are neither completed nor failed. It takes time for each number from the first
+    /// unreleased write on.
     pub fn incomplete(&self) -> u32
         ensures { (h : PrimaryHistory) → NodeHas (node self.now) h → result ≡ incomplete h }
     {
         self.core.open_writes()
     }
 
-    /// How many writes were sent on the connection that stands, and are not answered. It takes time for each
+    /// Returns how many writes were sent on the established connection and are not answered. It takes time for each
     /// number from the first unreleased write on.
     pub fn unanswered(&self) -> u32
         ensures { (h : PrimaryHistory) → NodeHas (node self.now) h → result ≡ unanswered h }
@@ -111,14 +111,14 @@ impl<O: FrameOut + Drop, I: FrameIn + Drop, S: Store + Drop> Primary<O, I, S> {
         self.core.unanswered_writes()
     }
 
-    /// How many epochs of the stream have a write or a resync block and are not acknowledged.
+    /// Returns how many epochs of the stream have a write or a resync block and are not acknowledged.
     pub fn open_epochs(&self) -> u64
         ensures { (h : PrimaryHistory) → NodeHas (node self.now) h → result ≡ open_epochs h }
     {
         self.core.open_epochs()
     }
 
-    /// Whether the block is marked.
+    /// Returns whether the block is marked.
     pub fn is_marked(&self, block: Block) -> bool
         ensures { (h : PrimaryHistory) → NodeHas (node self.now) h → result ≡ is_marked h block.0 }
     {

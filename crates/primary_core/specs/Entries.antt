@@ -1,4 +1,4 @@
--- What the fields of an accepted write stand for.
+-- The fields of an accepted write as plain values.
 use Rattle.std.specs.Prelude.{ℕ, zero, suc, Bool, true, false, not, List, unwrap_or, slice_get}
 use Rattle.primary_protocol.specs.Core as core
 use Rattle.primary_core.specs.declared.entry.Fate.{Fate}

@@ -1,4 +1,4 @@
--- What the fields of an item that waits to be sent stand for.
+-- The fields of an item that waits to be sent as plain values.
 use Rattle.std.specs.Prelude.{◌≡◌, ◌*◌, ◌/◌, ◌<◌, ◌≤◌, ◌^◌, length}
 use Rattle.blocks.specs.Contents.{blocks_of}
 use Rattle.model.specs.Stream.{StreamItem, WriteItem, ResyncItem, BarrierItem, SyncUuidItem, UuidsItem}

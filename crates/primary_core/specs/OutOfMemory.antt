@@ -1,4 +1,4 @@
--- What is taken to have been refused for want of memory.
+-- Results that say that memory was refused.
 use Rattle.std.specs.Prelude.{Bool, true, false, Result, Err}
 use Rattle.blocks.specs.declared.refusal.Refusal.{Refusal}
 use Rattle.blocks.specs.declared.refusal.Refusal.TheVariants.{NoMemory}

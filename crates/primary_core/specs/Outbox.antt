@@ -24,7 +24,7 @@ numbers (BarrierItem epoch ∷ items) = epoch ∷ numbers items
 numbers (SyncUuidItem word ∷ items) = numbers items
 numbers (UuidsItem tuple ∷ items) = numbers items
 
--- so many consecutive numbers, from the first one on
+-- `n` consecutive numbers from the first one on
 abbrev pub run : ℕ → ℕ → List ℕ
 run first zero = []
 run first (suc n) = first ∷ run (first + 1) n

@@ -7,7 +7,7 @@ use Rattle.resync.specs.Next.{next_block}
 use Rattle.primary_protocol.specs.Core.{PrimaryState}
 use Rattle.primary_protocol.specs.Transitions.{resync_tests}
 
--- the lowest free marked block, where no test refuses it
+-- the lowest marked block that no interval covers, if no test refuses it
 abbrev pub resync_choice : Bool → PrimaryState → Result ℕ Refusal
 resync_choice out_of_memory s = elim s.end [
   | None ↦ Err NotConnected

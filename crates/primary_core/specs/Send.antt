@@ -1,4 +1,4 @@
--- What is due, and what is left where it is sent.
+-- What is due, and the state after it is sent.
 use Rattle.std.specs.Prelude.{Bool, true, false, Option, None, Some, Result, Ok, Err}
 use Rattle.blocks.specs.declared.outcome.Done.{Done}
 use Rattle.blocks.specs.declared.outcome.What.TheVariants as what
@@ -23,16 +23,16 @@ is_with_blocks (Err refusal) = false
 abbrev pub owes_blocks : PrimaryState → Bool
 owes_blocks s = is_with_blocks (due s)
 
--- the packet that an end owes is sent; nothing is where there is none
+-- sends the due packet of an end, if there is one
 abbrev pub sent_owed : EndState → PrimaryState → Option Packet → Done × PrimaryState
 sent_owed e s None = (done_with what.Nothing, s)
 sent_owed e s (Some packet) = sent_from e (called e s packet) s
 
--- what this end owes is sent, where one is open
+-- sends the due packet of this end, if the end is open
 abbrev pub sent_at : PrimaryState → Option EndState → Done × PrimaryState
 sent_at s None = (done_with what.Nothing, s)
 sent_at s (Some e) = sent_owed e s (owed e s)
 
--- the packet that an open end owes is sent
+-- sends the due packet of an open end
 abbrev pub sent_now : PrimaryState → Done × PrimaryState
 sent_now s = sent_at s s.end

@@ -1,4 +1,4 @@
--- A write is accepted: its tests, and what is left before its item goes to the stream.
+-- Accepting a write: its tests, and the state before its item goes to the stream.
 use Rattle.std.specs.Prelude.{ℕ, ◌≡◌, ◌*◌, nat_le, ◌==◌, true, false, ◌&&◌, not, List, [], ◌∷◌, ◌++◌, length, Some, None, is_some, unwrap_or, Result, Ok, Err}
 use Rattle.blocks.specs.declared.refusal.Refusal.{Refusal}
 use Rattle.blocks.specs.declared.refusal.Refusal.TheVariants.{Conflict, LogFull, ActivityFull, JournalFull, StreamFull, NotConnected}
@@ -18,7 +18,7 @@ use Rattle.model.specs.Stream.{WriteItem}
 use Rattle.primary_protocol.specs.Core.{Open, PrimaryState, is_established, appending, following}
 use Rattle.primary_protocol.specs.Transitions.{whole_blocks}
 
--- the tests of a submission of such a range
+-- the tests of a submission, but for those of its range and of memory
 abbrev pub range_tests : ℕ → ℕ → PrimaryState → List Test
 range_tests first count s =
     let met = overlap.conflict first count s.held in
@@ -29,7 +29,7 @@ range_tests first count s =
     )
     ∷ (is_established s && nat_le 4294967288 s.log.epochs.places, StreamFull) ∷ []
 
--- what the tests say
+-- the result of the tests
 abbrev pub told_by : List Test → Result (Unit {0}) Refusal
 told_by tests = elim (first_refusal tests) [ Some refusal ↦ Err refusal | None ↦ Ok tt ]
 
@@ -39,7 +39,7 @@ pub record IsWhole (settings : Settings) (first count : ℕ) (bytes : List ℕ) 
   pub counted : length (whole_blocks bytes) ≡ count
   pub long : length bytes ≡ 4096 * count
 
--- The write is in the log, holds its blocks, and has its extent active.
+-- Puts the write in the log, inserts its interval, and counts it in its extent.
 abbrev pub taken_in : ℕ → ℕ → List ℕ → PrimaryState → Accepted × PrimaryState
 taken_in first count bytes s =
     let accepted = log.accepting first count bytes s.log in (
@@ -52,7 +52,7 @@ taken_in first count bytes s =
       },
     )
 
--- The write's item goes to the stream, or its blocks are marked where there is none; and what follows.
+-- Puts the write's item in the stream, or marks its blocks if there is none; and what follows.
 abbrev pub gone_out : Accepted → ℕ → ℕ → List ℕ → PrimaryState → Done × PrimaryState
 gone_out accepted first count bytes s =
     let item = WriteItem (record { number = accepted.number; first = first; contents = whole_blocks bytes }) in

@@ -14,11 +14,11 @@ use blocks::Refusal;
 use transferlog::TransferLog;
 
 impl PrimaryCore {
-    /// Closes the end: what is unreleased is marked, and no write has a connection any more. Answers how
-    /// many writes were completed by that.
+    /// Closes the end: marks the blocks of every unreleased write, and detaches all writes from the connection.
+    /// Returns how many writes that completed.
     ///
-    /// `NotConnected` (12) if it is closed. It takes no memory, and time for each number from the first
-    /// unreleased one on and for each item that was not sent.
+    /// `NotConnected` (12) if it is closed. It takes no memory, and time for each number from the first unreleased
+    /// one on and for each item that was not sent.
     pub fn close(&mut self) -> Result<u32, Refusal>
         ensures { (result, self.new.state) ≡ close_end self.old.state }
     {
@@ -29,7 +29,7 @@ impl PrimaryCore {
         Ok(self.close_open(loss))
     }
 
-    /// Closes an end with this word for its loss, if one is open.
+    /// Closes the open end, whose loss word is `loss`, as `close` does. Returns how many writes that completed.
     pub(crate) fn close_open(&mut self, loss: u64) -> u32
         ensures { (e : EndState) → e.loss ≡ loss → (result, self.new.state) ≡ closing e self.old.state }
     {
@@ -40,14 +40,14 @@ impl PrimaryCore {
         completed
     }
 
-    // Every unreleased write is marked.
+    // Marks the blocks of every unreleased write.
     fn mark_unreleased(&mut self)
         ensures { self.new.state ≡ record self.old.state { marks = marking (unreleased_blocks self.old.state.log.writes) self.old.state.marks } }
     {
         mark_all(&self.log, &mut self.marks);
     }
 
-    // The peer is lost: the data go on under this word, where the stream had begun.
+    // Starts a new data generation under the loss word, if the connection was established.
     fn lose(&mut self, loss: u64)
         ensures { self.new.state ≡ record self.old.state { tuple = if is_established self.old.state then lost loss self.old.state.tuple else self.old.state.tuple } }
     {
@@ -56,7 +56,7 @@ impl PrimaryCore {
         }
     }
 
-    // No stream stands any more. Answers how many writes were completed by that.
+    // Detaches all writes from the connection, and drops it. Returns how many writes that completed.
     fn drain(&mut self) -> u32
         ensures { (result, self.new.state) ≡ without_stream self.old.state }
     {
@@ -66,7 +66,7 @@ impl PrimaryCore {
     }
 }
 
-// Every unreleased write is marked.
+// Marks the blocks of every unreleased write.
 fn mark_all(log: &TransferLog, marks: &mut Bitmap)
     requires { Each (IsInside (length marks.old)) log.now.state.writes }
     ensures { marks.new ≡ marking (unreleased_blocks log.now.state.writes) marks.old }

@@ -3,7 +3,8 @@ use crate::outbox::Outbox;
 use handshakes::Handshake;
 use resync::Resync;
 
-/// An open connection: its two words, its handshake, the items of its stream that are due, its resync.
+/// An open connection: its words for a resync and for its loss, its handshake, the unsent items of its stream, and
+/// its resync.
 #[derive(Drop)]
 pub(crate) struct Connection {
     pub(crate) sync: u64,

@@ -13,15 +13,15 @@ use blocks::{Done, Range, Refusal, What};
 use transferlog::{Local, Write};
 
 impl PrimaryCore {
-    /// The lowest number of a write that the local disk has to do. It takes constant time.
+    /// Returns the lowest number of a write that waits for the local disk. It takes constant time.
     pub fn next(&self) -> Option<u64>
         ensures { result ≡ option_map (λ w. w.number) (find is_waiting self.now.state.log.writes) }
     {
         self.log.next_local()
     }
 
-    /// The write of a number, which the local disk has to do: its blocks, which lie in the device, and their
-    /// bytes. `UnknownJob` (16) if the local disk has not that to do.
+    /// Returns write `number`, which waits for the local disk: its blocks, which lie in the device, and their
+    /// bytes. `UnknownJob` (16) if it does not wait for the local disk.
     pub fn start(&self, number: u64) -> Result<&Write, Refusal>
         ensures write { MatchResult result (λ w. (write_at number self.now.state.log.writes ≡ Some w.now) × (w.now.local ≡ Waiting)) (λ e. (e ≡ UnknownJob) × (is_unfinished number self.now.state ≡ false)) }
         ensures unfinished { IfOk result (λ _. is_unfinished number self.now.state ≡ true) }
@@ -35,7 +35,7 @@ impl PrimaryCore {
         }
     }
 
-    /// The local disk has a write, which it had to do. It takes no memory.
+    /// Records that the local disk has done write `number`, which waited for it. It takes no memory.
     pub fn done(&mut self, number: u64) -> Done
         requires { is_unfinished number self.old.state ≡ true }
         ensures { (Ok result, self.new.state) ≡ local_done number self.old.state }
@@ -44,8 +44,8 @@ impl PrimaryCore {
         self.follow(What::Nothing, barrier)
     }
 
-    /// The local disk failed a write, which it had to do: it holds nothing more, its blocks are marked, and
-    /// it is never completed. It takes no memory.
+    /// Records that the local disk failed write `number`, which waited for it: removes its interval, marks its
+    /// blocks, and never completes it. It takes no memory.
     pub fn failed(&mut self, number: u64) -> Done
         requires { is_unfinished number self.old.state ≡ true }
         ensures { (Ok result, self.new.state) ≡ local_fault number self.old.state }
@@ -59,7 +59,7 @@ impl PrimaryCore {
         self.follow(What::Nothing, barrier)
     }
 
-    // The write of these blocks is failed, holds nothing more, and is marked.
+    // Records write `number` as failed, removes its interval, and marks its blocks.
     fn give_up(&mut self, number: u64, range: Range)
         requires numbered { 0 < number }
         requires inside { range.first.0 + range.count ≤ self.old.state.settings.blocks }

@@ -6,10 +6,10 @@ ghost use Rattle.primary_protocol.specs.Core.{with_entry};
 use blocks::StreamPosition;
 use std::marker::Model;
 
-/// What became of an accepted write.
+/// The outcome of an accepted write.
 #[derive(Clone, Copy, Debug, PartialEq, Eq)]
 pub enum Fate {
-    /// Nothing yet: it is open.
+    /// None yet: the write is open.
     Open,
     /// The local disk failed it.
     Failed,
@@ -17,12 +17,12 @@ pub enum Fate {
     Completed {
         /// Whether the peer has answered it, as the protocol asks; else it was completed without the peer.
         linked: bool,
-        /// Where it stands in a connection's stream, if it does.
+        /// Its position in a connection's stream, if it has one.
         home: Option<StreamPosition>,
     },
 }
 
-/// An accepted write as its caller asks for it.
+/// The journal's entry of an accepted write.
 #[derive(Drop)]
 pub struct JournalEntry {
     pub(crate) first: u64,
@@ -42,21 +42,21 @@ impl Model for JournalEntry {
 }
 
 impl JournalEntry {
-    /// Its first block.
+    /// Returns its first block.
     pub fn first(&self) -> u64
         ensures { result ≡ self.now.first }
     {
         self.first
     }
 
-    /// How many blocks it has.
+    /// Returns how many blocks it has.
     pub fn count(&self) -> u64
         ensures { result ≡ self.now.count }
     {
         self.count
     }
 
-    /// What became of it.
+    /// Returns its outcome.
     pub fn fate(&self) -> Fate
         ensures { fate_as result ≡ self.now.fate }
     {
@@ -64,7 +64,7 @@ impl JournalEntry {
     }
 }
 
-/// The receipt of a number was taken. A number that was never accepted changes nothing.
+/// Records that the receipt of write `number` was taken. Changes nothing if that number was never accepted.
 pub(crate) fn set_taken(entries: &mut [JournalEntry], number: u64)
     ensures { entries.new ≡ with_entry number (λ entry. record entry { taken = true }) entries.old }
 {
@@ -78,7 +78,7 @@ pub(crate) fn set_taken(entries: &mut [JournalEntry], number: u64)
     }
 }
 
-/// The write of a number has this fate from now on. A number that was never accepted changes nothing.
+/// Sets the fate of write `number`. Changes nothing if that number was never accepted.
 pub(crate) fn set_fate(entries: &mut [JournalEntry], number: u64, fate: Fate)
     ensures { entries.new ≡ with_entry number (λ entry. record entry { fate = fate_as fate }) entries.old }
 {

@@ -8,8 +8,8 @@ use crate::state::PrimaryCore;
 use blocks::{Done, What};
 
 impl PrimaryCore {
-    /// The journal, then the barrier that the step appended, then the end of the resync, where no block is
-    /// marked and none under way. It takes no memory.
+    /// Applies what the log's step reported, then appends the barrier that the step brought, then ends the resync
+    /// if no block is marked and none is under way. It takes no memory.
     pub(crate) fn follow(&mut self, what: What, barrier: Option<u32>) -> Done
         requires room { IfSome barrier (λ _. owing barrier self.old.state.end self.old.state.log ≤ self.old.stream_room) }
         ensures { (result, self.new.state) ≡ following what barrier self.old.state }

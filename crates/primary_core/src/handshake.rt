@@ -12,7 +12,7 @@ use generations::{decide, stands_in};
 use packets::Packet;
 
 impl PrimaryCore {
-    /// The next frame of the peer's hello.
+    /// Takes the next frame of the peer's hello.
     pub(crate) fn take_hello(&mut self, packet: Packet) -> Result<Done, Refusal>
         requires { self.old.state.log.connection ≡ None }
         ensures { (e : EndState) → self.old.state.end ≡ Some e → taken_as result self.new.state ≡ taking_hello e.heard (meaning packet) (hearing e) self.old.state }
@@ -28,7 +28,7 @@ impl PrimaryCore {
         Ok(Done::about(What::Frame(command, None)))
     }
 
-    // One frame more of the peer's hello was taken.
+    // Counts another frame of the peer's hello as taken.
     fn hear(&mut self)
         ensures { self.new.state ≡ with_end hearing self.old.state }
     {
@@ -37,7 +37,7 @@ impl PrimaryCore {
         }
     }
 
-    // The peer's identifiers decide how the stream begins.
+    // Takes the peer's identifiers, and begins the stream as they decide.
     fn meet(&mut self, peer: Tuple) -> Result<Done, Refusal>
         requires { self.old.state.log.connection ≡ None }
         ensures { (e : EndState) → self.old.state.end ≡ Some e → taken_as result self.new.state ≡ meeting peer (hearing e) self.old.state }
@@ -57,7 +57,7 @@ impl PrimaryCore {
         Ok(self.follow(What::Decided(decided), None))
     }
 
-    // The stream begins, with the resync's SYNC_UUID where there is a resync.
+    // Begins the stream, with the SYNC_UUID of a resync if one was decided.
     fn begin(&mut self, decided: Decision)
         requires { self.old.state.log.connection ≡ None }
         ensures { (e : EndState) → self.old.state.end ≡ Some e → self.new.state ≡ begun_with decided e self.old.state }
@@ -76,7 +76,7 @@ impl PrimaryCore {
         }
     }
 
-    // The stream begins.
+    // Begins the stream.
     fn connect(&mut self)
         requires { self.old.state.log.connection ≡ None }
         ensures state { self.new.state ≡ record self.old.state { log = connecting (last_connection self.old.state) self.old.state.log } }

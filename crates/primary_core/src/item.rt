@@ -1,4 +1,4 @@
-//! Items of the stream that are not sent.
+//! Unsent items of the stream.
 ghost use Rattle.std.specs.Prelude.{ℕ, ◌≡◌, ◌∷◌, [], true, Some, None, if◌then◌else◌, IfOk, IfErr};
 ghost use Rattle.blocks.specs.declared.refusal.Refusal.TheVariants.{NoMemory};
 ghost use Rattle.endpoint.specs.Meaning.{meaning};
@@ -14,7 +14,7 @@ use bytes::Bytes;
 use packets::Packet;
 use std::marker::Model;
 
-/// What an item of the stream says.
+/// The contents of an item of the stream.
 #[derive(Drop)]
 pub(crate) enum ItemKind {
     /// A write: its number, its first block and its bytes.
@@ -29,7 +29,7 @@ pub(crate) enum ItemKind {
     Uuids(Tuple),
 }
 
-/// An item of the stream that was not sent. Its bytes are shared with whoever else has them, and it has a spelling.
+/// An unsent item of the stream. Its bytes are shared, and its packet can be encoded.
 #[derive(Drop)]
 pub(crate) struct StreamItem {
     pub(crate) kind: ItemKind,
@@ -48,7 +48,7 @@ impl Model for StreamItem {
 }
 
 impl StreamItem {
-    /// Its packet, at this place of the stream. `NoMemory` (7) if its bytes cannot be shared.
+    /// Returns its packet for this place in the stream. `NoMemory` (7) if its bytes cannot be shared.
     pub(crate) fn packet(&self, place: u32) -> Result<Packet, Refusal>
         ensures packet { IfOk result (λ p. (meaning p ≡ frame_of place self.now) × IsSpellable p) }
         ensures refused { IfErr result (λ e. e ≡ NoMemory) }
@@ -72,7 +72,7 @@ impl StreamItem {
         })
     }
 
-    /// The name of its frame.
+    /// Returns the command of its frame.
     pub(crate) fn command(&self) -> Command
         ensures { (place : ℕ) → result ≡ command_of (frame_of place self.now) }
     {
@@ -85,7 +85,7 @@ impl StreamItem {
         }
     }
 
-    /// The number of the write, where it is one.
+    /// Returns the number of the write, if it is one.
     pub(crate) fn write(&self) -> Option<u64>
         ensures { result ≡ (if is_write self.now then Some (number_of self.now) else None) }
     {
@@ -95,7 +95,7 @@ impl StreamItem {
         }
     }
 
-    /// The number of the barrier, if it is one.
+    /// Returns the number of the barrier, if it is one.
     pub(crate) fn barrier(&self) -> Option<u32>
         ensures { result ≡ barrier_of self.now }
     {
@@ -105,7 +105,7 @@ impl StreamItem {
         }
     }
 
-    /// Whether it is the barrier of this epoch.
+    /// Returns whether it is the barrier of this epoch.
     pub(crate) fn ends(&self, epoch: u32) -> bool
         ensures { result ≡ is_unsent epoch (self.now ∷ []) }
     {

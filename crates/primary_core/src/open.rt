@@ -14,11 +14,11 @@ use handshakes::Handshake;
 use resync::Resync;
 
 impl PrimaryCore {
-    /// Opens the end, with a word for a resync and one for the case that the connection is lost.
+    /// Opens the end, with one word for a resync and one for the loss of the connection.
     ///
-    /// `NotDrained` (36) if it is open; `UsedIdentifier` (33) if a word is zero, or stands in a
-    /// tuple that is known, or both are one; `StreamFull` (6) if 4,294,967,295 connections were opened;
-    /// else `NoMemory` (7) if there is no room for the SYNC_UUID and the UUIDS of a resync.
+    /// `NotDrained` (36) if it is open; `UsedIdentifier` (33) if a word is zero or is in a known tuple, or if both
+    /// are equal; `StreamFull` (6) if 4,294,967,295 connections were opened; else `NoMemory` (7) if there is no
+    /// room for the SYNC_UUID and the UUIDS of a resync.
     pub fn open(&mut self, sync: u64, loss: u64) -> Result<(), Refusal>
         ensures { (result, self.new.state) ≡ open_end sync loss (is_out_of_memory result) self.old.state }
     {
@@ -36,8 +36,8 @@ impl PrimaryCore {
         Ok(())
     }
 
-    /// Whether `open` with these words is refused, but for want of memory: `NotDrained` (36), `UsedIdentifier`
-    /// (33) and `StreamFull` (6) come as there. It changes nothing, and takes no memory.
+    /// Checks whether `open` would accept these words, except for memory: `NotDrained` (36), `UsedIdentifier` (33)
+    /// and `StreamFull` (6) as for `open`. It changes nothing, and takes no memory.
     pub fn may_open(&self, sync: u64, loss: u64) -> Result<(), Refusal>
         ensures { result ≡ told_by (open_tests sync loss false self.now.state) }
     {

@@ -1,4 +1,4 @@
-//! The items of a stream that are due.
+//! The unsent items of a stream.
 ghost use Rattle.std.specs.Prelude.{ℕ, List, true, ◌≡◌, ◌+◌, ◌<◌, ◌≤◌, ◌∷◌, ◌++◌, [], length, slice_index_or, IsSome, IfSome, MatchOption, OnOk, ◌↔◌};
 ghost use Rattle.primary_protocol.specs.Taking.{is_unsent};
 ghost use Rattle.primary_core.specs.Outbox.{run};
@@ -8,8 +8,8 @@ use std::alloc::{AllocError, Global};
 use std::collections::VecDeque;
 use std::marker::Model;
 
-/// The items of a stream that are due, the oldest first. Which barriers wait is known without a walk
-/// while their numbers are consecutive, as those of a stream are.
+/// The unsent items of a stream, the oldest first. While the numbers of the waiting barriers are consecutive, as
+/// those of a stream are, a barrier is found without a walk.
 #[derive(Drop)]
 pub(crate) struct Outbox {
     items: VecDeque<StreamItem>,
@@ -33,7 +33,7 @@ impl Model for Outbox {
 }
 
 impl Outbox {
-    /// No item waits.
+    /// Creates an outbox in which no item waits.
     pub(crate) fn new(alloc: Global) -> Outbox
         ensures { result.items ≡ [] }
     {
@@ -45,14 +45,14 @@ impl Outbox {
         }
     }
 
-    /// How many items wait.
+    /// Returns how many items wait.
     pub(crate) fn len(&self) -> usize
         ensures { result ≡ length self.now.items }
     {
         self.items.len()
     }
 
-    /// The oldest item.
+    /// Returns the oldest item.
     pub(crate) fn next(&self) -> Option<&StreamItem>
         ensures variant { IsSome result ↔ (0 < length self.now.items) }
         ensures lookup { IfSome result (λ x. x.now ≡ slice_index_or self.now.items 0 x.now) }
@@ -69,7 +69,7 @@ impl Outbox {
         self.items.reserve(additional)
     }
 
-    /// An item waits behind all others. It takes no memory.
+    /// Appends an item behind all others. It takes no memory.
     pub(crate) fn push(&mut self, item: StreamItem)
         requires { 0 < self.old.room }
         ensures items { self.new.items ≡ self.old.items ++ item ∷ [] }
@@ -84,7 +84,7 @@ impl Outbox {
         self.items.push_back_reserved(item);
     }
 
-    /// The oldest item waits no more.
+    /// Removes and returns the oldest item.
     pub(crate) fn pop(&mut self) -> Option<StreamItem>
         ensures items { MatchOption result ((self.old.items ≡ []) × (self.new.items ≡ [])) (λ item. self.old.items ≡ item ∷ self.new.items) }
         ensures room { self.old.room ≤ self.new.room }
@@ -97,7 +97,7 @@ impl Outbox {
         Some(item)
     }
 
-    /// No item waits any more.
+    /// Removes all items.
     pub(crate) fn clear(&mut self)
         ensures items { self.new.items ≡ [] }
         ensures room { self.old.room ≤ self.new.room }
@@ -107,8 +107,8 @@ impl Outbox {
         self.is_run = true;
     }
 
-    /// Whether the barrier of this epoch waits. It takes constant time if the numbers of those that wait are
-    /// consecutive, and else time for each item.
+    /// Returns whether the barrier of this epoch waits. It takes constant time if the numbers of the waiting
+    /// barriers are consecutive, else time for each item.
     pub(crate) fn has_barrier(&self, epoch: u32) -> bool
         ensures { result ≡ is_unsent epoch self.now.items }
     {
@@ -120,7 +120,8 @@ impl Outbox {
     }
 }
 
-// The number of the first barrier, and whether all are a run, after one of this number comes behind `count` others.
+// Returns the number of the first barrier, and whether all numbers are consecutive, once barrier `number` is
+// appended to `count` others.
 fn run_with(first: u64, count: usize, is_run: bool, number: u32) -> (u64, bool)
     ensures { (ns : List ℕ) → length ns ≡ count → (is_run ≡ true → ns ≡ run first count) → result.1 ≡ true → ns ++ number ∷ [] ≡ run result.0 (count + 1) }
 {
@@ -134,7 +135,7 @@ fn run_with(first: u64, count: usize, is_run: bool, number: u32) -> (u64, bool)
     )
 }
 
-// Whether the barrier of this epoch is one of the items.
+// Returns whether the barrier of this epoch is among the items.
 fn is_among(items: &VecDeque<StreamItem>, epoch: u32) -> bool
     ensures { result ≡ is_unsent epoch items.now.items }
 {

@@ -9,11 +9,11 @@ use crate::state::PrimaryCore;
 use blocks::Refusal;
 
 impl PrimaryCore {
-    /// The entry of a write, once.
+    /// Returns the entry of a completed write, once.
     ///
-    /// `UnknownJob` (16) for a number that was never accepted, or whose receipt was taken;
-    /// `NotCompleted` (9) if the write is open; `LocalFault` (8), once, where the local disk failed it. It
-    /// takes no memory, and constant time.
+    /// `UnknownJob` (16) for a number that was never accepted, or whose receipt was taken; `NotCompleted` (9) if
+    /// the write is open; `LocalFault` (8), once, if the local disk failed it. It takes no memory, and constant
+    /// time.
     pub fn take_completed(&mut self, number: u64) -> Result<JournalEntry, Refusal>
         ensures { (result, self.new.state) ≡ take_completed number self.old.state }
     {
@@ -24,7 +24,7 @@ impl PrimaryCore {
         told
     }
 
-    /// Counts no entry as confirmed. It takes time for each of them.
+    /// Resets every entry to unconfirmed. It takes time for each of them.
     pub fn clear_confirmed(&mut self)
         ensures cleared { self.new ≡ record self.old { confirmed = replicate (length self.old.confirmed) false } }
         ensures each { length self.old.confirmed ≡ length self.old.state.entries }
@@ -34,8 +34,8 @@ impl PrimaryCore {
         self.confirmed.fill(false);
     }
 
-    /// Counts the entry of a number as confirmed, and tells whether there is one that was not. It takes no
-    /// memory, and constant time.
+    /// Counts the entry of write `number` as confirmed. Returns whether there is such an entry and it was
+    /// unconfirmed. It takes no memory, and constant time.
     pub fn confirm_entry(&mut self, number: u64) -> bool
         ensures found { result ≡ is_unconfirmed number self.old.confirmed }
         ensures set { self.new ≡ record self.old { confirmed = if result then slice_set self.old.confirmed (number - 1) true else self.old.confirmed } }
@@ -51,7 +51,7 @@ impl PrimaryCore {
         true
     }
 
-    /// The entry of a number, the first being 1.
+    /// Returns the entry of write `number`, the first being 1.
     pub fn entry(&self, number: u64) -> Option<&JournalEntry>
         ensures { option_copied result ≡ entry_at number self.now.state }
     {
@@ -60,7 +60,7 @@ impl PrimaryCore {
     }
 }
 
-// What a caller gets for an entry.
+// Returns what a caller gets for an entry.
 fn told(found: Option<&JournalEntry>) -> Result<JournalEntry, Refusal>
     ensures { result ≡ told (option_copied found.entry) }
 {
@@ -82,7 +82,7 @@ fn told(found: Option<&JournalEntry>) -> Result<JournalEntry, Refusal>
     }
 }
 
-// Whether the receipt counts as taken by this answer.
+// Returns whether the receipt counts as taken after this reply.
 fn is_given(told: &Result<JournalEntry, Refusal>) -> bool
     ensures { result ≡ is_given told.now }
 {

@@ -16,8 +16,8 @@ use overlap::Held;
 use transferlog::{Completed, Released, TransferLog};
 
 impl PrimaryCore {
-    /// Applies what the last call of the log reported: completions go into the journal and free their ranges; releases leave
-    /// the activity log and clear marks.
+    /// Applies what the last call of the log reported: completions go into the journal and free their ranges;
+    /// releases leave the activity log and clear marks.
     pub(crate) fn report(&mut self)
         ensures state { self.new.state ≡ reporting self.old.state }
         ensures room { self.new.stream_room ≡ self.old.stream_room }
@@ -28,7 +28,7 @@ impl PrimaryCore {
         unmark(&self.log, &mut self.marks);
     }
 
-    /// The first write that the log's last step completed.
+    /// Returns the first write that the log's last step completed.
     pub(crate) fn first_completed(&self) -> Option<u64>
         ensures { result ≡ option_map (λ c. c.number) (slice_get self.now.state.log.completed 0) }
     {
@@ -68,7 +68,7 @@ fn leave(released: &[Released], activity: &mut ActivityLog)
     }
 }
 
-// A write that begins with this block is released.
+// Records in the activity log the release of a write that begins at block `first`.
 fn end(activity: &mut ActivityLog, first: Block)
     ensures { activity.new ≡ ended (extent_of first.0) activity.old }
 {
@@ -87,7 +87,7 @@ fn unmark(log: &TransferLog, marks: &mut Bitmap)
     }
 }
 
-// The marks that a release clears.
+// Clears the marks that the release of a write clears.
 fn clear(log: &TransferLog, write: &Released, marks: &mut Bitmap)
     requires size { length log.now.state.latest ≡ length marks.old }
     requires inside { LiesInside (length marks.old) write.now }

@@ -1,4 +1,4 @@
-//! A resync: its beginning, each block's way to the peer, and its end.
+//! The source side of a resync: its beginning, the transfer of each block, and its end.
 ghost use Rattle.std.specs.Prelude.{◌≡◌, ◌<◌, ◌≤◌, length, false, set, true, Ok, Err, Some, OnOk, MatchResult};
 ghost use Rattle.endpoint.specs.Meaning.{meaning, named};
 ghost use Rattle.packets.specs.declared.packet.Packet.TheVariants as packet;
@@ -19,7 +19,7 @@ use packets::Acknowledgement;
 use resync::{UnderWay, next};
 
 impl PrimaryCore {
-    /// A resync begins in a stream that has begun, and the peer is told. It takes no memory.
+    /// Begins a resync on the established connection, and appends SYNC_UUID to its stream. It takes no memory.
     pub(crate) fn begin_resync(&mut self)
         requires is_established { is_established self.old.state ≡ true }
         requires places { self.old.state.log.epochs.places ≡ 0 }
@@ -41,12 +41,12 @@ impl PrimaryCore {
         self.append(ItemKind::SyncUuid(word));
     }
 
-    /// The block that the resync copies next: the lowest marked one that no open write has. There is room
-    /// for its item then, and for its barrier.
+    /// Returns the block that the resync copies next, the lowest marked one that no open write covers, and makes
+    /// room for its item and its barrier.
     ///
-    /// `NotConnected` (12) if the end is closed; `NothingToDo` (10) if no resync runs, a block
-    /// is under way, or no marked block is free; `StreamFull` (6) if the stream has 4,294,967,288 items;
-    /// else `NoMemory` (7) if there is no room.
+    /// `NotConnected` (12) if the end is closed; `NothingToDo` (10) if no resync runs, a block is under way, or no
+    /// marked block is free; `StreamFull` (6) if the stream has 4,294,967,288 items or more; else `NoMemory` (7) if
+    /// there is no room.
     pub fn resync_block(&mut self) -> Result<Block, Refusal>
         ensures block { MatchResult result (λ b. resync_choice false self.old.state ≡ Ok b.0) (λ e. resync_choice (is_out_of_memory result) self.old.state ≡ Err e) }
         ensures same { self.new.state ≡ self.old.state }
@@ -58,7 +58,7 @@ impl PrimaryCore {
         Ok(block)
     }
 
-    // The block that the resync copies next, where there is room for its item.
+    // Returns the block that the resync copies next, as `resync_block` does, but makes no room.
     fn next_block(&self) -> Result<Block, Refusal>
         ensures { MatchResult result (λ b. resync_choice false self.now.state ≡ Ok b.0) (λ e. resync_choice false self.now.state ≡ Err e) }
     {
@@ -77,8 +77,8 @@ impl PrimaryCore {
         Ok(block)
     }
 
-    /// The block that `resync_block` has chosen is under way, with these bytes, which are shared. It takes no
-    /// memory.
+    /// Puts the block that `resync_block` chose under way, and appends it to the stream with these bytes, which are
+    /// shared. It takes no memory.
     pub fn resync_read(&mut self, block: Block, contents: Bytes) -> Done
         requires chosen { resync_choice false self.old.state ≡ Ok block.0 }
         requires whole { length contents ≡ 4096 }
@@ -101,7 +101,8 @@ impl PrimaryCore {
         self.follow(What::Block(block, place), None)
     }
 
-    /// The peer has the block under way.
+    /// Takes the peer's acknowledgement of the block under way. `UnknownAck` (25) if it names anything else, or the
+    /// block was not sent.
     pub(crate) fn block_has_come(&mut self, ack: Acknowledgement) -> Result<Done, Refusal>
         ensures { (e : EndState) → self.old.state.end ≡ Some e → taken_as result self.new.state ≡ taking_ack (meaning (packet.RsWriteAck ack)) e self.old.state }
     {
@@ -113,7 +114,7 @@ impl PrimaryCore {
         Ok(self.follow(What::Frame(Command::RsWriteAck, None), barrier))
     }
 
-    // Whether the acknowledgement names the block under way, which was sent.
+    // Returns whether the acknowledgement names the block under way, and that block was sent.
     fn is_under_way(&self, ack: Acknowledgement) -> bool
         ensures { (e : EndState) → self.now.state.end ≡ Some e → result ≡ names_block (named ack) (next_place e self.now.state) e.under_way }
     {
@@ -125,7 +126,7 @@ impl PrimaryCore {
             && ack.place < self.next_place()
     }
 
-    // The block under way has no mark and holds nothing, and none is under way.
+    // Clears the block's mark and ends its transfer.
     fn release_block(&mut self, block: Block)
         ensures { (e : EndState) → self.old.state.end ≡ Some e → self.new.state ≡ without_block block.0 e self.old.state }
     {
@@ -135,7 +136,7 @@ impl PrimaryCore {
         }
     }
 
-    // The block's mark goes.
+    // Clears the block's mark.
     fn unmark(&mut self, block: Block)
         ensures { self.new.state ≡ record self.old.state { marks = set self.old.state.marks block.0 false } }
     {
@@ -144,7 +145,7 @@ impl PrimaryCore {
         }
     }
 
-    /// Whether the resync that goes on is over: no block is marked, and none is under way.
+    /// Returns whether the running resync is over: no block is marked, and none is under way.
     pub(crate) fn is_over(&self) -> bool
         ensures { result ≡ is_over self.now.state }
     {
@@ -154,7 +155,7 @@ impl PrimaryCore {
         }
     }
 
-    /// The resync ends: the bitmap identifier goes into the history, and the peer is told.
+    /// Ends the resync: moves the bitmap identifier into the history, and appends UUIDS to the stream.
     pub(crate) fn end_resync(&mut self)
         requires over { is_over self.old.state ≡ true }
         ensures { self.new.state ≡ ending self.old.state }

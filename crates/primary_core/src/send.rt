@@ -18,10 +18,10 @@ use blocks::{Done, Refusal, What};
 use packets::Packet;
 
 impl PrimaryCore {
-    /// The next packet that an open end owes: its hello, and then its stream. Its bytes are shared.
+    /// Returns the packet to send next: first those of the hello, then those of the stream. Its bytes are shared.
     ///
-    /// `NotConnected` (12) if the end is closed, `NothingThere` (13) if nothing is due, else
-    /// `NoMemory` (7) if the packet has blocks and their bytes cannot be shared.
+    /// `NotConnected` (12) if the end is closed, `NothingThere` (13) if nothing is due, else `NoMemory` (7) if the
+    /// packet has blocks and their bytes cannot be shared.
     pub fn due(&self) -> Result<Packet, Refusal>
         ensures due { MatchResult result (λ p. (due self.now.state ≡ Ok (meaning p)) × IsSpellable p) (λ e. (due self.now.state ≡ Err e) ⊎ ((e ≡ NoMemory) × IsOk (due self.now.state))) }
         ensures inline { IfOk result (λ p. has_blocks p ≡ owes_blocks self.now.state) }
@@ -39,7 +39,8 @@ impl PrimaryCore {
         }
     }
 
-    /// The packet that was due is sent. Under protocol A that may complete a write. It takes no memory.
+    /// Records that the packet that `due` returns was sent. Under protocol A this may complete a write. It takes no
+    /// memory.
     pub fn sent(&mut self) -> Done
         requires { IsOk (due self.old.state) }
         ensures { (result, self.new.state) ≡ sent_now self.old.state }
@@ -65,7 +66,7 @@ impl PrimaryCore {
         }
     }
 
-    // One frame more of the own hello is said.
+    // Counts another frame of this node's hello as sent.
     fn say(&mut self)
         ensures { self.new.state ≡ with_end (λ e. record e { said = advanced e.said }) self.old.state }
     {
@@ -74,7 +75,7 @@ impl PrimaryCore {
         }
     }
 
-    // The first item that is due is due no more.
+    // Removes and returns the first unsent item.
     fn pop(&mut self) -> Option<StreamItem>
         ensures item { result ≡ slice_get (items_in self.old.state.end) 0 }
         ensures state { self.new.state ≡ with_end (λ e. record e { unsent = drop 1 e.unsent }) self.old.state }
@@ -85,15 +86,15 @@ impl PrimaryCore {
         }
     }
 
-    /// The place of the next item that is sent.
+    /// Returns the place of the next item to send.
     pub(crate) fn next_place(&self) -> u32
         ensures { (e : EndState) → self.now.state.end ≡ Some e → result ≡ next_place e self.now.state }
     {
         u64::from(self.log.places()).saturating_sub(self.unsent() as u64) as u32
     }
 
-    /// Makes room for an item, its barrier and the UUIDS of a resync: in the stream, where a connection is
-    /// open, and in the log.
+    /// Makes room for an item, its barrier and the UUIDS of a resync: in the stream, if a connection is open, and
+    /// in the log.
     pub(crate) fn make_room(&mut self) -> Result<(), Refusal>
         ensures same { self.new.state ≡ self.old.state }
         ensures room { OnOk result ((e : EndState) → self.new.state.end ≡ Some e → 3 ≤ self.new.stream_room) }
@@ -106,8 +107,8 @@ impl PrimaryCore {
         self.log.reserve()
     }
 
-    /// An item comes due at the end of the stream, where a connection is open. Whatever its kind, it does so
-    /// by this call. It takes no memory.
+    /// Appends an item to the stream if a connection is open. Items of every kind are appended by this call. It
+    /// takes no memory.
     pub(crate) fn append(&mut self, kind: ItemKind)
         requires sent { IsSent kind }
         requires room { (e : EndState) → self.old.state.end ≡ Some e → 1 + owing None (Some e) self.old.state.log ≤ self.old.stream_room }

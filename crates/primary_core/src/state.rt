@@ -15,17 +15,20 @@ use std::alloc::Global;
 use std::marker::Model;
 use transferlog::TransferLog;
 
-/// The primary without its disk and its link. Its log, its marks and its held ranges are of one device, and
-/// there is room for the barrier and the closing UUIDS that may yet come to its stream.
+/// The primary without its disk and its link. Invariant: its log, its marks and its open ranges are of one device, and
+/// there is room for the barrier and the closing UUIDS that may still come to its stream.
 ///
-/// A write's life:
+/// A write's life: what each call makes of a write in each state.
 ///
-/// | the write is | `submit` | `done` | `failed` | `sent` | `take` (an answer) | `take` (BARRIER_ACK) | `close` |
-/// |---|---|---|---|---|---|---|---|
-/// | asked for | open | | | | | | |
-/// | open, not on the local disk | | on the local disk, and completed if answered | failed | answered under A | answered under B and C | | without a connection |
-/// | open, on the local disk | | | | completed under A | completed under B and C | | completed |
-/// | completed, or failed | | | | | | released | released |
+/// | call | asked for | open, not on the local disk | open, on the local disk | completed, or failed |
+/// |---|---|---|---|---|
+/// | `submit` | open | | | |
+/// | `done` | | on the local disk, and completed if answered | | |
+/// | `failed` | | failed | | |
+/// | `sent` | | answered under A | completed under A | |
+/// | `take` (an answer) | | answered under B and C | completed under B and C | |
+/// | `take` (BARRIER_ACK) | | | | released |
+/// | `close` | | without a connection | completed | released |
 #[derive(Drop)]
 pub struct PrimaryCore {
     pub(crate) alloc: Global,
@@ -35,10 +38,10 @@ pub struct PrimaryCore {
     pub(crate) connections: u32,
     pub(crate) log: TransferLog,
     pub(crate) entries: Vec<JournalEntry>,
-    // For each entry whether its receipt was confirmed by the settlement under way. No history sees it.
+    // For each entry, whether the settlement under way has confirmed its receipt. No history contains it.
     pub(crate) confirmed: Vec<bool>,
     pub(crate) marks: Bitmap,
-    // What the open writes hold. What the block under way holds stands at its resync.
+    // The ranges of the open writes. The block under way is kept at its resync.
     pub(crate) held: Held,
     pub(crate) activity: ActivityLog,
     pub(crate) connection: Option<Connection>,
@@ -55,10 +58,10 @@ impl Model for PrimaryCore {
 }
 
 impl PrimaryCore {
-    /// A primary that was never opened, with these identifiers and marks, one for each block.
+    /// Creates a primary that was never opened, with these identifiers and marks, one mark for each block.
     ///
-    /// `BadSetting` (15) if `settings.check()` says so, where there are not as many marks as
-    /// blocks, and where the current identifier is zero; else `NoMemory` (7) if there is no memory.
+    /// `BadSetting` (15) if `settings.check()` says so, if there are not as many marks as blocks, or if the current
+    /// identifier is zero; else `NoMemory` (7) if there is no memory.
     pub fn new(
         alloc: Global,
         settings: Settings,

@@ -23,19 +23,20 @@ use transferlog::Accepted;
 /// The most writes that are accepted (this project's limit).
 const MOST_WRITES: u64 = 1_048_576;
 
-/// A stream with this many items takes only those that come unasked (this project's limit).
+/// A stream with this many items takes no further write or resync block, only the items that come unasked (this
+/// project's limit).
 pub(crate) const MOST_ITEMS: u32 = 4_294_967_288;
 
 impl PrimaryCore {
-    /// Accepts a write of whole blocks from the first one on; the bytes are shared. With a stream it goes
-    /// there, and without one its blocks are marked.
+    /// Accepts a write of whole blocks, from block `first` on; the bytes are shared. If a connection is
+    /// established, the write goes to its stream, otherwise its blocks are marked.
     ///
-    /// `BadRange` (1) if it is not 1 to 32 whole blocks inside the device and inside one extent;
-    /// `NotConnected` (12) without a stream, where the bitmap records no generation; `JournalFull` (5) where
-    /// 1,048,576 writes were accepted; `LogFull` (3) if `backlog` writes are unreleased; `Conflict` (2)
-    /// where an open write, or for 0 the block under way, has a block of it; `ActivityFull` (4) if its
-    /// extent is not active and cannot become so; `StreamFull` (6) if the stream has 4,294,967,288 items;
-    /// else `NoMemory` (7) if there is no room for it, its barrier, its entry and its item.
+    /// `BadRange` (1) if it is not 1 to 32 whole blocks inside the device and inside one extent; `NotConnected` (12)
+    /// if no connection is established and the bitmap records no generation; `JournalFull` (5) if 1,048,576 writes
+    /// were accepted; `LogFull` (3) if `backlog` writes are unreleased; `Conflict` (2) if an open write overlaps it,
+    /// or the block under way does, whose number here is 0; `ActivityFull` (4) if its extent is not active and cannot
+    /// become so; `StreamFull` (6) if the stream has 4,294,967,288 items or more; else `NoMemory` (7) if there is no
+    /// room for it, its barrier, its entry and its item.
     pub fn submit(&mut self, first: u64, bytes: &Bytes) -> Result<Done, Refusal>
         ensures { (result, self.new.state) ≡ submit first bytes.now (is_out_of_memory result) self.old.state }
     {
@@ -46,7 +47,7 @@ impl PrimaryCore {
         Ok(self.send_or_mark(accepted, range, shared))
     }
 
-    // The range that these bytes fill from a block on.
+    // Returns the range that these bytes fill from block `first` on.
     fn whole_range(&self, first: u64, bytes: &Bytes) -> Result<Range, Refusal>
         ensures whole { IfOk result (λ r. IsWhole self.now.state.settings r.first.0 r.count bytes.now × (r.first.0 ≡ first)) }
         ensures refused { IfErr result (λ e. (e ≡ BadRange) × (is_range self.now.state.settings first (length (whole_blocks bytes.now)) ≡ false)) }
@@ -61,7 +62,7 @@ impl PrimaryCore {
         )
     }
 
-    // Whether a write of this range is accepted, but for want of memory.
+    // Checks whether `submit` would accept a write of this range, except for memory.
     fn may_submit(&self, range: Range) -> Result<(), Refusal>
         ensures { result ≡ told_by (range_tests range.first.0 range.count self.now.state) }
     {
@@ -85,7 +86,7 @@ impl PrimaryCore {
         Ok(())
     }
 
-    // The lowest number that has a block of the range: 0 for the block under way.
+    // Returns the lowest number whose blocks overlap the range; 0 is the block under way.
     fn conflict(&self, range: Range) -> Option<u64>
         ensures { result ≡ conflict range.first.0 range.count self.now.state.held }
     {
@@ -102,7 +103,7 @@ impl PrimaryCore {
         writes.conflict(range)
     }
 
-    // The write is in the log, holds its blocks, and has its extent active.
+    // Appends the write to the log and the journal, inserts its interval, and activates its extent.
     fn accept(&mut self, range: Range, contents: Bytes) -> Result<Accepted, Refusal>
         requires inside { range.first.0 + range.count ≤ self.old.state.settings.blocks }
         requires whole { length contents ≡ 4096 * range.count }
@@ -128,7 +129,7 @@ impl PrimaryCore {
         Ok(accepted)
     }
 
-    // The write's item goes to the stream, or its blocks are marked where there is none.
+    // Appends the write's item to the stream, or marks its blocks if no connection is established.
     fn send_or_mark(&mut self, accepted: Accepted, range: Range, contents: Bytes) -> Done
         requires inside { range.first.0 + range.count ≤ self.old.state.settings.blocks }
         requires whole { length contents ≡ 4096 * range.count }
@@ -146,7 +147,7 @@ impl PrimaryCore {
     }
 }
 
-// A write holds its blocks, and has its extent active.
+// Inserts the interval of write `number`, and activates its extent.
 fn begin(
     held: &mut Held,
     activity: &mut ActivityLog,

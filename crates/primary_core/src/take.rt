@@ -13,12 +13,12 @@ use packets::{Acknowledgement, Packet};
 use transferlog::{Answer, Named};
 
 impl PrimaryCore {
-    /// Takes a packet, or the fault that stands in its place.
+    /// Takes a packet, or the fault that was read in its place.
     ///
-    /// `NotConnected` (12) if the end is closed. Every other refusal closes it, with all effects of
-    /// a close: the fault (20 to 23); `BadCommand` (21) for a packet that does not belong here; in the hello
-    /// `OtherProtocol` (34), `OtherSize` (35), `UsedIdentifier` (33) and what the decision says (30 to 32);
-    /// then `UnknownAck` (25) and `BadBarrierAck` (24). It takes no memory.
+    /// `NotConnected` (12) if the end is closed. Every other refusal closes it, with all effects of a close: the
+    /// fault (20 to 23); `BadCommand` (21) for a packet that does not belong here; in the hello `OtherProtocol`
+    /// (34), `OtherSize` (35), `UsedIdentifier` (33) and the refusals of the decision (30 to 32); after it
+    /// `UnknownAck` (25) and `BadBarrierAck` (24). It takes no memory.
     pub fn take(&mut self, frame: Result<Packet, Refusal>) -> Result<Done, Refusal>
         ensures { (result, self.new.state) ≡ take_at (received frame) self.old.state }
     {
@@ -33,7 +33,7 @@ impl PrimaryCore {
         taken
     }
 
-    // What the frame does before a refused one closes the end.
+    // Takes the frame. `take` closes the end if this refuses it.
     fn judge(&mut self, frame: Result<Packet, Refusal>) -> Result<Done, Refusal>
         ensures { (e : EndState) → self.old.state.end ≡ Some e → taken_as result self.new.state ≡ taking (received frame) e self.old.state }
     {
@@ -50,7 +50,7 @@ impl PrimaryCore {
         }
     }
 
-    // The peer answers a write.
+    // Takes the peer's answer to a write.
     fn answer(
         &mut self,
         command: Command,
@@ -63,8 +63,8 @@ impl PrimaryCore {
         Ok(self.follow(What::Frame(command, None), barrier))
     }
 
-    // The peer acknowledges an epoch. An epoch whose barrier was not sent, or whose block is under way, is
-    // not acknowledged.
+    // Takes the peer's acknowledgement of an epoch. Refuses that of an epoch whose barrier was not sent, or to
+    // which the block under way belongs.
     fn confirm(&mut self, number: u32, size: u32) -> Result<Done, Refusal>
         ensures { (e : EndState) → self.old.state.end ≡ Some e → taken_as result self.new.state ≡ confirmed number size e self.old.state }
     {
@@ -75,7 +75,7 @@ impl PrimaryCore {
         Ok(self.follow(What::Frame(Command::BarrierAck, None), None))
     }
 
-    // Whether the epoch's barrier waits to be sent, or the block under way is of it.
+    // Returns whether the epoch's barrier waits to be sent, or the block under way belongs to the epoch.
     fn is_going_on(&self, number: u32) -> bool
         ensures { (e : EndState) → self.now.state.end ≡ Some e → result ≡ (is_unsent number e.unsent || is_in_epoch number e.under_way) }
     {
@@ -88,7 +88,7 @@ impl PrimaryCore {
     }
 }
 
-// What an acknowledgement names, as the log asks for it.
+// Returns what an acknowledgement names, as the log takes it.
 fn as_named(ack: Acknowledgement) -> Named
     ensures { result ≡ asked (named ack) }
 {

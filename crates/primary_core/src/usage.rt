@@ -13,49 +13,49 @@ use blocks::{Block, Settings, Tuple};
 use resync::UnderWay;
 
 impl PrimaryCore {
-    /// The settings.
+    /// Returns the settings.
     pub fn settings(&self) -> Settings
         ensures { result ≡ self.now.state.settings }
     {
         self.settings
     }
 
-    /// The disk's generation identifiers.
+    /// Returns the disk's generation identifiers.
     pub fn tuple(&self) -> Tuple
         ensures { result ≡ self.now.state.tuple }
     {
         self.generations.tuple
     }
 
-    /// The peer's identifiers, as last seen.
+    /// Returns the peer's identifiers, as last seen.
     pub fn peer(&self) -> Option<Tuple>
         ensures { result ≡ self.now.state.peer }
     {
         self.peer
     }
 
-    /// How many connections were opened, which is the number of the last one.
+    /// Returns how many connections were opened, which is the number of the last one.
     pub fn connection(&self) -> u32
         ensures { result ≡ self.now.state.connections }
     {
         self.connections
     }
 
-    /// Whether the end is open.
+    /// Returns whether the end is open.
     pub fn is_open(&self) -> bool
         ensures { result ≡ is_some self.now.state.end }
     {
         self.connection.is_some()
     }
 
-    /// Whether the stream has begun: the hello is done.
+    /// Returns whether the connection is established: the peer's hello was taken.
     pub fn is_established(&self) -> bool
         ensures { result ≡ is_established self.now.state }
     {
         self.log.connection().is_some()
     }
 
-    /// Whether a resync goes on.
+    /// Returns whether a resync runs.
     pub fn is_resync(&self) -> bool
         ensures { result ≡ resync_in self.now.state.end }
     {
@@ -65,14 +65,14 @@ impl PrimaryCore {
         }
     }
 
-    /// How many items its stream has.
+    /// Returns how many items the stream has.
     pub fn places(&self) -> u32
         ensures { result ≡ self.now.state.log.epochs.places }
     {
         self.log.places()
     }
 
-    /// How many items wait to be sent: 0 where the end is closed.
+    /// Returns how many items wait to be sent: 0 if the end is closed.
     pub fn unsent(&self) -> usize
         ensures { result ≡ length (items_in self.now.state.end) }
     {
@@ -82,49 +82,49 @@ impl PrimaryCore {
         }
     }
 
-    /// The accepted writes by number, the first being 1.
+    /// Returns the journal: the entries of the accepted writes by number, the first being 1.
     pub fn entries(&self) -> &[JournalEntry]
         ensures { result.now ≡ self.now.state.entries }
     {
         &self.entries
     }
 
-    /// The marks.
+    /// Returns the bitmap.
     pub fn bitmap(&self) -> &Bitmap
         ensures { result.now ≡ self.now.state.marks }
     {
         &self.marks
     }
 
-    /// Whether the block is marked.
+    /// Returns whether the block is marked.
     pub fn is_marked(&self, block: Block) -> bool
         ensures { result ≡ marked self.now.state.marks block.0 }
     {
         self.marks.is_marked(block)
     }
 
-    /// How many blocks are marked.
+    /// Returns how many blocks are marked.
     pub fn marks(&self) -> u32
         ensures { result ≡ count self.now.state.marks }
     {
         self.marks.count()
     }
 
-    /// How many writes were accepted, which is the number of the last one.
+    /// Returns how many writes were accepted, which is the number of the last one.
     pub fn accepted(&self) -> u64
         ensures { result ≡ self.now.state.log.accepted }
     {
         self.log.accepted()
     }
 
-    /// The block under way, with its place in the stream and its epoch.
+    /// Returns the block under way, with its place in the stream and its epoch.
     pub(crate) fn under_way(&self) -> Option<UnderWay>
         ensures { option_map way_of result ≡ way_in self.now.state.end }
     {
         self.connection.as_ref()?.resync.under_way()
     }
 
-    /// How many writes are neither completed nor failed. It takes time for each number from the first
+    /// Returns how many writes are neither completed nor failed. It takes time for each number from the first
     /// unreleased write on.
     pub fn open_writes(&self) -> u32
         ensures { result ≡ length (filter is_open self.now.state.log.writes) }
@@ -132,7 +132,7 @@ impl PrimaryCore {
         self.log.open()
     }
 
-    /// How many writes were sent on the connection that stands, and are not answered. It takes time for each
+    /// Returns how many writes were sent on the established connection and are not answered. It takes time for each
     /// number from the first unreleased write on.
     pub fn unanswered_writes(&self) -> u32
         ensures { result ≡ length (filter is_unanswered self.now.state.log.writes) }
@@ -140,14 +140,14 @@ impl PrimaryCore {
         self.log.unanswered()
     }
 
-    /// How many epochs of the stream have an item and are not acknowledged.
+    /// Returns how many epochs of the stream have an item and are not acknowledged.
     pub fn open_epochs(&self) -> u64
         ensures { result ≡ unacknowledged self.now.state.log.epochs }
     {
         self.log.open_epochs()
     }
 
-    /// How many writes are not released.
+    /// Returns how many writes are not released.
     pub fn unreleased(&self) -> u32
         ensures { result ≡ length self.now.state.log.writes }
     {

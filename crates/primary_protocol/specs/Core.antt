@@ -22,13 +22,14 @@ use Rattle.overlap.specs.Holdings.{Holding}
 use Rattle.activitylog.specs.Activity.{ActivityState, ended}
 use Rattle.bitmap.specs.Marks.{marked}
 
--- What became of an accepted write: it is open, the local disk failed it, or it was completed, over the link or without it.
+-- What became of an accepted write: it is open, the local disk failed it, or it was completed, over the link or without
+-- it.
 pub data Fate : Type 0 where
   Open : Fate
   Failed : Fate
   Completed : (linked : Bool) (home : Option StreamPosition) → Fate
 
--- An accepted write as its caller will ask for it: its blocks, what became of it, and whether its receipt was taken.
+-- An accepted write as its caller asks for it: its range, what became of it, and whether its receipt was taken.
 pub record JournalEntry : Type 0 where
   pub first : ℕ
   pub count : ℕ
@@ -41,9 +42,9 @@ pub record UnderWay : Type 0 where
   pub place : ℕ
   pub epoch : ℕ
 
--- An open end: its two words, the tuple that its hello names, how many frames of the peer's hello were taken and of its own
--- pushed (3 at most), the items of its stream that were not pushed, and, where its stream has begun a resync that goes on,
--- whether it does and what that has under way.
+-- An open end: its two words, the tuple that its hello names, how many frames of the peer's hello were taken and of its
+-- own pushed (3 at most), the items of its stream that were not pushed, whether a resync is running, and the block that
+-- it has under way.
 pub record EndState : Type 0 where
   pub sync : ℕ
   pub loss : ℕ
@@ -54,9 +55,9 @@ pub record EndState : Type 0 where
   pub resync : Bool
   pub under_way : Option UnderWay
 
--- A primary: its identifiers and the peer's as last seen, how many connections it opened, the transfer log with the epochs of
--- the stream, all accepted writes by number, the marks, which blocks are held by open writes and by the block under way (0),
--- the activity log, and its end where that is open. The stream has begun where the log has a connection.
+-- A primary: its identifiers and the peer's as last seen, how many connections it opened, the transfer log with the
+-- epochs of the stream, all accepted writes by number, the marks, the intervals of open writes and of the block under
+-- way (number 0), the activity log, and its end if that is open. The stream has begun if the log has a connection.
 pub record PrimaryState : Type 0 where
   pub settings : Settings
   pub tuple : Tuple
@@ -84,50 +85,50 @@ fresh settings tuple marks = record {
   end = None;
 }
 
--- A step that its tests refuse leaves the state.
+-- A step that its tests refuse leaves the state as it is; otherwise `done` is its outcome.
 abbrev pub tested : {R : Type 0} → PrimaryState → List Test → (Unit {0} → Result R Refusal × PrimaryState) → Result R Refusal × PrimaryState
 tested s tests done = elim (first_refusal tests) [ Some refusal ↦ (Err refusal, s) | None ↦ done tt ]
 
--- a stream stands
+-- the connection is established
 abbrev pub is_established : PrimaryState → Bool
 is_established s = is_some s.log.connection
 
--- changes the end, where it is open
+-- changes the end, if it is open
 abbrev pub with_end : (EndState → EndState) → PrimaryState → PrimaryState
 with_end f s = record s { end = option_map f s.end }
 
--- items go to the end of the stream
+-- appends items to the stream
 abbrev pub appending : List StreamItem → PrimaryState → PrimaryState
 appending items s = with_end (λ e. record e { unsent = e.unsent ++ items }) s
 
 -- What follows an effect in the same step.
 
--- the entry of one number is changed; numbers begin with 1
+-- changes the entry of one number, counted from 1
 abbrev pub with_entry : ℕ → (JournalEntry → JournalEntry) → List JournalEntry → List JournalEntry
 with_entry number f [] = []
 with_entry number f (entry ∷ entries) = if number == 1 then f entry ∷ entries else entry ∷ with_entry (number - 1) f entries
 
--- a write was completed
+-- records the completed writes in their entries
 abbrev pub entering : List report.Completed → List JournalEntry → List JournalEntry
 entering [] entries = entries
 entering (c ∷ completed) entries = entering completed (with_entry c.number (λ entry. record entry { fate = Completed c.linked c.home }) entries)
 
--- what completed writes held is free
+-- removes the intervals of completed writes
 abbrev pub freeing : List report.Completed → List Holding → List Holding
 freeing [] held = held
 freeing (c ∷ completed) held = freeing completed (overlap.without c.number held)
 
--- released writes leave the activity log
+-- takes released writes out of the activity log
 abbrev pub leaving : List Released → ActivityState → ActivityState
 leaving [] activity = activity
 leaving (r ∷ released) activity = leaving released (ended (extent_of r.first) activity)
 
--- the marks that released writes clear
+-- the marks without those that released writes clear
 abbrev pub unmarking : List Released → List ℕ → List Bool → List Bool
 unmarking released latest marks = map (λ block. marked marks block && not (list_any (λ r. clears r block latest) released)) (below (length marks))
 
--- What the log reports is put down: completions in the entries, what they held is free, releases leave the activity log and
--- clear marks.
+-- Applies what the last call of the log reported: completions go into the entries and free their intervals, and
+-- releases leave the activity log and clear marks.
 abbrev pub reporting : PrimaryState → PrimaryState
 reporting s = record s {
   entries = entering s.log.completed s.entries;
@@ -145,7 +146,7 @@ barrier_item (Some number) = BarrierItem number ∷ []
 abbrev pub is_over : PrimaryState → Bool
 is_over s = elim s.end [ None ↦ false | Some e ↦ (e.resync && is_none e.under_way) && not (list_any (λ mark. mark) s.marks) ]
 
--- the end of a resync at its source
+-- ends a resync at its source: changes the tuple by `sync_end`, and appends it to the stream as UUIDS
 abbrev pub ending : PrimaryState → PrimaryState
 ending s =
     let tuple = sync_end s.tuple in
@@ -155,7 +156,8 @@ ending s =
 abbrev pub done_of : What → Option ℕ → Bool → LogState → Done
 done_of what barrier synced l = record { what = what; completed = option_map (λ c. c.number) (slice_get l.completed 0); barrier = barrier; synced = synced }
 
--- The journal, then the barrier, then the end of the resync: after a step of the log, which answered this barrier.
+-- What follows a step of the log that gave this barrier: the journal, then the barrier, then the end of the resync;
+-- with the step's report.
 abbrev pub following : What → Option ℕ → PrimaryState → Done × PrimaryState
 following what barrier s =
     let parted = appending (barrier_item barrier) (reporting s) in

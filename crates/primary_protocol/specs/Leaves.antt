@@ -1,4 +1,4 @@
--- Which histories leave a primary's state.
+-- The relation between a primary's state and the model histories that leave it.
 use Rattle.std.specs.Prelude.{ℕ, zero, suc, ◌+◌, ◌-◌, ◌≡◌, ◌<◌, ◌≤◌, nat_lt, nat_le, ◌==◌, Bool, true, false, not, if◌then◌else◌, List, [], ◌∷◌, ◌++◌, length}
 use Rattle.std.specs.Prelude.{take, drop, map, filter, find, min, Option, Some, None, slice_get}
 use Rattle.std.specs.List.{list_any, concat}
@@ -26,7 +26,7 @@ abbrev pub is_linked : CompletionKind → Bool
 is_linked Linked = true
 is_linked Alone = false
 
--- by what the journal has of a write
+-- the fate of a write by its entry in the journal, if it has one
 abbrev pub fate_in : Option Completion → Fate
 fate_in None = Open
 fate_in (Some entry) = Completed (is_linked entry.kind) entry.home
@@ -47,7 +47,7 @@ entry_of h accepted = record {
   taken = list_any (λ number. number == accepted.write.number) h.receipts;
 }
 
--- the entries are those of the accepted writes, and receipts were taken of such alone
+-- the entries are those of the accepted writes, and receipts were taken only of these
 pub record LeavesEntries (s : PrimaryState) (h : PrimaryHistory) : Type 0 where
   pub entries : s.entries ≡ map (entry_of h) h.writes
   pub receipts : (i number : ℕ) → slice_get h.receipts i ≡ Some number → number ≤ length h.writes
@@ -60,7 +60,7 @@ local_of history.Waiting = local.Waiting
 local_of history.OnDisk = local.OnDisk
 local_of (history.Failed offsets) = local.Failed
 
--- its frame was pushed
+-- the write's frame was pushed
 abbrev pub is_sent : PrimaryHistory → Accepted → Bool
 is_sent h accepted = elim accepted.home [
   | None ↦ false
@@ -82,27 +82,27 @@ logged_of h accepted = record {
   local = local_of accepted.outcome;
 }
 
--- the connection whose stream stands
+-- the index of the established connection
 abbrev pub standing : PrimaryHistory → Option ℕ
 standing h = if is_established (primary_connection h) then Some (last_index h.connections) else None
 
--- the number of the last of these writes that has the block, or else the number that is given
+-- the number of the last of these writes that covers the block, or else the given number
 abbrev pub latest_in : List Accepted → ℕ → ℕ → ℕ
 latest_in [] block number = number
 latest_in (accepted ∷ writes) block number = latest_in writes block (if covers accepted.write block then accepted.write.number else number)
 
--- the numbers after this one, so many of them
+-- the `count` numbers after `n`
 abbrev pub numbers_after : ℕ → ℕ → List ℕ
 numbers_after n zero = []
 numbers_after n (suc count) = suc n ∷ numbers_after (suc n) count
 
--- all of these numbers together
+-- the sum of these numbers
 abbrev pub total : List ℕ → ℕ
 total [] = 0
 total (n ∷ ns) = n + total ns
 
--- The epochs of a stream that stands, of which the first so many are acknowledged. The numbers of the writes up to the end of
--- an epoch are those up to the confirmed one and the sizes of the epochs since.
+-- The log's epochs are those of the established connection's stream; the first `acked` are acknowledged. The writes up
+-- to the end of an epoch are those up to the confirmed number, and as many after it as the sizes of the epochs since.
 pub record LeavesEpochs (l : LogState) (c : PrimaryConnection) : Type 0 where
   pub acked : ℕ
   pub acknowledged : (epoch : ℕ) → 0 < epoch → barrier_acknowledged c epoch ≡ nat_le epoch acked
@@ -119,7 +119,7 @@ pub record LeavesEpochs (l : LogState) (c : PrimaryConnection) : Type 0 where
   pub answered : (place : ℕ) (write : _) → slice_get c.stream place ≡ Some (WriteItem write) → epoch_of c.stream place ≤ acked
       → is_answered_by l.protocol c place (WriteItem write) ≡ true
 
--- The log's writes are what the history leaves. What it last reported is not told.
+-- The log's writes are what the history leaves. Its last report is left open.
 pub record LeavesLog (l : LogState) (h : PrimaryHistory) : Type 0 where
   pub protocol : l.protocol ≡ h.settings.protocol
   pub backlog : l.backlog ≡ h.settings.backlog
@@ -128,7 +128,8 @@ pub record LeavesLog (l : LogState) (h : PrimaryHistory) : Type 0 where
   pub writes : l.writes ≡ map (logged_of h) (unreleased h)
   pub latest : l.latest ≡ map (λ block. latest_in h.writes block 0) (below h.settings.blocks)
 
--- The log's epochs are those of the stream that stands, where each write behind the confirmed ones has its place.
+-- The log's epochs are those of the established connection's stream, in which each write after the confirmed ones has
+-- its place; without a connection they are empty.
 pub record LeavesStream (l : LogState) (h : PrimaryHistory) : Type 0 where
   pub max_epoch : l.epochs.max_epoch ≡ h.settings.max_epoch
   pub on : is_established (primary_connection h) ≡ true → LeavesEpochs l (primary_connection h)
@@ -137,17 +138,17 @@ pub record LeavesStream (l : LogState) (h : PrimaryHistory) : Type 0 where
       → (place : ℕ) × (accepted.home ≡ Some (record { index = last_index h.connections; place = place }))
   pub off : is_established (primary_connection h) ≡ false → l.epochs ≡ empty h.settings.max_epoch
 
--- What is held, and what is active.
+-- Intervals and active extents.
 
--- a block of a resync, as 0 holds it
+-- the interval of a resync block, under number 0
 abbrev pub holding_item : ℕ × StreamItem → Holding
 holding_item entry = holding 0 (first_of entry.1) 1
 
--- an open write, as its number holds its blocks
+-- the interval of an open write, under its number
 abbrev pub holding_write : Accepted → Holding
 holding_write accepted = holding accepted.write.number accepted.write.first (length accepted.write.contents)
 
--- what the block under way and the open writes hold
+-- the intervals of the block under way and of the open writes
 abbrev pub held_of : PrimaryHistory → List Holding
 held_of h = map holding_item (if is_established (primary_connection h) then under_way (primary_connection h) else []) ++ map holding_write (open_writes h)
 
@@ -160,7 +161,7 @@ AreOnce (a ∷ active) = (list_any (λ b. a.extent == b.extent) active ≡ false
 abbrev pub writes_in : ℕ → List Accepted → ℕ
 writes_in extent writes = length (filter (λ accepted. extent == extent_of accepted.write.first) writes)
 
--- The active extents have these writes, none of them twice, and are not more than there are slots.
+-- The activity log counts these writes by extent, has no extent twice, and has no more extents than slots.
 pub record LeavesActivity (a : ActivityState) (slots : ℕ) (writes : List Accepted) : Type 0 where
   pub limit : a.slots ≡ slots
   pub counts : (extent : ℕ) → writes_of extent a.active ≡ writes_in extent writes
@@ -170,7 +171,7 @@ pub record LeavesActivity (a : ActivityState) (slots : ℕ) (writes : List Accep
 
 -- The end.
 
--- the block that a resync has under way
+-- the state's block under way is the one that the connection has under way, or both have none
 abbrev pub UnderWayLeft : Option UnderWay → PrimaryConnection → Type 0
 UnderWayLeft None c = under_way c ≡ []
 UnderWayLeft (Some way) c = (contents : List ℕ) × (under_way c ≡ (way.place, ResyncItem way.block contents) ∷ []) × (epoch_of c.stream way.place ≡ way.epoch)
@@ -188,12 +189,12 @@ pub record LeavesEnd (e : EndState) (c : PrimaryConnection) : Type 0 where
   pub unsent : e.unsent ≡ drop (c.pushed - 3) c.stream
   pub resync : e.resync ≡ resync_runs c
   pub under_way : UnderWayLeft e.under_way c
-  -- no frame that was taken names an item to come
+  -- no taken frame names an item that is not in the stream yet
   pub unasked : (place : ℕ) (item : StreamItem) → length c.stream ≤ place
       → (was_received c place item ≡ false) × (was_written c place item ≡ false) × (was_resynced c place item ≡ false)
   pub unbegun : c.begun ≡ false → (epoch : ℕ) → barrier_acknowledged c epoch ≡ false
 
--- a closed end, or an open one
+-- the end is closed as the connection is, or is the open one that the connection leaves
 abbrev pub EndLeft : Option EndState → PrimaryConnection → Type 0
 EndLeft None c = c.closed ≡ true
 EndLeft (Some e) c = LeavesEnd e c
@@ -204,7 +205,7 @@ EndLeft (Some e) c = LeavesEnd e c
 abbrev pub marks_in : ℕ → (ℕ → Bool) → List Bool
 marks_in blocks marks = map marks (below blocks)
 
--- The journal has each write that is to be completed, and no other.
+-- The journal has each write that can be completed, and no other.
 abbrev pub IsQuiet : PrimaryHistory → Type 0
 IsQuiet h = (i : ℕ) (accepted : Accepted) → slice_get h.writes i ≡ Some accepted → is_completed h accepted.write.number ≡ completes h accepted
 

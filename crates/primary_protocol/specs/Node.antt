@@ -1,4 +1,4 @@
--- A primary with its disk and both ends of its link, and which histories it has.
+-- A primary with its disk and both ends of its link, and the model histories that it refines.
 use Rattle.std.specs.Prelude.{ℕ, ◌≡◌, List, take, slice_get, Result}
 use Rattle.std.specs.Result.{result_map_both}
 use Rattle.blocks.specs.declared.refusal.Refusal.{Refusal}
@@ -30,22 +30,22 @@ pub record NodeLeaves (n : NodeState) (h : PrimaryHistory) : Type 0 where
   pub pushed : n.pushed ≡ take (primary_connection h).pushed (frames_due h.settings (primary_connection h))
   pub taken : n.taken ≡ (primary_connection h).taken
 
--- the node has this history
+-- the node refines this history, which some run of a primary reaches
 pub record NodeHas (n : NodeState) (h : PrimaryHistory) : Type 0 where
   pub leaves : NodeLeaves n h
   pub reached : IsReached h
 
--- some history is had
+-- Invariant: the node refines some model history.
 pub record NodeIsHad (n : NodeState) : Type 0 where
   pub history : PrimaryHistory
   pub has : NodeHas n history
 
--- The call was this step, on whichever history the node had.
+-- The call was this step of the model, for every history that the node refined.
 pub record IsStep {Told : Type 0} (step : PrimaryHistory → Told × PrimaryHistory) (n : NodeState) (told : Told) (next : NodeState) : Type 0 where
   pub said : (h : PrimaryHistory) → NodeHas n h → told ≡ (step h).0
   pub after : (h : PrimaryHistory) → NodeHas n h → NodeHas next (step h).1
 
--- the step of an event, but for taking a receipt, which answers no reply
+-- the model's step of an event; taking a receipt gives no reply of its own
 abbrev pub primary_step : PrimaryEvent → PrimaryHistory → Reply × PrimaryHistory
 primary_step (Opens sync loss out_of_memory) h = step.open_primary sync loss out_of_memory h
 primary_step (Submits first contents out_of_memory) h = step.submit first contents out_of_memory h

@@ -1,4 +1,4 @@
--- Worked examples: what the transitions of a primary answer, where the peer's frames are given.
+-- Worked examples: the replies of a primary's transitions, with given frames of the peer.
 use Rattle.std.specs.Prelude.{ℕ, ◌≡◌, true, false, List, [], ◌∷◌, ◌++◌, replicate, filter, Some, None, slice_get, Result, Ok, Err}
 use Rattle.blocks.specs.declared.tuple.Tuple.{Tuple}
 use Rattle.blocks.specs.declared.settings.Settings.{Settings}
@@ -20,7 +20,7 @@ use Rattle.primary_protocol.specs.Core.{PrimaryState, fresh}
 use Rattle.primary_protocol.specs.Transitions.{open_end, submit, local_done, local_fault, send, close_end, resync_next}
 use Rattle.primary_protocol.specs.Taking.{ack_in}
 
--- what may happen to a primary: a write of one block, filled with a byte, and the frames of its peer are given
+-- the events of an example: a write has one block, filled with a byte, and the peer's frames are given
 pub data Move : Type 0 where
   Opens : (sync loss : ℕ) → Move
   Writes : (first byte : ℕ) → Move
@@ -31,7 +31,7 @@ pub data Move : Type 0 where
   Copies : Move
   Closes : Move
 
--- a step that has nothing to tell, as a report
+-- the result of a step that has nothing to report, as a plain report
 abbrev pub plain : {R : Type 0} → Result R Refusal × PrimaryState → Result Done Refusal × PrimaryState
 plain (Ok done, s) = (Ok (done_with what.Nothing), s)
 plain (Err e, s) = (Err e, s)
@@ -47,7 +47,7 @@ moved (Takes packet) s = ack_in (Some (Ok packet)) false s
 moved Copies s = resync_next (λ block. []) false s
 moved Closes s = plain (close_end s)
 
--- the answers to some moves, and the state after them
+-- the replies to some events, and the state after them
 abbrev pub answers : List Move → PrimaryState → List (Result Done Refusal)
 answers [] s = []
 answers (move ∷ moves) s = let step = moved move s in step.0 ∷ answers moves step.1
@@ -60,7 +60,7 @@ after (move ∷ moves) s = after moves (moved move s).1
 abbrev pub marks_of : PrimaryState → List ℕ
 marks_of s = filter (marked s.marks) (below 8)
 
--- Answers.
+-- Replies.
 
 abbrev pub done : Result Done Refusal
 done = Ok (done_with what.Nothing)
@@ -116,14 +116,14 @@ pub record Synchronous : Type 0 where
       []
   pub held : answers (Writes 2 17 ∷ Writes 2 34 ∷ []) (connected standard) ≡ accepted 1 ∷ Err (refusal.Conflict 1) ∷ []
 
--- Protocol A: it is completed once its frame was sent and the local disk has it, in either order.
+-- Protocol A: a write is completed once its frame was sent and the local disk has it, in either order.
 pub record Asynchronous : Type 0 where
   pub sent_first : answers (Writes 2 170 ∷ Sends ∷ Local 1 ∷ []) (connected (record standard { protocol = protocol.A })) ≡ accepted 1 ∷ item command.Data 0 ∷
       with_barrier 1 (completing 1 done) ∷ []
   pub local_first : answers (Writes 2 170 ∷ Local 1 ∷ Sends ∷ []) (connected (record standard { protocol = protocol.A })) ≡ accepted 1 ∷ done ∷ with_barrier 1
       (completing 1 (item command.Data 0)) ∷ []
 
--- A lost link: what is unreleased is marked, and the generation goes on.
+-- A lost link: unreleased writes are marked, and a new data generation starts.
 pub record Lost : Type 0 where
   pub marks : marks_of (after (Writes 2 170 ∷ Local 1 ∷ Sends ∷ received 2 1 0 ∷ Closes ∷ []) (connected (record standard { protocol = protocol.B }))) ≡ 2 ∷ []
   pub unsent : marks_of (after (Writes 2 170 ∷ Sends ∷ Writes 4 170 ∷ Closes ∷ []) (connected standard)) ≡ 2 ∷ 4 ∷ []
@@ -160,7 +160,7 @@ pub record Resynced : Type 0 where
   pub again : answers (copied 6 3 ∷ []) (after both_copied (two_marked standard)) ≡ Err refusal.UnknownAck ∷ []
   pub lost : (after (both_copied ++ Closes ∷ []) (two_marked standard)).tuple ≡ words 11 7 9 1
 
--- Writes during a resync: the block under way holds up a write to it, and an open write keeps its block from the resync.
+-- Writes during a resync: a write to the block under way is refused, and an open write keeps its block from the resync.
 pub record AmongWrites : Type 0 where
   pub under_way : answers (Copies ∷ Writes 3 204 ∷ Writes 6 221 ∷ Sends ∷ Sends ∷ Sends ∷ copied 3 1 ∷ Copies ∷ []) (two_marked standard)
       ≡ block 3 1 ∷ Err (refusal.Conflict 0) ∷ accepted 3 ∷ item command.SyncUuid 0 ∷ item command.RsDataReply 1 ∷ item command.Data 2 ∷ with_barrier 1
@@ -168,8 +168,8 @@ pub record AmongWrites : Type 0 where
   pub unsent : answers (Sends ∷ Copies ∷ copied 3 1 ∷ []) (two_marked standard) ≡ item command.SyncUuid 0 ∷ block 3 1 ∷ Err refusal.UnknownAck ∷ []
   pub passed_over : answers (Writes 3 204 ∷ Copies ∷ []) (two_marked standard) ≡ accepted 3 ∷ block 6 2 ∷ []
 
--- A connected write over a mark clears it as it is released: by the BARRIER_ACK, or by the local disk where that comes last.
--- A failed write clears nothing, and nothing is cleared under a later write.
+-- A connected write over a mark clears it as it is released: by the BARRIER_ACK, or by the local disk if that comes
+-- last. A failed write clears nothing, and nothing is cleared under a later write.
 pub record Cleared : Type 0 where
   pub before : marks_of (after (Writes 3 204 ∷ Local 3 ∷ Sends ∷ Sends ∷ written 3 3 1 ∷ Sends ∷ []) (two_marked standard)) ≡ 3 ∷ 6 ∷ []
   pub released : marks_of (after (Writes 3 204 ∷ Local 3 ∷ Sends ∷ Sends ∷ written 3 3 1 ∷ Sends ∷ Takes (BarrierAckFrame 1 1) ∷ []) (two_marked standard)) ≡ 6
@@ -187,7 +187,7 @@ pub record Cleared : Type 0 where
   pub later : marks_of (after (Writes 3 204 ∷ Local 3 ∷ Sends ∷ Sends ∷ written 3 3 1 ∷ Writes 3 221 ∷ Sends ∷ Takes (BarrierAckFrame 1 1) ∷ [])
       (two_marked standard)) ≡ 3 ∷ 6 ∷ []
 
--- A hello that is refused closes the end in the same step: a word that the peer has used comes before the decision.
+-- A hello that is refused closes the end in the same step: the test for a used word comes before the decision.
 pub record RefusedHello : Type 0 where
   pub used : slice_get (answers (connecting standard 5 7 (words 9 5 0 0)) (fresh standard (words 1 0 0 0) (replicate 8 false))) 6 ≡ Some
       (Err refusal.UsedIdentifier)

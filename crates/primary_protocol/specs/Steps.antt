@@ -1,4 +1,4 @@
--- Each transition of a primary is its step of the model, on whichever history leaves the state.
+-- Each transition of a primary is its step of the model, for every history that leaves the state.
 use Rattle.std.specs.Prelude.{ℕ, ◌≡◌, Bool, List, [], length, Option, unwrap_or, Result, Ok, Err}
 use Rattle.blocks.specs.declared.tuple.Tuple.{Tuple}
 use Rattle.blocks.specs.declared.settings.Settings.{Settings}
@@ -36,16 +36,16 @@ abbrev pub replied : {R : Type 0} → (R → Reply) → Result R Refusal → Rep
 replied tell (Ok done) = tell done
 replied tell (Err refusal) = reply.Refused refusal
 
--- a step that has nothing to tell
+-- the reply of a step that has nothing to report
 abbrev pub plainly : Unit {0} → Reply
 plainly _ = reply.Ok (done_with what.Nothing)
 
--- The transition answers as the model's step does, and leaves what the step leaves.
+-- The transition gives the reply of the model's step, and its state is the one that the step leaves.
 pub record Agrees {R : Type 0} (tell : R → Reply) (got : Result R Refusal × PrimaryState) (step : Reply × PrimaryHistory) : Type 0 where
   pub reply : replied tell got.0 ≡ step.0
   pub leaves : Leaves got.1 step.1
 
--- a new primary
+-- a new primary's state is the one that the opening leaves
 abbrev pub FreshIsOpening : Type 0
 FreshIsOpening = (settings : Settings) (disk : BlockMap) (tuple : Tuple) (marks : ℕ → Bool)
     → Leaves (fresh settings tuple (marks_in settings.blocks marks)) (primary_opening settings disk tuple marks)
@@ -60,11 +60,11 @@ abbrev pub SubmitsAgree : Type 0
 SubmitsAgree = (first : ℕ) (bytes : List ℕ) (out_of_memory : Bool) (s : PrimaryState) (h : PrimaryHistory) → IsReached h → Leaves s h
     → Agrees reply.Ok (submit first bytes out_of_memory s) (step.submit first (whole_blocks bytes) out_of_memory h)
 
--- its disk does a write
+-- its disk finishes a write
 abbrev pub WritesAgree : Type 0
 WritesAgree = (number : ℕ) (s : PrimaryState) (h : PrimaryHistory) → IsReached h → Leaves s h → Agrees reply.Ok (local_done number s) (step.local_done number h)
 
--- its disk fails a write, and leaves any of its blocks new
+-- its disk fails a write, after any of its blocks were written
 abbrev pub FaultsAgree : Type 0
 FaultsAgree = (number : ℕ) (offsets : List ℕ) (s : PrimaryState) (h : PrimaryHistory) → IsReached h → Leaves s h
     → Agrees reply.Ok (local_fault number s) (step.local_fault number offsets h)
@@ -74,7 +74,7 @@ abbrev pub SendsAgree : Type 0
 SendsAgree = (room out_of_memory : Bool) (s : PrimaryState) (h : PrimaryHistory) → IsReached h → Leaves s h
     → Agrees reply.Ok (send room out_of_memory s) (step.send room out_of_memory h)
 
--- it takes a frame, whatever frame it is
+-- it takes any frame
 abbrev pub TakesAgree : Type 0
 TakesAgree = (frame : Option Received) (out_of_memory : Bool) (s : PrimaryState) (h : PrimaryHistory) → IsReached h → Leaves s h
     → Agrees reply.Ok (ack_in frame out_of_memory s) (step_in.ack_in frame out_of_memory h)
@@ -94,7 +94,7 @@ ResyncFaultsAgree = (out_of_memory : Bool) (s : PrimaryState) (h : PrimaryHistor
 abbrev pub ClosesAgree : Type 0
 ClosesAgree = (s : PrimaryState) (h : PrimaryHistory) → IsReached h → Leaves s h → Agrees reply.Closed (close_end s) (step.close_primary h)
 
--- What a caller is told of a write is what the journal has of it.
+-- What a caller gets for a write is what the journal has of it.
 abbrev pub SameAnswer : ℕ → Result JournalEntry Refusal → Result Completion Refusal → Type 0
 SameAnswer number (Ok entry) (Ok completion) =
     (completion.write.number ≡ number) × (entry.first ≡ completion.write.first) × (entry.count ≡ length completion.write.contents)
@@ -103,7 +103,7 @@ SameAnswer number (Err refusal) (Err other) = refusal ≡ other
 SameAnswer number (Ok entry) (Err other) = ⊥
 SameAnswer number (Err refusal) (Ok completion) = ⊥
 
--- The transition tells what the model's step tells, and leaves what it leaves.
+-- The transition returns what the model's step returns, and its state is the one that the step leaves.
 pub record TellsReceipt (number : ℕ) (s : PrimaryState) (h : PrimaryHistory) : Type 0 where
   pub answer : SameAnswer number (take_completed number s).0 (step.take_completed number h).0
   pub leaves : Leaves (take_completed number s).1 (step.take_completed number h).1

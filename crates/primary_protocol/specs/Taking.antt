@@ -28,22 +28,22 @@ use Rattle.bitmap.specs.Marks.{marking}
 use Rattle.primary_protocol.specs.Core.{UnderWay, EndState, PrimaryState, tested, is_established, following}
 use Rattle.primary_protocol.specs.Transitions.{next_place, closing, logged}
 
--- What a taken frame does: it is accepted, and this is told and left; or it is refused as a protocol error, and this is left
--- before the end closes.
+-- The outcome of taking a frame: accepted, with its report and the state then, or refused as a protocol error, with the
+-- state before the end closes.
 abbrev pub Taken : Type 0
 Taken = Result (Done × PrimaryState) (Refusal × PrimaryState)
 
 -- The hello.
 
--- the number of the last connection, from 0
+-- the index of the last connection, from 0
 abbrev pub last_connection : PrimaryState → ℕ
 last_connection s = s.connections - 1
 
--- one frame more of the peer's hello was taken
+-- counts another taken frame of the peer's hello, up to 3
 abbrev pub hearing : EndState → EndState
 hearing e = record e { heard = if nat_lt e.heard 3 then suc e.heard else e.heard }
 
--- a stream begins with a resync, and these blocks are marked too
+-- begins the stream with a resync, and marks these blocks too
 abbrev pub syncing : (ℕ → Bool) → EndState → PrimaryState → PrimaryState
 syncing such e s = record s {
   tuple = sync_start e.sync s.tuple;
@@ -52,13 +52,14 @@ syncing such e s = record s {
   end = Some (record e { unsent = SyncUuidItem e.sync ∷ []; resync = true });
 }
 
--- The stream begins: with the resync's SYNC_UUID where there is a resync.
+-- Begins the stream after the decision: with SYNC_UUID if that is a resync.
 abbrev pub begun_with : Decision → EndState → PrimaryState → PrimaryState
 begun_with NoSync e s = record s { log = connecting (last_connection s) s.log; end = Some e }
 begun_with BitmapSync e s = syncing (λ block. false) e s
 begun_with FullSync e s = syncing (λ block. true) e s
 
--- The peer's tuple counts as seen, also where the hello is then refused. The words are tested against it, before the decision.
+-- Takes the peer's tuple, which counts as seen even if the hello is then refused. The connection's two words are tested
+-- against it before the decision.
 abbrev pub meeting : Tuple → EndState → PrimaryState → Taken
 meeting peer e s =
     let seen = record s { peer = Some peer } in
@@ -68,11 +69,11 @@ meeting peer e s =
           [ Err refusal ↦ Err (refusal, seen) | Ok decided ↦ Ok (following (what.Decided decided) None (begun_with decided e seen)) ]
     ]
 
--- a frame of the hello was as it should be
+-- accepts a frame of the hello if it fits, and else refuses it
 abbrev pub greeted : Bool → What → Refusal → EndState → PrimaryState → Taken
 greeted good name refusal e s = if good then Ok (done_with name, record s { end = Some e }) else Err (refusal, s)
 
--- the next frame of the hello, by how many were taken before; any other command does not belong here
+-- takes the next frame of the hello, by how many frames were taken before; any other command is refused
 abbrev pub taking_hello : ℕ → Packet → EndState → PrimaryState → Taken
 taking_hello zero (ProtocolFrame asked) e s = greeted (same_protocol asked s.settings.protocol) (what.Frame command.Protocol None) OtherProtocol e s
 taking_hello (suc zero) (SizesFrame blocks) e s = greeted (blocks == s.settings.blocks) (what.Frame command.Sizes None) OtherSize e s
@@ -81,7 +82,7 @@ taking_hello n packet e s = Err (BadCommand, s)
 
 -- Acknowledgements.
 
--- what an acknowledgement names, as the log asks for it
+-- what an acknowledgement names, as the log takes it
 abbrev pub named : Acknowledged → Named
 named ack = record { number = ack.number; place = ack.place; first = ack.first; count = ack.count }
 
@@ -96,7 +97,7 @@ abbrev pub names_block : Acknowledged → ℕ → Option UnderWay → Bool
 names_block ack sent None = false
 names_block ack sent (Some way) = (((ack.first == way.block) && (ack.number == 0)) && ((ack.count == 1) && (ack.place == way.place))) && nat_lt way.place sent
 
--- the block under way has no mark and holds nothing, and none is under way
+-- clears the block's mark and ends its transfer
 abbrev pub without_block : ℕ → EndState → PrimaryState → PrimaryState
 without_block block e s = record s {
   marks = set s.marks block false;
@@ -104,7 +105,7 @@ without_block block e s = record s {
   end = Some (record e { under_way = None });
 }
 
--- the peer has the block under way
+-- the peer acknowledges the block under way
 abbrev pub resynced : ℕ → EndState → PrimaryState → Done × PrimaryState
 resynced block e s =
     let after = log.resync_acked s.log in
@@ -119,14 +120,14 @@ abbrev pub is_in_epoch : ℕ → Option UnderWay → Bool
 is_in_epoch number None = false
 is_in_epoch number (Some way) = way.epoch == number
 
--- the peer has applied an epoch
+-- the peer acknowledges an epoch; its barrier must be sent, and the block under way must not be of it
 abbrev pub confirmed : ℕ → ℕ → EndState → PrimaryState → Taken
 confirmed number size e s =
     if is_unsent number e.unsent || is_in_epoch number e.under_way then Err (BadBarrierAck, s) else
     let said = log.barrier_acked number size s.log in
     elim said.0 [ Err refusal ↦ Err (refusal, s) | Ok done ↦ Ok (logged (what.Frame command.BarrierAck None) (None, said.1) s) ]
 
--- an acknowledgement
+-- takes an acknowledgement
 abbrev pub taking_ack : Packet → EndState → PrimaryState → Taken
 taking_ack (RecvAckFrame ack) e s = answered (what.Frame command.RecvAck None) answer.Received ack s
 taking_ack (WriteAckFrame ack) e s = answered (what.Frame command.WriteAck None) answer.Written ack s
@@ -134,25 +135,25 @@ taking_ack (RsWriteAckFrame ack) e s = if names_block ack (next_place e s) e.und
 taking_ack (BarrierAckFrame number size) e s = confirmed number size e s
 taking_ack packet e s = Err (BadCommand, s)
 
--- A frame as it was read: a fault of its bytes, a frame of the hello, or an acknowledgement.
+-- Takes a frame as it was read: refuses a fault of its bytes, and takes a frame of the hello or an acknowledgement.
 abbrev pub taking : Received → EndState → PrimaryState → Taken
 taking (Err fault) e s = Err (fault, s)
 taking (Ok packet) e s = if is_established s then taking_ack packet e s else taking_hello e.heard packet (hearing e) s
 
--- a protocol error closes the end in the same step, with all effects of its close
+-- the result of a taken frame; a protocol error closes the end in the same step, with all effects of its close
 abbrev pub taken_by : EndState → Taken → Result Done Refusal × PrimaryState
 taken_by e (Ok done) = (Ok done.0, done.1)
 taken_by e (Err error) = (Err error.0, (closing e error.1).1)
 
--- a frame is taken where an end is open
+-- takes a frame, if the end is open
 abbrev pub take_at : Received → PrimaryState → Result Done Refusal × PrimaryState
 take_at frame s = elim s.end [ None ↦ (Err NotConnected, s) | Some e ↦ taken_by e (taking frame e s) ]
 
--- when an open end does not take the next frame, in order
+-- the tests of `ack_in` at an open end, in order
 abbrev pub take_tests : Option Received → Bool → PrimaryState → List Test
 take_tests frame out_of_memory s = (not (is_established s) && out_of_memory, NoMemory) ∷ (is_none frame, NothingThere) ∷ []
 
--- the next frame that the link has for this end, or none
+-- the primary takes the next frame that the link has for it, if there is one
 abbrev pub ack_in : Option Received → Bool → PrimaryState → Result Done Refusal × PrimaryState
 ack_in frame out_of_memory s = elim s.end [
   | None ↦ (Err NotConnected, s)

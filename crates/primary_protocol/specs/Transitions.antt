@@ -31,11 +31,11 @@ use Rattle.primary_protocol.specs.Core.{reporting, following}
 
 -- Open.
 
--- the tuples in which a fresh word may not stand
+-- the tuples that a fresh word is not in: this node's, and the peer's if it was seen
 abbrev pub known_tuples : PrimaryState → List Tuple
 known_tuples s = elim s.peer [ None ↦ s.tuple ∷ [] | Some peer ↦ s.tuple ∷ peer ∷ [] ]
 
--- when an opening is refused, in order
+-- the tests of an opening, in order
 abbrev pub open_tests : ℕ → ℕ → Bool → PrimaryState → List Test
 open_tests sync loss out_of_memory s =
     (is_some s.end, NotDrained) ∷ (not (are_fresh sync loss (known_tuples s)), UsedIdentifier) ∷ (nat_le 4294967295 s.connections, StreamFull) ∷ (
@@ -56,11 +56,11 @@ open_end sync loss out_of_memory s = tested s (open_tests sync loss out_of_memor
 
 -- Submit.
 
--- the blocks that these bytes are; none, where they are not whole blocks
+-- the blocks of these bytes, or none if they are not whole blocks
 abbrev pub whole_blocks : List ℕ → List (List ℕ)
 whole_blocks bytes = if 4096 * (length bytes / 4096) == length bytes then blocks_of 4096 bytes else []
 
--- when a submission is refused, in order
+-- the tests of a submission, in order
 abbrev pub submit_tests : ℕ → ℕ → Bool → PrimaryState → List Test
 submit_tests first count out_of_memory s =
     let met = overlap.conflict first count s.held in
@@ -74,8 +74,8 @@ submit_tests first count out_of_memory s =
     )
     ∷ (is_established s && nat_le 4294967288 s.log.epochs.places, StreamFull) ∷ (out_of_memory, NoMemory) ∷ []
 
--- The write is in the log, holds its blocks, and has its extent active. With a stream it goes there, and without one its range
--- is marked.
+-- Accepts the write: puts it in the log, inserts its interval, and counts it in its extent. On an established
+-- connection it goes to the stream; without one its range is marked.
 abbrev pub submitted : ℕ → ℕ → List ℕ → PrimaryState → Done × PrimaryState
 submitted first count bytes s =
     let accepted = log.accepting first count bytes s.log in
@@ -104,16 +104,16 @@ submit first bytes out_of_memory s =
 abbrev pub is_unfinished : ℕ → PrimaryState → Bool
 is_unfinished number s = elim (write_at number s.log.writes) [ None ↦ false | Some w ↦ is_waiting w ]
 
--- a step of the log is put down, and what follows
+-- applies a step of the log, and what follows it
 abbrev pub logged : What → Option ℕ × LogState → PrimaryState → Done × PrimaryState
 logged name change s = following name change.0 (record s { log = change.1 })
 
--- the local disk does a write
+-- the local disk finishes a write
 abbrev pub local_done : ℕ → PrimaryState → Result Done Refusal × PrimaryState
 local_done number s =
     tested s ((not (is_unfinished number s), UnknownJob) ∷ []) (λ _. let after = logged what.Nothing (log.local_done number s.log) s in (Ok after.0, after.1))
 
--- the local disk fails a write: it holds nothing more, and its range is marked
+-- records that the local disk failed a write: removes its interval, and marks its range
 abbrev pub failing : ℕ → PrimaryState → PrimaryState
 failing number s = elim (write_at number s.log.writes) [
   | None ↦ s
@@ -136,7 +136,7 @@ local_fault number s =
 abbrev pub next_place : EndState → PrimaryState → ℕ
 next_place e s = s.log.epochs.places - length e.unsent
 
--- the next frame that an open end owes: its hello, and then its stream
+-- the next frame that an open end is to send: of its hello, and then of its stream
 abbrev pub owed : EndState → PrimaryState → Option Packet
 owed e s =
     if nat_lt e.said 3 then slice_get (hello_of s.settings e.hello) e.said
@@ -146,26 +146,26 @@ owed e s =
 abbrev pub due : PrimaryState → Result Packet Refusal
 due s = elim s.end [ None ↦ Err NotConnected | Some e ↦ ok_or (owed e s) NothingThere ]
 
--- what a frame is called, with the place of a stream's item
+-- the report of a frame: its command, and its place if it is an item of the stream
 abbrev pub called : EndState → PrimaryState → Packet → What
 called e s packet = what.Frame (command_of packet) (if nat_lt e.said 3 then None else Some (next_place e s))
 
--- an item was pushed: a write may be answered by that
+-- records that an item was pushed, which may answer a write
 abbrev pub pushed_item : What → Option StreamItem → PrimaryState → Done × PrimaryState
 pushed_item name None s = (done_with name, s)
 pushed_item name (Some item) s = if is_write item then logged name (log.sent (number_of item) s.log) s else (done_with name, s)
 
--- what was due is pushed
+-- records that the due frame was pushed
 abbrev pub sent_from : EndState → What → PrimaryState → Done × PrimaryState
 sent_from e name s =
     if nat_lt e.said 3 then (done_with name, record s { end = Some (record e { said = suc e.said }) })
     else pushed_item name (slice_get e.unsent 0) (record s { end = Some (record e { unsent = drop 1 e.unsent }) })
 
--- when a frame that is owed is not pushed, in order
+-- the tests of pushing a due frame, in order
 abbrev pub sent_tests : Bool → Bool → List Test
 sent_tests room out_of_memory = (out_of_memory, NoMemory) ∷ (not room, LinkFull) ∷ []
 
--- the primary sends the next frame that it owes. `room` is what the link answers.
+-- the primary sends its next due frame; `room` says whether the link has room
 abbrev pub send : Bool → Bool → PrimaryState → Result Done Refusal × PrimaryState
 send room out_of_memory s = elim s.end [
   | None ↦ (Err NotConnected, s)
@@ -177,12 +177,12 @@ send room out_of_memory s = elim s.end [
 
 -- Close.
 
--- the blocks of all unreleased writes
+-- whether one of these unreleased writes covers the block
 abbrev pub unreleased_blocks : List LogWrite → ℕ → Bool
 unreleased_blocks writes block = list_any (λ w. is_between w.first w.count block) writes
 
--- Unreleased writes are marked, the tuple goes by `lost` if the stream had begun, and then no write has a connection. It tells
--- how many writes were completed by it.
+-- Closes the end: marks unreleased writes, changes the tuple by `lost` if the stream had begun, and takes the
+-- connection from every write. Gives how many writes that completed.
 abbrev pub closing : EndState → PrimaryState → ℕ × PrimaryState
 closing e s =
     let drained = log.drained s.log in
@@ -201,7 +201,7 @@ close_end s = elim s.end [ None ↦ (Err NotConnected, s) | Some e ↦ let after
 
 -- Receipts.
 
--- the receipt of a number is taken
+-- records that the receipt of a number is taken
 abbrev pub receipted : ℕ → PrimaryState → PrimaryState
 receipted number s = record s { entries = with_entry number (λ entry. record entry { taken = true }) s.entries }
 
@@ -232,13 +232,13 @@ take_completed number s = let answer = told (entry_at number s) in (answer, if i
 
 -- Resync.
 
--- when a resync block is refused, in order
+-- the tests of `resync_next`, in order
 abbrev pub resync_tests : Bool → EndState → PrimaryState → List Test
 resync_tests out_of_memory e s =
     (not e.resync || (is_some e.under_way || is_none (next_block s.marks s.held)), NothingToDo) ∷ (nat_le 4294967288 s.log.epochs.places, StreamFull) ∷
     (out_of_memory, NoMemory) ∷ []
 
--- the block is under way, with these contents
+-- puts the block under way, with these contents
 abbrev pub copying : ℕ → List ℕ → EndState → PrimaryState → Done × PrimaryState
 copying block contents e s =
     let placed = log.resync_placed s.log in
@@ -252,7 +252,7 @@ copying block contents e s =
       });
     })
 
--- The lowest free marked block is read and appended in one step, with what `disk` has there.
+-- Reads from `disk` the lowest marked block that no interval covers, and appends it in the same step.
 abbrev pub resync_next : (ℕ → List ℕ) → Bool → PrimaryState → Result Done Refusal × PrimaryState
 resync_next disk out_of_memory s = elim s.end [
   | None ↦ (Err NotConnected, s)
@@ -262,7 +262,7 @@ resync_next disk out_of_memory s = elim s.end [
   ])
 ]
 
--- the local disk fails the read: nothing changes
+-- the local disk fails the read, and nothing changes
 abbrev pub resync_fault : Bool → PrimaryState → Result Done Refusal × PrimaryState
 resync_fault out_of_memory s = elim s.end [
   | None ↦ (Err NotConnected, s)

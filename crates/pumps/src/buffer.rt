@@ -12,7 +12,7 @@ use std::marker::Model;
 /// The bytes of a pump's buffer: 64 KiB, so that one call of a socket carries about 46 pieces.
 pub const BUFFER_BYTES: usize = 65_536;
 
-/// The bytes that a pump has in hand: 65,536 at most, in memory that it takes once.
+/// The bytes that a pump has in hand: 65,536 at most, in memory that is allocated once.
 #[derive(Drop)]
 pub struct Buffer {
     memory: Vec<u8>,
@@ -30,7 +30,7 @@ impl Model for Buffer {
 }
 
 impl Buffer {
-    /// An empty buffer. `NoMemory` (7) if its memory cannot be allocated.
+    /// Creates an empty buffer. `NoMemory` (7) if its memory cannot be allocated.
     pub fn new(alloc: Global) -> Result<Buffer, Refusal>
         ensures empty { IfOk result (λ buffer. buffer ≡ []) }
         ensures refused { IfErr result (λ e. e ≡ NoMemory) }
@@ -41,7 +41,7 @@ impl Buffer {
         })
     }
 
-    /// Its bytes.
+    /// Returns its bytes.
     pub(crate) fn bytes(&self) -> &[u8]
         ensures value { result.now ≡ self.now }
         ensures few { length self.now ≤ 65536 }
@@ -49,7 +49,7 @@ impl Buffer {
         &self.memory[..self.len]
     }
 
-    /// How many bytes more it has room for.
+    /// Returns how many more bytes it has room for.
     pub(crate) fn room(&self) -> usize
         ensures { result + length self.now ≡ 65536 }
     {
@@ -63,7 +63,7 @@ impl Buffer {
         self.len = 0;
     }
 
-    /// Adds bytes after its own.
+    /// Appends bytes.
     pub(crate) fn append(&mut self, bytes: &[u8])
         requires { length self.old + length bytes.now ≤ 65536 }
         ensures { self.new ≡ self.old ++ bytes.now }
@@ -73,7 +73,7 @@ impl Buffer {
         self.len = end;
     }
 
-    /// Reads once, up to 65,536 bytes, in place of its own bytes. It is empty after a failure.
+    /// Reads once, up to 65,536 bytes, which replace its own. It is empty after a failure.
     pub(crate) fn read_from<D: Read>(&mut self, reader: &mut D) -> io::Result<usize>
         ensures count { IfOk result (λ count. length self.new ≡ count) }
         ensures read { MatchResult result

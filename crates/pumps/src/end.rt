@@ -3,7 +3,7 @@
 /// Why a pump ended.
 #[derive(Clone, Copy, Debug, PartialEq, Eq)]
 pub enum PumpEnd {
-    /// It was told to stop.
+    /// It was asked to stop.
     Stopped,
     /// The reader is at the end of its input.
     EndOfInput,

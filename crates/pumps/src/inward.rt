@@ -12,10 +12,10 @@ use std::sync::Wait;
 use std::sync::atomic::{AtomicBool, Ordering};
 use std::time::Clock;
 
-/// Pushes the bytes that a reader gives into a row, in order, as pieces of at most 1,400 bytes of a first
-/// connection, until it is stopped, the input ends or a read fails. One read takes up to 64 KiB. It rings
-/// `work` after each piece. If the row is full it asks again, and a stop then leaves what was not pushed. It
-/// neither closes nor drops the reader: whoever runs it does, and tells of its end. It takes no memory.
+/// Pushes the bytes that a reader gives into a row, in order, as pieces of at most 1,400 bytes of a first connection,
+/// until it is stopped, the input ends or a read fails. One read takes up to 64 KiB. It rings `work` after each piece.
+/// If the row is full it tries again; a stop then leaves the remaining bytes unpushed. It neither closes nor drops the
+/// reader: the caller does, and reports its end. Takes no memory.
 pub fn pump_in<R: Wait + Clock, M: RingInvariant, D: Read>(
     rt: &R,
     row: &mut PieceOut<R, M>,

@@ -12,10 +12,10 @@ use std::sync::Wait;
 use std::sync::atomic::{AtomicBool, Ordering};
 use std::time::Clock;
 
-/// Writes the bytes of a row's pieces to a writer, in order, until it is stopped or a write fails. One write
-/// carries as many pieces as the row has, up to 64 KiB. It looks at `stop` only when all that it popped is
-/// written, and waits on `work` while the row is empty. It neither closes nor drops the writer: whoever runs
-/// it does, and tells of its end. It takes no memory.
+/// Writes the bytes of a row's pieces to a writer, in order, until it is stopped or a write fails. One write carries as
+/// many pieces as the row has, up to 64 KiB. It looks at `stop` only when all that it popped is written, and waits on
+/// `work` while the row is empty. It neither closes nor drops the writer: the caller does, and reports its end. Takes
+/// no memory.
 pub fn pump_out<R: Wait + Clock, M: RingInvariant, W: Write>(
     rt: &R,
     row: &mut PieceIn<R, M>,

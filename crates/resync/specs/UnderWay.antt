@@ -2,12 +2,12 @@
 use Rattle.std.specs.Prelude.{ℕ, ◌==◌, ◌&&◌, Bool, false, Option, None, Some}
 use Rattle.resync.specs.declared.under_way.UnderWay.{UnderWay}
 
--- Whether a resync goes on, and the block that it has under way.
+-- Whether a resync is running, and the block that it has under way.
 pub record ResyncState : Type 0 where
   pub goes_on : Bool
   pub under_way : Option UnderWay
 
--- no resync goes on
+-- no resync is running
 abbrev pub idle : ResyncState
 idle = record { goes_on = false; under_way = None }
 

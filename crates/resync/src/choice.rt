@@ -1,4 +1,4 @@
-//! Which block is copied next.
+//! The choice of the block that a resync copies next.
 ghost use Rattle.std.specs.Prelude.{◌≡◌, option_map};
 ghost use Rattle.resync.specs.Next.{next_block};
 
@@ -6,8 +6,8 @@ use bitmap::Bitmap;
 use blocks::{Block, Range};
 use overlap::Held;
 
-/// The lowest marked block that nobody holds, if there is one: the block that a resync copies next (this
-/// project's rule). It takes no memory. It makes a step for each marked block before that one.
+/// Returns the lowest marked block that no interval in `held` covers, if there is one: the block that a resync copies
+/// next (this project's rule). It takes no memory. It makes a step for each marked block before that one.
 pub fn next(marks: &Bitmap, held: &Held) -> Option<Block>
     ensures { option_map (λ b. b.0) result ≡ next_block marks.now held.now }
 {

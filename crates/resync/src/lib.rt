@@ -1,4 +1,4 @@
-//! Which block a resync copies next, and the one that it has under way.
+//! A resync at its source: the choice of its next block, and the block that it has under way.
 #![tactic(auto)]
 
 mod choice;

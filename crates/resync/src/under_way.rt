@@ -30,7 +30,7 @@ impl Model for Resync {
 }
 
 impl Resync {
-    /// No resync goes on.
+    /// Returns a state in which no resync goes on.
     pub fn new() -> Resync
         ensures { result ≡ idle }
     {
@@ -40,28 +40,28 @@ impl Resync {
         }
     }
 
-    /// Whether a resync goes on.
+    /// Returns whether a resync goes on.
     pub fn goes_on(&self) -> bool
         ensures { result ≡ self.now.goes_on }
     {
         self.goes_on
     }
 
-    /// A resync goes on from here.
+    /// Starts a resync.
     pub fn begin(&mut self)
         ensures { self.new ≡ record self.old { goes_on = true } }
     {
         self.goes_on = true;
     }
 
-    /// The block under way, if there is one.
+    /// Returns the block under way, if there is one.
     pub fn under_way(&self) -> Option<UnderWay>
         ensures { result ≡ self.now.under_way }
     {
         self.under_way
     }
 
-    /// A block is under way from here. None was so far.
+    /// Records that a block is under way. Requires that none is.
     pub fn copy(&mut self, way: UnderWay)
         requires { self.old.under_way ≡ None }
         ensures { self.new ≡ record self.old { under_way = Some way } }
@@ -69,7 +69,7 @@ impl Resync {
         self.under_way = Some(way);
     }
 
-    /// Whether the block under way is of this epoch.
+    /// Returns whether there is a block under way in this epoch.
     pub fn is_in_epoch(&self, epoch: u32) -> bool
         ensures { result ≡ is_in_epoch epoch self.now.under_way }
     {
@@ -79,7 +79,7 @@ impl Resync {
         }
     }
 
-    /// Whether this block is under way, at this place.
+    /// Returns whether this block is under way, at this place.
     pub fn is_under_way(&self, block: Block, place: u32) -> bool
         ensures { result ≡ is_way block.0 place self.now.under_way }
     {
@@ -89,21 +89,21 @@ impl Resync {
         }
     }
 
-    /// The peer has the block under way: none is under way any more.
+    /// Records that the peer has the block under way. Then no block is under way.
     pub fn acknowledged(&mut self)
         ensures { self.new ≡ record self.old { under_way = None } }
     {
         self.under_way = None;
     }
 
-    /// Whether a resync goes on that has no block under way, so that it is over where none is marked.
+    /// Returns whether a resync goes on and has no block under way, so that it is over if no block is marked.
     pub fn is_waiting(&self) -> bool
         ensures { result ≡ (self.now.goes_on && is_none self.now.under_way) }
     {
         self.goes_on && self.under_way.is_none()
     }
 
-    /// The resync is over.
+    /// Ends the resync.
     pub fn end(&mut self)
         ensures { self.new ≡ record self.old { goes_on = false } }
     {

@@ -1,4 +1,4 @@
--- Frames in a row of bytes, connection by connection.
+-- Frames in a sequence of bytes, connection by connection.
 use Rattle.std.specs.Prelude.{ℕ, ◌≡◌, ◌==◌, ◌<◌, ◌≤◌, nat_lt, if◌then◌else◌, List, [], ◌∷◌, ◌++◌, length}
 use Rattle.std.specs.List.{flat_map, AllByRecursion}
 use Rattle.packets.specs.Reading.{header_at}
@@ -18,7 +18,7 @@ pub record IsCarried (bytes : List ℕ) (frames : List (List ℕ)) (rest : List 
   pub bytes_are : bytes ≡ joined frames ++ rest
   pub cuts : AllByRecursion IsCut frames
 
--- what went past on an earlier connection; nothing where there was none of this number
+-- what went past on an earlier connection; nothing if there was none with this number
 abbrev pub past_on : ℕ → List Past → List (List ℕ)
 past_on number [] = []
 past_on number (before ∷ past) = if before.number == number then before.frames else past_on number past
@@ -32,6 +32,6 @@ abbrev pub IsRising : List Past → ℕ → Type 0
 IsRising [] number = Unit {0}
 IsRising (before ∷ past) number = (before.number < number) × AllByRecursion (λ after. before.number < after.number) past × IsRising past number
 
--- how many bytes the frame has that begins so, as far as they tell: those of a header before that is there
+-- how many bytes a frame has that begins with these, as far as they tell: those of a header until that is there
 unfoldable pub whole_length : List ℕ → ℕ
 whole_length bytes = if nat_lt (length bytes) 8 then 8 else cut_after (header_at bytes)

@@ -12,8 +12,8 @@ pub record GatheredState : Type 0 where
   pub bytes : List ℕ
   pub is_ready : Bool
 
--- The bytes are no more than the frame has that begins so, whose length is noted. Where the chunk is ready, it has room
--- for the longest frame, of 131,104 bytes; where it is not, no bytes came.
+-- The bytes are no more than the frame has that begins with them, whose length is noted. A ready chunk has room for the
+-- longest frame, of 131,104 bytes; in one that is not ready there are no bytes.
 pub record IsGathered (bytes : List ℕ) (spare : ℕ) (is_ready : Bool) (whole : ℕ) : Type 0 where
   pub noted : whole ≡ whole_length bytes
   pub within : length bytes ≤ whole
@@ -21,9 +21,9 @@ pub record IsGathered (bytes : List ℕ) (spare : ℕ) (is_ready : Bool) (whole 
   pub room : is_ready ≡ true → 131104 ≤ length bytes + spare
   pub empty : is_ready ≡ false → bytes ≡ []
 
--- The row that the end is of, and the pieces that it has popped. The frames taken on the present connection, that one's
--- number, the earlier connections, and whether there is room for the longest frame. What is in hand: the bytes of the
--- next frame that came so far, and what is left of the last piece.
+-- The end's row, and the pieces that it has popped. The frames taken on the present connection, that one's number, the
+-- earlier connections, and whether there is room for the longest frame. What is in hand: the bytes of the next frame
+-- that came so far, and the remaining bytes of the last piece.
 pub record InwardState : Type 0 where
   pub row : TableId
   pub pieces : List PieceState
@@ -34,7 +34,7 @@ pub record InwardState : Type 0 where
   pub front : List ℕ
   pub rest : Option PieceState
 
--- what an end is seen as, of its parts
+-- the view of an end, from its parts
 abbrev pub inward_state : EndState → Went → ℕ → GatheredState → Option PieceState → InwardState
 inward_state pieces went number gathered rest = record {
   row = pieces.row;
@@ -58,7 +58,7 @@ taking s = record {
   capacity = None;
 }
 
--- the bytes that are left of the last piece, where it is of this connection
+-- the remaining bytes of the last piece, if it is of this connection
 abbrev pub rest_on : ℕ → Option PieceState → List ℕ
 rest_on number None = []
 rest_on number (Some piece) = bytes_if number piece
@@ -72,25 +72,26 @@ abbrev pub is_later : ℕ → Option PieceState → Bool
 is_later number None = false
 is_later number (Some piece) = nat_lt number piece.number
 
--- the piece in hand, where it is not of an earlier connection
+-- the piece in hand, if it is not of an earlier connection
 abbrev pub not_before : ℕ → Option PieceState → Option PieceState
 not_before number None = None
 not_before number (Some piece) = if nat_lt piece.number number then None else Some piece
 
--- the piece in hand, where it is of a later connection
+-- the piece in hand, if it is of a later connection
 abbrev pub later_of : ℕ → Option PieceState → List PieceState
 later_of number None = []
 later_of number (Some piece) = if nat_lt number piece.number then piece ∷ [] else []
 
--- an end on a first connection of a row, through which nothing came
+-- an end on the first connection of a row, through which nothing came
 abbrev pub unused_in : TableId → InwardState
 unused_in row = record { row = row; pieces = []; taken = []; number = 1; past = []; is_ready = true; front = []; rest = None }
 
--- an end that took this frame; what it popped for it, what is in hand then, and whether there is room for the longest frame are those of the other
+-- an end after it took this frame; the pieces popped, what is in hand and whether there is room for the longest frame
+-- are those of `now`
 abbrev pub with_taken : List ℕ → InwardState → InwardState → InwardState
 with_taken frame now s = record s { pieces = now.pieces; taken = s.taken ++ frame ∷ []; is_ready = now.is_ready; front = now.front; rest = now.rest }
 
--- an end that took none; what it popped and what is in hand then are those of the other
+-- an end that took no frame; the pieces popped and what is in hand are those of `now`
 abbrev pub with_popped : InwardState → InwardState → InwardState
 with_popped now s = record s { pieces = now.pieces; front = now.front; rest = now.rest }
 
@@ -105,7 +106,7 @@ taking_anew number s = record s {
 }
 
 -- What was popped: on the present connection the frames taken and then what is in hand, on each other one the frames
--- taken and then what was dropped. Of a later connection than the present one is at most the last piece, and it is in
+-- taken and then what was dropped. At most the last piece is of a later connection than the present one, and it is in
 -- hand as a whole.
 pub record Takes (s : InwardState) : Type 0 where
   pub present : IsCarried (bytes_on s.number s.pieces) s.taken (in_hand s)

@@ -17,6 +17,6 @@ sent_on number s = frames_on number (at_present s.number s.sent) s.past
 abbrev pub taken_on : ℕ → InwardState → List (List ℕ)
 taken_on number s = frames_on number (at_present s.number s.taken) s.past
 
--- on each connection the frames taken begin the frames sent; none were taken where none were sent
+-- on each connection the frames taken are a beginning of the frames sent; none were taken if none were sent
 abbrev pub IsJoined : OutwardState → InwardState → Type 0
 IsJoined outward inward = (number : ℕ) → (rest : List (List ℕ)) × (taken_on number inward ++ rest ≡ sent_on number outward)

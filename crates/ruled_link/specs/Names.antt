@@ -7,7 +7,7 @@ pub data Direction : Type 0 where
   There : Direction
   Back : Direction
 
--- a link is the two rows in which its directions go
+-- a link: the two rows of its directions
 pub record LinkName : Type 0 where
   pub there : TableId
   pub back : TableId

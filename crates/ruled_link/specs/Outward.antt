@@ -8,8 +8,8 @@ use Rattle.link.specs.Past.{Past, Went, ended}
 use Rattle.ruled_link.specs.Carried.{BeginsNoCut, IsCarried, IsRising, past_on}
 use Rattle.ruled_link.specs.Pieces.{EndState, PieceState, bytes_on}
 
--- The row that the end is of, and the pieces that it has pushed. The frames sent on the present connection, that one's
--- number, the earlier connections, and the frame that was offered in part.
+-- The end's row, and the pieces that it has pushed. The frames sent on the present connection, that one's number, the
+-- earlier connections, and the frame that was offered in part.
 pub record OutwardState : Type 0 where
   pub row : TableId
   pub pieces : List PieceState
@@ -18,12 +18,12 @@ pub record OutwardState : Type 0 where
   pub past : List Past
   pub partly : Option (List ℕ)
 
--- the first of a list
+-- the first frame of a list, if there is one
 abbrev pub first_of : List (List ℕ) → Option (List ℕ)
 first_of [] = None
 first_of (frame ∷ frames) = Some frame
 
--- what an end is seen as, of its parts; the frame offered in part is a list of one at most
+-- the view of an end, from its parts; the frame offered in part is a list of one at most
 abbrev pub outward_state : EndState → Went → ℕ → List (List ℕ) → OutwardState
 outward_state pieces went number part = record {
   row = pieces.row;
@@ -45,15 +45,15 @@ sending s = record {
   room = None;
 }
 
--- an end on a first connection of a row, through which nothing went
+-- an end on the first connection of a row, through which nothing went
 abbrev pub unused_out : TableId → OutwardState
 unused_out row = record { row = row; pieces = []; sent = []; number = 1; past = []; partly = None }
 
--- an end that sent this frame; the pieces pushed are those of the other
+-- an end after it sent this frame; the pieces pushed are those of `now`
 abbrev pub with_sent : List ℕ → OutwardState → OutwardState → OutwardState
 with_sent frame now s = record s { pieces = now.pieces; sent = s.sent ++ frame ∷ []; partly = None }
 
--- an end that was offered this frame, and pushed a part of it at most
+-- an end that was offered this frame, and pushed at most a part of it
 abbrev pub with_part : List ℕ → OutwardState → OutwardState → OutwardState
 with_part frame now s = record s { pieces = now.pieces; partly = Some frame }
 
@@ -66,7 +66,7 @@ abbrev pub pushed_of : Option (List ℕ) → ℕ → List ℕ
 pushed_of None pushed = []
 pushed_of (Some frame) pushed = take pushed frame
 
--- What was pushed: on the present connection the frames sent and then so many bytes of the frame offered in part, on
+-- What was pushed: on the present connection the frames sent and then `pushed` bytes of the frame offered in part, on
 -- each other one the frames sent and then less than a frame. No piece is of a later connection than the present one.
 pub record Sends (s : OutwardState) (pushed : ℕ) : Type 0 where
   pub present : IsCarried (bytes_on s.number s.pieces) s.sent (pushed_of s.partly pushed)
@@ -75,7 +75,8 @@ pub record Sends (s : OutwardState) (pushed : ℕ) : Type 0 where
   pub rising : IsRising s.past s.number
   pub partly : MatchOption s.partly (pushed ≡ 0) (λ frame. IsCut frame × (pushed < length frame))
 
--- the bytes from one place to another of a frame were pushed in pieces of the connection of this number, and nothing else
+-- the bytes from one place to another of a frame were pushed in pieces of the connection of this number, and nothing
+-- else
 pub record IsPushed (number : ℕ) (frame : List ℕ) (start end : ℕ) (old new : List PieceState) : Type 0 where
   pub added : List PieceState
   pub whole : new ≡ old ++ added

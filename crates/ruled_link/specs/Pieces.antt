@@ -8,12 +8,12 @@ pub record PieceState : Type 0 where
   pub number : ℕ
   pub bytes : List ℕ
 
--- which row an end is of, and the pieces that went past it
+-- an end's row, and the pieces that went past it
 pub record EndState : Type 0 where
   pub row : TableId
   pub pieces : List PieceState
 
--- the bytes of a piece, where it is of this connection
+-- the bytes of a piece, if it is of this connection
 abbrev pub bytes_if : ℕ → PieceState → List ℕ
 bytes_if number piece = if piece.number == number then piece.bytes else []
 

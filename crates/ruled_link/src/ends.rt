@@ -1,4 +1,4 @@
-//! A link between two nodes in threads of their own.
+//! The two ends of one direction of a link between nodes in threads of their own.
 ghost use Rattle.std.specs.Prelude.{◌≡◌, ◌<◌, ◌*◌, [], IfOk, IfErr};
 ghost use Rattle.blocks.specs.declared.refusal.Refusal.TheVariants.{NoMemory};
 ghost use Rattle.ruled_link.specs.Inward.{unused_in};
@@ -14,8 +14,8 @@ use std::sync::Wait;
 /// Pieces of the longest frame.
 const FRAME_PIECES: usize = 94;
 
-/// One direction of a link, in a row for `link` of the longest frames; its ends are on a first connection.
-/// `NoMemory` (7) where the room for it cannot be had.
+/// Creates one direction of a link, over a row for `link` of the longest frames; its ends are on a first connection.
+/// `NoMemory` (7) if there is no memory for it.
 pub fn ruled<R: Wait + Copy>(
     rt: R,
     alloc: Global,
@@ -47,8 +47,8 @@ pub fn with_invariant<R: Wait + Copy, M: RingInvariant>(
     Ok((RuledOut::new(outward), RuledIn::new(alloc, inward)?))
 }
 
-/// The two ends of one direction, as they were: whoever holds both knows that on each connection the frames
-/// taken begin the frames sent. It takes no memory.
+/// Returns the two ends of one direction unchanged. The caller, who has both, then knows that on each connection the
+/// frames taken begin the frames sent. Takes no memory.
 pub fn join_ends<R: Wait, M: RingInvariant>(
     outward: RuledOut<R, M>,
     inward: RuledIn<R, M>,

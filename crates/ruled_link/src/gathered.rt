@@ -1,4 +1,4 @@
-//! The bytes of a frame as they come.
+//! The buffer that gathers the bytes of a frame.
 ghost use Rattle.std.specs.Prelude.{◌≡◌, ◌+◌, ◌<◌, ◌≤◌, ◌++◌, [], length, take, drop, true, IfOk, IfErr, OnOk, OnErr, MatchOption};
 ghost use Rattle.packets.specs.Cutting.{IsCut};
 ghost use Rattle.ruled_link.specs.Carried.{BeginsNoCut};
@@ -15,25 +15,25 @@ use std::sync::Wait;
 /// Bytes of the longest frame, a write of 32 blocks.
 const LONGEST_FRAME: usize = 131_104;
 
-/// Bytes of a chunk: 1 MiB, and then the longest frame, so that each frame that begins in the first MiB has room.
+/// Bytes of a chunk: 1 MiB plus the longest frame, so that each frame that begins in the first MiB has room.
 const CHUNK_BYTES: usize = 1_048_576 + LONGEST_FRAME;
 
 /// Bytes of a header.
 const HEADER_BYTES: usize = 8;
 
-/// The most bytes of a frame that stands inline.
+/// The most bytes of a frame that is stored inline.
 const SHORT_FRAME: usize = 40;
 
-/// The bytes of a frame that came so far, in a chunk that frames are cut off.
+/// The bytes of the next frame that arrived so far, in a chunk that frames are cut off.
 #[derive(Drop)]
 pub(crate) struct Gathered {
     alloc: Global,
     buffer: BytesMut,
-    // The chunk before, whose room comes again once its frames are gone.
+    // The previous chunk. Its room can be used again once its frames are dropped.
     before: BytesMut,
-    // Whether the chunk has room for the longest frame: a long frame keeps its part of it.
+    // Whether the chunk has room for the longest frame: a long frame that was cut off keeps its part of the chunk.
     is_ready: bool,
-    // How many bytes the frame has, once its header is there; before, those of a header.
+    // The frame's length in bytes once its header is there; before that, the length of a header.
     whole: usize,
 }
 
@@ -49,7 +49,7 @@ impl Model for Gathered {
 }
 
 impl Gathered {
-    /// No bytes, and a chunk. `NoMemory` (7) where it cannot be had.
+    /// Creates an empty buffer with a chunk. `NoMemory` (7) if there is no memory for it.
     pub(crate) fn new(alloc: Global) -> Result<Gathered, Refusal>
         ensures empty { IfOk result (λ g. g ≡ record { bytes = []; is_ready = true }) }
         ensures refused { IfErr result (λ e. e ≡ NoMemory) }
@@ -65,8 +65,8 @@ impl Gathered {
         })
     }
 
-    /// Goes on in the chunk before, or in a new one, where the last one has no room for the longest frame.
-    /// `NoMemory` (7) where a new one cannot be had.
+    /// Makes sure of room for the longest frame: if the chunk has none, goes on in the previous chunk or in a new one.
+    /// `NoMemory` (7) if there is no memory for that.
     pub(crate) fn ready(&mut self) -> Result<(), Refusal>
         ensures ready { OnOk result (self.new ≡ record self.old { is_ready = true }) }
         ensures unchanged { OnErr result (self.new ≡ self.old) }
@@ -80,7 +80,7 @@ impl Gathered {
         Ok(())
     }
 
-    /// Drops the bytes. It takes no memory.
+    /// Drops the bytes. Takes no memory.
     pub(crate) fn clear(&mut self)
         ensures { self.new ≡ record self.old { bytes = [] } }
     {
@@ -88,12 +88,12 @@ impl Gathered {
         self.whole = HEADER_BYTES;
     }
 
-    /// Puts as many of these bytes at the end as the frame lacks, and answers how many. It takes no memory.
+    /// Appends as many of these bytes as the frame lacks, and returns how many. Takes no memory.
     pub(crate) fn put(&mut self, bytes: &[u8]) -> usize
         requires ready { self.old.is_ready ≡ true }
         ensures within { result ≤ length bytes.now }
         ensures put { self.new ≡ record self.old { bytes = self.old.bytes ++ take result bytes.now } }
-        // It leaves some only where the frame is whole.
+        // Some bytes remain only if the frame is whole.
         ensures all { BeginsNoCut self.new.bytes → result ≡ length bytes.now }
     {
         let head = self.put_header(bytes);
@@ -103,7 +103,7 @@ impl Gathered {
         head + self.put_payload(&bytes[head..])
     }
 
-    /// Puts what the header lacks.
+    /// Appends the bytes that the header lacks, and returns how many.
     fn put_header(&mut self, bytes: &[u8]) -> usize
         requires ready { self.old.is_ready ≡ true }
         ensures within { result ≤ length bytes.now }
@@ -122,7 +122,7 @@ impl Gathered {
         taken
     }
 
-    /// Puts what the payload lacks.
+    /// Appends the bytes that the payload lacks, and returns how many.
     fn put_payload(&mut self, bytes: &[u8]) -> usize
         requires ready { self.old.is_ready ≡ true }
         requires headed { 8 ≤ length self.old.bytes }
@@ -135,7 +135,7 @@ impl Gathered {
         taken
     }
 
-    /// The frame, where it is whole. A long one shares the chunk. It takes no memory.
+    /// Cuts the frame off the bytes if it is whole. A long frame shares the chunk. Takes no memory.
     pub(crate) fn cut<R: Wait>(&mut self, rt: &R) -> Option<Frame>
         ensures { MatchOption result ((self.new ≡ self.old) × BeginsNoCut self.old.bytes)
             (λ frame. IsCut frame × (frame ≡ self.old.bytes) × (self.new.bytes ≡ [])
@@ -156,8 +156,7 @@ impl Gathered {
     }
 }
 
-/// Makes room for the longest frame in a chunk without bytes, and for more. `NoMemory` (7) where this cannot be
-/// had.
+/// Gives an empty chunk room for the longest frame, and for more. `NoMemory` (7) if there is no memory for it.
 fn renew(chunk: &mut BytesMut, alloc: Global) -> Result<(), Refusal>
     requires { chunk.old.items ≡ [] }
     ensures empty { chunk.new.items ≡ [] }
@@ -168,8 +167,7 @@ fn renew(chunk: &mut BytesMut, alloc: Global) -> Result<(), Refusal>
     count_owners(chunk)
 }
 
-/// Gives a chunk without bytes the room of its whole block, where no frame shares that any more, or else that of
-/// a new one.
+/// Gives an empty chunk the room of its whole block if no frame shares the block any more, or else that of a new block.
 fn widen(chunk: &mut BytesMut, alloc: Global) -> Result<(), Refusal>
     requires { chunk.old.items ≡ [] }
     ensures empty { chunk.new.items ≡ [] }
@@ -183,8 +181,8 @@ fn widen(chunk: &mut BytesMut, alloc: Global) -> Result<(), Refusal>
     Ok(())
 }
 
-/// Has the block of a chunk without bytes counted by owners, so that frames can be cut off it later without
-/// memory. A split of one byte does it.
+/// Makes the block of an empty chunk count its owners, so that frames can be cut off it later without memory. Does so
+/// by a split of one byte.
 fn count_owners(chunk: &mut BytesMut) -> Result<(), Refusal>
     requires empty { chunk.old.items ≡ [] }
     requires room { 0 < chunk.old.spare }
@@ -200,8 +198,8 @@ fn count_owners(chunk: &mut BytesMut) -> Result<(), Refusal>
     Ok(())
 }
 
-/// All bytes of a chunk whose block is counted by owners, cut off it. No memory is asked for there, but no
-/// contract of the chunk says so: hence it asks again where it is refused.
+/// Cuts all bytes off a chunk whose block counts its owners. That needs no memory, but no contract of the chunk says
+/// so: hence the call tries again if it is refused.
 fn frozen<R: Wait>(rt: &R, chunk: &mut BytesMut) -> Bytes
     ensures bytes { result ≡ chunk.old.items }
     ensures rest { chunk.new.items ≡ [] }

@@ -1,4 +1,4 @@
-//! The taking end of a link between threads.
+//! The receiving end of a link between threads.
 ghost use Rattle.std.specs.Prelude.{◌≡◌, ◌<◌, ◌≤◌, [], ◌∷◌, ◌++◌, length, take, true, false, None, IfOk, OnOk, OnErr, IfErr, IfNone, IfSome, MatchOption, Some};
 ghost use Rattle.packets.specs.Cutting.{IsCut};
 ghost use Rattle.ruled_link.specs.Carried.{BeginsNoCut};
@@ -17,16 +17,16 @@ use std::alloc::Global;
 use std::marker::Model;
 use std::sync::Wait;
 
-/// The taking end of one direction of a link whose two ends may be in two threads. It puts frames together
-/// from pieces that are cut in any way.
+/// The receiving end of one direction of a link whose two ends may be in two threads. It assembles frames from pieces
+/// that are cut in any way.
 #[derive(Drop)]
 pub struct RuledIn<R: Wait, M: RingInvariant = NoInvariant> {
     pub(crate) pieces: PieceIn<R, M>,
     pub(crate) number: u32,
     pub(crate) taken: Trail,
-    // The bytes of the next frame, as far as they came.
+    // The bytes of the next frame that have arrived.
     pub(crate) front: Gathered,
-    // What is left of the last piece, or all of one of a later connection.
+    // The bytes of the last piece that are not used yet, or a whole piece of a later connection.
     pub(crate) rest: Option<Rest>,
 }
 
@@ -41,8 +41,8 @@ impl<R: Wait, M: RingInvariant> Model for RuledIn<R, M> {
 }
 
 impl<R: Wait, M: RingInvariant> RuledIn<R, M> {
-    /// An end that pops its pieces here, on a first connection. `NoMemory` (7) where the buffer for the
-    /// longest frame cannot be had.
+    /// Creates an end that pops from `pieces`, on a first connection. `NoMemory` (7) if there is no memory for the
+    /// buffer for the longest frame.
     pub fn new(alloc: Global, pieces: PieceIn<R, M>) -> Result<RuledIn<R, M>, Refusal>
     where
         R: Drop,
@@ -59,7 +59,7 @@ impl<R: Wait, M: RingInvariant> RuledIn<R, M> {
         })
     }
 
-    /// The next frame, where the bytes in hand have it as a whole.
+    /// Takes the next frame if the bytes in hand contain all of it.
     fn next_in_hand(&mut self) -> Option<Frame>
         requires { self.old.is_ready ≡ true }
         ensures frame { MatchOption result
@@ -71,7 +71,7 @@ impl<R: Wait, M: RingInvariant> RuledIn<R, M> {
               front = [];
               rest = self.new.rest;
             }) × IsCut frame × (length frame ≤ 40 → self.new.is_ready ≡ true)) }
-        // Where there is none, no whole frame can be cut off the bytes in hand.
+        // If there is none, no whole frame can be cut off the bytes in hand.
         ensures none { IfNone result (BeginsNoCut (in_hand self.old)) }
     {
         gather(&mut self.front, &mut self.rest, self.number);
@@ -80,8 +80,8 @@ impl<R: Wait, M: RingInvariant> RuledIn<R, M> {
         Some(frame)
     }
 
-    /// Takes the next piece in hand, and then the frame that is whole with it. `NothingThere` (13) where there is
-    /// no piece, or it is of a later connection.
+    /// Pops the next piece and returns the frame that it completes, if any. `NothingThere` (13) if there is no piece,
+    /// or if the piece is of a later connection.
     fn next_piece(&mut self) -> Result<Option<Frame>, Refusal>
         requires ready { self.old.is_ready ≡ true }
         requires spent { rest_on self.old.number self.old.rest ≡ [] }
@@ -94,7 +94,7 @@ impl<R: Wait, M: RingInvariant> RuledIn<R, M> {
           rest = self.new.rest;
         }) × IsCut frame × (length frame ≤ 40 → self.new.is_ready ≡ true))) }
         ensures none { IfOk result (λ found. IfNone found (self.new ≡ with_popped self.new self.old)) }
-        // Where no frame is whole, there is more in hand than before, and none of it lies behind the frame's end.
+        // If no frame is whole, more bytes are in hand than before, and none of them lies behind the frame's end.
         ensures more { IfOk result (λ found. IfNone found (length (in_hand self.old) < length (in_hand self.new))) }
         ensures part { IfOk result (λ found. IfNone found (BeginsNoCut (in_hand self.new))) }
         ensures spent { IfOk result (λ found. IfNone found (rest_on self.new.number self.new.rest ≡ [])) }
@@ -124,7 +124,7 @@ impl<R: Wait, M: RingInvariant> RuledIn<R, M> {
         Ok(Some(frame))
     }
 
-    /// Whether the piece in hand is of a later connection.
+    /// Returns whether the piece in hand is of a later connection.
     fn holds_later(&self) -> bool
         ensures { result ≡ is_later self.now.number self.now.rest }
     {
@@ -152,9 +152,9 @@ impl<R: Wait, M: RingInvariant> FrameIn for RuledIn<R, M> {
         ensures cut { IfOk result (λ frame. IsCut frame) }
         ensures still_ready { IfOk result (λ frame. length frame ≤ 40 → self.new.is_ready ≡ true) }
         ensures refused { IfErr result (λ e. e ≡ NothingThere) }
-        // What is in hand then begins no whole frame.
+        // The bytes then in hand begin with no whole frame.
         ensures nothing { OnErr result (BeginsNoCut (in_hand self.new)) }
-        // The row was empty at a moment, but where a piece of a later connection is in hand.
+        // The row was empty at a moment, unless a piece of a later connection is in hand.
         ensures empty { OnErr result (is_later self.new.number self.new.rest ≡ false → WasEmpty M.holds self.new.pieces) }
         ensures unchanged { OnErr result (self.new ≡ with_popped self.new self.old) }
     {
@@ -182,13 +182,13 @@ impl<R: Wait, M: RingInvariant> FrameIn for RuledIn<R, M> {
     }
 }
 
-/// Puts as many bytes of the piece in hand as the frame lacks at the end of what came of it.
+/// Appends to the frame as many bytes of the piece in hand as the frame lacks, if the piece is of connection `number`.
 fn gather(front: &mut Gathered, rest: &mut Option<Rest>, number: u32)
     requires { front.old.is_ready ≡ true }
     ensures bytes { front.new.bytes ++ rest_on number rest.new ≡ front.old.bytes ++ rest_on number rest.old }
     ensures ready { front.new.is_ready ≡ true }
     ensures later { later_of number rest.new ≡ later_of number rest.old }
-    // It leaves some only where the frame is whole.
+    // Some bytes remain only if the frame is whole.
     ensures all { BeginsNoCut front.new.bytes → rest_on number rest.new ≡ [] }
 {
     if let Some(rest) = rest
@@ -199,8 +199,8 @@ fn gather(front: &mut Gathered, rest: &mut Option<Rest>, number: u32)
     }
 }
 
-/// Takes a piece that was popped in hand: as many of its bytes as the frame lacks come to the others, where it
-/// is of this connection, and what is left of it stays.
+/// Takes a popped piece in hand. If it is of connection `number`, appends as many of its bytes as the frame lacks.
+/// Keeps the remaining bytes in `rest`.
 #[inline]
 fn take_in_hand(front: &mut Gathered, rest: &mut Option<Rest>, number: u32, piece: &Piece)
     requires ready { front.old.is_ready ≡ true }
@@ -211,7 +211,7 @@ fn take_in_hand(front: &mut Gathered, rest: &mut Option<Rest>, number: u32, piec
     ensures later { later_of number rest.new ≡ later_of number (Some piece.now) }
     ensures none { bytes_if number piece.now ≡ [] → front.new ≡ front.old }
     ensures some { 0 < length piece.now.bytes }
-    // It leaves some only where the frame is whole.
+    // Some bytes remain only if the frame is whole.
     ensures all { BeginsNoCut front.new.bytes → rest_on number rest.new ≡ [] }
 {
     let used = put_own(front, number, piece);
@@ -220,8 +220,7 @@ fn take_in_hand(front: &mut Gathered, rest: &mut Option<Rest>, number: u32, piec
     }
 }
 
-/// Puts as many bytes of a piece of this connection as the frame lacks at the end of what came of it, and
-/// returns how many.
+/// Appends as many bytes of a piece as the frame lacks, if the piece is of connection `number`. Returns how many.
 #[inline]
 fn put_own(front: &mut Gathered, number: u32, piece: &Piece) -> usize
     requires { front.old.is_ready ≡ true }
@@ -235,7 +234,7 @@ fn put_own(front: &mut Gathered, number: u32, piece: &Piece) -> usize
     front.put(piece.bytes())
 }
 
-/// Drops the piece in hand where it is of an earlier connection than this.
+/// Drops the piece in hand if it is of an earlier connection than `number`.
 fn drop_before(rest: &mut Option<Rest>, number: u32)
     ensures { rest.new ≡ not_before number rest.old }
 {

@@ -1,4 +1,4 @@
-//! A taking end that has a name.
+//! The receiving end with a name.
 ghost use Rattle.std.specs.Prelude.{◌≡◌, ◌<◌, ◌≤◌, length, true, false, IfOk, OnOk, OnErr, IfErr};
 ghost use Rattle.packets.specs.Cutting.{IsCut};
 ghost use Rattle.ruled_link.specs.Carried.{BeginsNoCut};
@@ -14,7 +14,7 @@ use packets::Frame;
 use std::marker::{Model, PhantomData};
 use std::sync::Wait;
 
-/// The taking end of the direction that has this name, which no call changes.
+/// The receiving end of the direction that has this name. No call changes the name.
 #[derive(Drop)]
 pub struct NamedIn<R: Wait, N: Named, M: RingInvariant = NoInvariant> {
     end: RuledIn<R, M>,
@@ -34,7 +34,7 @@ impl<R: Wait, N: Named, M: RingInvariant> Model for NamedIn<R, N, M> {
 }
 
 impl<R: Wait, M: RingInvariant> RuledIn<R, M> {
-    /// The end under the name of its direction.
+    /// Gives the end the name of its direction.
     pub fn named<N: Named>(self) -> NamedIn<R, N, M>
         requires { self.row ≡ row_of N.link N.direction }
         ensures { result ≡ self }
@@ -47,7 +47,7 @@ impl<R: Wait, M: RingInvariant> RuledIn<R, M> {
 }
 
 impl<R: Wait, N: Named, M: RingInvariant> NamedIn<R, N, M> {
-    /// The end without its name.
+    /// Returns the end without its name.
     pub fn into_end(self) -> RuledIn<R, M>
         ensures same { result ≡ self }
         ensures name { result.row ≡ row_of N.link N.direction }
@@ -73,9 +73,9 @@ impl<R: Wait, N: Named, M: RingInvariant> FrameIn for NamedIn<R, N, M> {
         ensures cut { IfOk result (λ frame. IsCut frame) }
         ensures still_ready { IfOk result (λ frame. length frame ≤ 40 → self.new.is_ready ≡ true) }
         ensures refused { IfErr result (λ e. e ≡ NothingThere) }
-        // What is in hand then begins no whole frame.
+        // The bytes then in hand begin with no whole frame.
         ensures nothing { OnErr result (BeginsNoCut (in_hand self.new)) }
-        // The row was empty at a moment, but where a piece of a later connection is in hand.
+        // The row was empty at a moment, unless a piece of a later connection is in hand.
         ensures empty { OnErr result (is_later self.new.number self.new.rest ≡ false → WasEmpty M.holds self.new.pieces) }
         ensures unchanged { OnErr result (self.new ≡ with_popped self.new self.old) }
     {

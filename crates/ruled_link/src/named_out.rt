@@ -1,4 +1,4 @@
-//! A sending end that has a name.
+//! The sending end with a name.
 ghost use Rattle.std.specs.Prelude.{◌≡◌, ◌<◌, OnOk, OnErr, IfErr, IfSome};
 ghost use Rattle.packets.specs.Cutting.{IsCut};
 ghost use Rattle.ruled_link.specs.Moments.{WasFull};
@@ -11,7 +11,7 @@ use packets::Frame;
 use std::marker::{Model, PhantomData};
 use std::sync::Wait;
 
-/// The sending end of the direction that has this name, which no call changes.
+/// The sending end of the direction that has this name. No call changes the name.
 #[derive(Drop)]
 pub struct NamedOut<R: Wait, N: Named, M: RingInvariant = NoInvariant> {
     end: RuledOut<R, M>,
@@ -31,7 +31,7 @@ impl<R: Wait, N: Named, M: RingInvariant> Model for NamedOut<R, N, M> {
 }
 
 impl<R: Wait, M: RingInvariant> RuledOut<R, M> {
-    /// The end under the name of its direction.
+    /// Gives the end the name of its direction.
     pub fn named<N: Named>(self) -> NamedOut<R, N, M>
         requires { self.row ≡ row_of N.link N.direction }
         ensures { result ≡ self }
@@ -44,7 +44,7 @@ impl<R: Wait, M: RingInvariant> RuledOut<R, M> {
 }
 
 impl<R: Wait, N: Named, M: RingInvariant> NamedOut<R, N, M> {
-    /// The end without its name.
+    /// Returns the end without its name.
     pub fn into_end(self) -> RuledOut<R, M>
         ensures same { result ≡ self }
         ensures name { result.row ≡ row_of N.link N.direction }

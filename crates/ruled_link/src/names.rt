@@ -2,12 +2,12 @@
 
 use std::marker::Brand;
 
-/// Which link an end is of, and which of its two directions. It has no bytes: a call that has such a
-/// parameter picks both, and the ends of one direction have one name.
+/// Which link an end belongs to, and which of its two directions. It has no bytes: a call that has such a parameter
+/// picks both, and both ends of one direction have the same name.
 pub trait Named {
     ghost use Rattle.ruled_link.specs.Names.{Direction, LinkName};
 
-    /// The link: the two rows in which its directions go.
+    /// The link: the rows of its two directions.
     ghost link: { LinkName };
 
     /// From the primary to the secondary, or back.

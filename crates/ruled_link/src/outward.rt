@@ -10,8 +10,8 @@ use packets::Frame;
 use std::marker::Model;
 use std::sync::Wait;
 
-/// The sending end of one direction of a link whose two ends may be in two threads. A frame goes as pieces of
-/// 1,400 bytes, the last of them shorter, and is sent once its last piece is pushed.
+/// The sending end of one direction of a link whose two ends may be in two threads. It pushes a frame as pieces of
+/// 1,400 bytes; the last one may be shorter. A frame is sent once its last piece is pushed.
 #[derive(Drop)]
 pub struct RuledOut<R: Wait, M: RingInvariant = NoInvariant> {
     pub(crate) pieces: PieceOut<R, M>,
@@ -33,7 +33,7 @@ impl<R: Wait, M: RingInvariant> Model for RuledOut<R, M> {
 }
 
 impl<R: Wait, M: RingInvariant> RuledOut<R, M> {
-    /// An end that pushes its pieces here, on a first connection.
+    /// Creates an end that pushes to `pieces`, on a first connection.
     pub fn new(pieces: PieceOut<R, M>) -> RuledOut<R, M>
         requires { pieces.pieces ≡ [] }
         ensures { result ≡ unused_out pieces.row }
@@ -83,8 +83,8 @@ impl<R: Wait, M: RingInvariant> FrameOut for RuledOut<R, M> {
     }
 }
 
-/// Pushes the bytes from a place on as pieces of a connection, until the row is full or they are through, and
-/// answers how far it came.
+/// Pushes the bytes from index `from` on as pieces of connection `number`, until the row is full or all are pushed.
+/// Returns the index that it reached.
 fn push_from<R: Wait, M: RingInvariant>(
     pieces: &mut PieceOut<R, M>,
     number: u32,

@@ -6,8 +6,7 @@ use std::marker::Model;
 /// The most bytes of a piece, about what one packet of a network carries (this project's choice).
 pub const PIECE_BYTES: usize = 1400;
 
-/// 1 to 1,400 bytes, and the number of the connection that they belong to. It stands inline, and takes no
-/// memory.
+/// 1 to 1,400 bytes, and the number of the connection that they belong to. It is stored inline, and takes no memory.
 #[derive(Drop)]
 pub struct Piece {
     bytes: [u8; PIECE_BYTES],
@@ -27,7 +26,7 @@ impl Model for Piece {
 }
 
 impl Piece {
-    /// A piece of a first connection.
+    /// Creates a piece of a first connection.
     pub fn new(bytes: &[u8]) -> Piece
         requires some { 0 < length bytes.now }
         requires few { length bytes.now ≤ 1400 }
@@ -36,7 +35,7 @@ impl Piece {
         Piece::of(1, bytes)
     }
 
-    /// A piece of the connection of this number.
+    /// Creates a piece of connection `number`.
     #[inline]
     pub(crate) fn of(number: u32, bytes: &[u8]) -> Piece
         requires some { 0 < length bytes.now }
@@ -64,7 +63,7 @@ impl Piece {
         self.number = number;
     }
 
-    /// The same piece once more.
+    /// Returns a copy of the piece.
     pub(crate) fn copied(&self) -> Piece
         ensures { result ≡ self.now }
     {
@@ -75,7 +74,7 @@ impl Piece {
         }
     }
 
-    /// Its bytes.
+    /// Returns its bytes.
     #[inline]
     pub fn bytes(&self) -> &[u8]
         ensures value { result.now ≡ self.now.bytes }
@@ -85,7 +84,7 @@ impl Piece {
         &self.bytes[..self.len]
     }
 
-    /// The number of its connection.
+    /// Returns the number of its connection.
     #[inline]
     pub fn number(&self) -> u32
         ensures { result ≡ self.now.number }

@@ -23,7 +23,7 @@ pub struct Log {
     pub taken: LinkedList<Piece>,
 }
 
-/// The rule of a row of whose moments a fact is kept.
+/// The protocol of a row that keeps the invariant `M`.
 struct InOrder<M: RingInvariant> {
     of: PhantomData<M>,
 }
@@ -58,7 +58,7 @@ impl Join<Log> for Ends {
     ghost spent = { log false false [] [] };
 }
 
-/// What a pass learns that may do both.
+/// What a pass that may both push and take learns.
 struct Whole;
 
 impl Lesson<Sheet, Log> for Whole {
@@ -103,7 +103,7 @@ impl<M: RingInvariant> Lesson<Sheet, Log> for Taken<M> {
 
 type Row<M> = RuledArrayQueue<Sheet, Log, InOrder<M>>;
 
-/// The end of a row that pushes.
+/// The pushing end of a row.
 #[derive(Drop)]
 pub struct PieceOut<R: Wait, M: RingInvariant = NoInvariant> {
     rt: R,
@@ -126,7 +126,7 @@ impl<R: Wait, M: RingInvariant> Model for PieceOut<R, M> {
     ghost invariant = { λ e. passes.IsPassOf e.row.value e.pass × (passes.view e.pass ≡ log true false (passes.view e.pass).pushed []) };
 }
 
-/// The end of a row that takes.
+/// The taking end of a row.
 #[derive(Drop)]
 pub struct PieceIn<R: Wait, M: RingInvariant = NoInvariant> {
     rt: R,
@@ -149,7 +149,7 @@ impl<R: Wait, M: RingInvariant> Model for PieceIn<R, M> {
     ghost invariant = { λ e. passes.IsPassOf e.row.value e.pass × (passes.view e.pass ≡ log false true [] (passes.view e.pass).taken) };
 }
 
-/// A row for `capacity` pieces, and its two ends.
+/// Creates a row for `capacity` pieces, and returns its two ends.
 pub fn row<R: Wait + Copy>(
     rt: R,
     alloc: Global,
@@ -195,8 +195,8 @@ pub fn row_with_invariant<R: Wait + Copy, M: RingInvariant>(
 }
 
 impl<R: Wait, M: RingInvariant> PieceOut<R, M> {
-    /// Pushes a piece at the end of the row, or hands it back where the row was full at some moment of the
-    /// call. It takes no memory.
+    /// Pushes a piece at the end of the row, or hands it back if the row was full at some moment of the call. Takes no
+    /// memory.
     #[inline]
     pub fn push(&mut self, piece: Piece) -> Result<(), Piece>
         ensures pushed { OnOk result (self.new ≡ record self.old { pieces = self.old.pieces ++ piece ∷ [] }) }
@@ -210,8 +210,8 @@ impl<R: Wait, M: RingInvariant> PieceOut<R, M> {
         }
     }
 
-    /// Pushes a piece of the connection of this number at the end of the row, and answers whether there was
-    /// room. It takes no memory.
+    /// Pushes a piece of connection `number` at the end of the row, and returns whether there was room. Takes no
+    /// memory.
     #[inline]
     pub(crate) fn push_bytes(&mut self, number: u32, bytes: &[u8]) -> bool
         requires some { 0 < length bytes.now }
@@ -238,8 +238,7 @@ impl<R: Wait, M: RingInvariant> PieceOut<R, M> {
 }
 
 impl<R: Wait, M: RingInvariant> PieceIn<R, M> {
-    /// Takes the first piece of the row, or nothing where the row was empty at some moment of the call. It
-    /// takes no memory.
+    /// Takes the first piece of the row, or nothing if the row was empty at some moment of the call. Takes no memory.
     #[inline]
     pub fn pop(&mut self) -> Option<Piece>
         ensures first { MatchOption result (self.new ≡ self.old) (λ piece.
@@ -252,8 +251,8 @@ impl<R: Wait, M: RingInvariant> PieceIn<R, M> {
         Some(piece)
     }
 
-    /// Takes the sheet of the first piece of the row, or nothing where the row was empty at some moment of the
-    /// call. Whoever has read it gives it back.
+    /// Takes the sheet of the first piece of the row, or nothing if the row was empty at some moment of the call. The
+    /// caller gives the sheet back once it has read it.
     #[inline]
     fn pop_sheet(&mut self) -> Option<Sheet>
         ensures first { MatchOption result (self.new ≡ self.old) (λ piece.
@@ -263,8 +262,8 @@ impl<R: Wait, M: RingInvariant> PieceIn<R, M> {
         self.row.pop_as::<Taken<M>, R>(&self.rt, &mut self.pass)
     }
 
-    /// Takes the sheet of the first piece of this connection or a later one. Pieces of earlier ones before it
-    /// are dropped.
+    /// Takes the sheet of the first piece of connection `number` or a later one. Drops the pieces of earlier
+    /// connections before it.
     #[inline]
     pub(crate) fn pop_from(&mut self, number: u32) -> Option<Sheet>
         ensures next { MatchOption result (IsDropped number self.old self.new [])
@@ -278,25 +277,25 @@ impl<R: Wait, M: RingInvariant> PieceIn<R, M> {
             }
             self.give_back(sheet);
         }
-        // No run drops so many pieces.
+        // No run drops 2^64 - 1 pieces.
         for _ in self.rt.forever() {}
         unreachable!()
     }
 
-    /// Gives a sheet that was read back to the end that pushes.
+    /// Gives a sheet that was read back to the pushing end.
     #[inline]
     pub(crate) fn give_back(&self, sheet: Sheet) {
         self.returns.put(&self.rt, sheet);
     }
 
-    /// The runtime that its calls wait by.
+    /// Returns the runtime that its calls wait by.
     pub(crate) fn runtime(&self) -> &R {
         &self.rt
     }
 }
 
-/// The two ends of one row, as they were: whoever holds both knows that the pieces taken begin the pieces
-/// pushed. It takes no memory.
+/// Returns the two ends of one row unchanged. The caller, who has both, then knows that the pieces taken begin the
+/// pieces pushed. Takes no memory.
 pub fn join_pieces<R: Wait, M: RingInvariant>(
     outward: PieceOut<R, M>,
     inward: PieceIn<R, M>,

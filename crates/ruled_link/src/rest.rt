@@ -23,7 +23,7 @@ impl Model for Rest {
 }
 
 impl Rest {
-    /// What is left of a piece after its first `used` bytes.
+    /// Returns the rest of a piece after its first `used` bytes.
     #[cold]
     pub(crate) fn behind(piece: &Piece, used: usize) -> Rest
         requires { used ≤ length piece.now.bytes }
@@ -35,7 +35,7 @@ impl Rest {
         }
     }
 
-    /// The number of its connection.
+    /// Returns the number of its connection.
     #[inline]
     pub(crate) fn number(&self) -> u32
         ensures { result ≡ self.now.number }
@@ -43,7 +43,7 @@ impl Rest {
         self.piece.number()
     }
 
-    /// The bytes that are left.
+    /// Returns the remaining bytes.
     #[inline]
     pub(crate) fn bytes(&self) -> &[u8]
         ensures { result.now ≡ self.now.bytes }

@@ -1,25 +1,25 @@
-//! The invariant of a row, kept at every moment of it.
+//! Invariants that hold at every moment of a row.
 
 use std::marker::Brand;
 
-/// A fact that holds at every moment of a row, whatever its two ends do. It has no bytes: whoever makes a row
-/// picks it. An end that is refused knows the fact of a moment at which the row was full, or empty. Since
-/// neither end can have the fact from what it did itself, it has looked at the row.
+/// A fact that holds at every moment of a row, whatever its two ends do. It has no bytes: whoever makes a row picks it.
+/// An end whose call is refused knows that the fact held at a moment when the row was full, or empty. Neither end can
+/// know the fact from what it did itself: so it has looked at the row.
 pub trait RingInvariant {
     ghost use Rattle.std.specs.Prelude.{List, [], ◌∷◌, ◌++◌};
     ghost use Rattle.ruled_link.specs.Pieces.{PieceState};
 
-    /// The fact, of the pieces pushed by then and the pieces taken.
+    /// The fact about the pieces pushed and the pieces taken so far.
     ghost holds: { List PieceState → List PieceState → Type 0 };
 
     /// A push keeps it.
     ghost push_keeps: { (pushed taken : List PieceState) (piece : PieceState) → holds pushed taken → holds (pushed ++ piece ∷ []) taken };
 
-    /// Taking the first piece that is there keeps it.
+    /// Taking the first piece of the row keeps it.
     ghost take_keeps: { (taken there : List PieceState) (piece : PieceState) → holds (taken ++ piece ∷ there) taken → holds (taken ++ piece ∷ there) (taken ++ piece ∷ []) };
 }
 
-/// No invariant: nothing is kept of a row.
+/// No invariant: a fact that always holds.
 pub struct NoInvariant;
 
 impl RingInvariant for NoInvariant {

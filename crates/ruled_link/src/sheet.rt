@@ -5,8 +5,8 @@ use crate::Piece;
 use std::alloc::{AllocError, Global};
 use std::marker::Model;
 
-/// A piece in memory of its own. It is written and read where it stands, so that no byte of it moves as it
-/// goes through a row.
+/// A piece in its own allocation. It is written and read in place, so that none of its bytes moves as it goes through a
+/// row.
 #[derive(Drop)]
 pub(crate) struct Sheet {
     piece: Box<Piece>,
@@ -21,7 +21,7 @@ impl Model for Sheet {
 }
 
 impl Sheet {
-    /// A sheet with this piece.
+    /// Creates a sheet with this piece.
     pub(crate) fn new(alloc: Global, piece: Piece) -> Result<Sheet, AllocError>
         ensures { IfOk result (λ sheet. sheet ≡ piece) }
     {
@@ -30,7 +30,7 @@ impl Sheet {
         })
     }
 
-    /// Its piece.
+    /// Returns its piece.
     #[inline]
     pub(crate) fn piece(&self) -> &Piece
         ensures { result.now ≡ self.now }
@@ -38,7 +38,7 @@ impl Sheet {
         &self.piece
     }
 
-    /// Writes another piece over the one that stood here.
+    /// Writes another piece over the present one.
     #[inline]
     pub(crate) fn write(&mut self, number: u32, bytes: &[u8])
         requires some { 0 < length bytes.now }

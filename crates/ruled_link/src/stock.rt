@@ -1,4 +1,4 @@
-//! The sheets of a row, which come back to the end that pushes.
+//! The sheets of a row, which come back to the pushing end.
 
 use crate::Piece;
 use crate::sheet::Sheet;
@@ -14,15 +14,15 @@ pub(crate) struct Stock {
     returned: Returns,
 }
 
-/// Where sheets come back.
+/// The queue by which sheets come back.
 #[derive(Drop)]
 pub(crate) struct Returns {
     queue: Arc<ArrayQueue<Sheet>, Global>,
 }
 
 impl Stock {
-    /// The stock of a row for `capacity` pieces. It has two sheets more than the row: one is written while the row
-    /// is full, and one is read.
+    /// Creates the stock of a row for `capacity` pieces. It has two sheets more than the row: one is written while the
+    /// row is full, and one is read.
     pub(crate) fn new(alloc: Global, capacity: usize) -> Result<(Stock, Returns), AllocError> {
         let count = capacity.saturating_add(2);
         let mut unused = Vec::with_capacity(alloc, count)?;
@@ -40,8 +40,8 @@ impl Stock {
         ))
     }
 
-    /// A sheet to write on. One that came back is taken before one that was never used, since its bytes are
-    /// more likely in a cache.
+    /// Returns a sheet to write on. Takes one that came back before one that was never used, since its bytes are more
+    /// likely in a cache.
     #[inline]
     pub(crate) fn take<R: Wait>(&mut self, rt: &R) -> Sheet {
         for _ in rt.forever() {
@@ -51,7 +51,7 @@ impl Stock {
             if let Some(sheet) = self.unused.pop() {
                 return sheet;
             }
-            // With so many sheets there is always one.
+            // There is always one, since there are two sheets more than places in the row.
             thread::yield_now();
         }
         unreachable!()
@@ -65,7 +65,7 @@ impl Stock {
 }
 
 impl Returns {
-    /// Gives a sheet back to the end that pushes.
+    /// Gives a sheet back to the pushing end.
     #[inline]
     pub(crate) fn put<R: Wait>(&self, rt: &R, sheet: Sheet) {
         // There is room for all sheets.

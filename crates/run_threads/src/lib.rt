@@ -1,5 +1,5 @@
-//! The threads of a run over a device, whichever session keeps it: those that write, the one that cuts the link, and the one
-//! that tells of them.
+//! The threads of a run over the device of any session: those that write, the one that cuts the link, and the one that
+//! reports.
 #![tactic(auto)]
 
 mod telling;

@@ -7,13 +7,13 @@ use std::sync::atomic::{AtomicU64, Ordering};
 use std::sync::{Condvar, Mutex, Wait};
 use std::time::{Clock, Duration};
 
-/// How long a run goes on before it tells something again, in seconds.
+/// The time between two reports of a run, in seconds.
 const PERIOD_S: u64 = 1;
 
-/// What a terminal takes as the order to empty the line.
+/// The bytes by which a terminal empties the line.
 const EMPTY_LINE: &str = "\r\x1b[K";
 
-/// How far the threads of a run are.
+/// The progress of a run's threads.
 #[derive(Drop)]
 pub(crate) struct Course {
     completed: AtomicU64,
@@ -22,7 +22,7 @@ pub(crate) struct Course {
 }
 
 impl Course {
-    /// Nothing is written yet.
+    /// Creates the progress of a run that has written nothing yet.
     pub(crate) fn new() -> Course {
         Course {
             completed: AtomicU64::new(0),
@@ -36,7 +36,7 @@ impl Course {
         self.completed.fetch_add(1, Ordering::SeqCst);
     }
 
-    /// Ends the telling.
+    /// Ends the reports.
     pub(crate) fn end<R: Wait>(&self, rt: &R) {
         *self.is_over.lock(rt) = true;
         self.over.notify_all();
@@ -55,7 +55,7 @@ impl Course {
     }
 }
 
-/// Tells what the options want, until the end. A failed write to `err` is no fault of the run.
+/// Reports what the options ask for, until the end. A failed write to `err` is no fault of the run.
 pub(crate) fn tell<R: Wait + Clock, E: Write>(
     rt: &R,
     device: &impl Device,

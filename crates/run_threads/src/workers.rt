@@ -1,4 +1,4 @@
-//! The threads of a run: those that write, the one that cuts the link, and the one that tells of them.
+//! The threads of a run: those that write, the one that cuts the link, and the one that reports.
 ghost use Rattle.std.specs.Prelude.{◌≡◌, ◌*◌, ◌<◌, vec_len, IfOk};
 ghost use Rattle.std.specs.Thread.{IsSend, IsSync};
 
@@ -18,9 +18,9 @@ use std::time::{Clock, Duration};
 /// How long a thread waits between two cuts, and before it asks the session again, in milliseconds.
 const PAUSE_MS: u64 = 1;
 
-/// Makes all writes of a run over a device while its link is cut, tells on `err` what the options want, and returns the
-/// receipts of all writes once the disks are alike or the link is down. The first writer that is refused decides what is
-/// refused; every other one still makes its writes. The caller owes that the device has blocks.
+/// Makes all writes of a run over a device while its link is cut, reports on `err` what the options ask for, and
+/// returns the receipts of all writes once the disks are alike or the link is down. If writers are refused, returns the
+/// refusal of the first of them; every other writer still makes its writes. The device must have blocks.
 pub fn work<
     R: Threads + Wait + Clock + Copy + Drop + Send + Sync + 'static,
     D: Device + Sync,
@@ -77,7 +77,7 @@ fn write_and_cut<R: Threads + Wait + Clock + Copy + Drop + Send + Sync + 'static
     Ok(receipts)
 }
 
-// Waits until the link has nothing left to do.
+// Waits until the link has nothing more to do.
 fn rest<R: Wait + Clock>(rt: &R, device: &impl Device) {
     for _ in rt.forever() {
         if device.is_quiet() {
@@ -87,7 +87,7 @@ fn rest<R: Wait + Clock>(rt: &R, device: &impl Device) {
     }
 }
 
-// Lets each writer make its writes in a thread of its own, and gathers the receipts.
+// Makes the writes of each writer in a thread of its own, and gathers the receipts.
 fn write_all<R: Threads + Wait + Clock + Copy + Drop + Send + Sync + 'static>(
     rt: &R,
     alloc: Global,

@@ -53,7 +53,7 @@ pub(crate) enum Command {
 }
 
 impl Command {
-    /// The command that a line spells: its words are parted by one space.
+    /// Returns the command that a line spells. Its words are separated by one space.
     pub(crate) fn parse(line: &str) -> Option<Command> {
         match line.split_once(' ') {
             None => Command::alone(line),
@@ -61,7 +61,7 @@ impl Command {
         }
     }
 
-    /// A command of one word.
+    /// Returns the command of one word.
     fn alone(name: &str) -> Option<Command> {
         match name {
             "pair" => Some(Command::Pair(Keys::standard())),
@@ -79,7 +79,7 @@ impl Command {
         }
     }
 
-    /// A command with words after its name.
+    /// Returns the command with words after its name.
     fn with_words(name: &str, rest: &str) -> Option<Command> {
         match name {
             "pair" => Some(Command::Pair(Keys::parse(rest)?)),
@@ -108,7 +108,7 @@ impl Command {
         }
     }
 
-    /// `FIRST COUNT HH`, with at most 64 blocks.
+    /// Parses `FIRST COUNT HH`, with at most 64 blocks.
     fn submit(words: &str) -> Option<Command> {
         let (first, words) = words.split_once(' ')?;
         let (count, byte) = words.split_once(' ')?;
@@ -122,7 +122,7 @@ impl Command {
         Some(Command::Submit { first, count, byte })
     }
 
-    /// `primary B` or `secondary B`.
+    /// Parses `primary B` or `secondary B`.
     fn read(words: &str) -> Option<Command> {
         let (node, block) = words.split_once(' ')?;
         let side = side(node)?;
@@ -131,7 +131,7 @@ impl Command {
     }
 }
 
-/// A node by its name.
+/// Returns the node with this name.
 fn side(word: &str) -> Option<Side> {
     match word {
         "primary" => Some(Side::Primary),

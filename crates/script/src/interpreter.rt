@@ -64,13 +64,13 @@ fn submit<W: Write>(
     }
 }
 
-/// So many blocks filled with a byte.
+/// Returns `count` blocks filled with a byte.
 fn filled(alloc: Global, count: u8, byte: u8) -> Result<Bytes, AllocError> {
     let bytes = Vec::from_elem(alloc, byte, usize::from(count) * BLOCK_BYTES)?;
     Ok(Bytes::from_vec(bytes)?)
 }
 
-/// Applies the item of a place. A number that no place can have names no item.
+/// Applies the item at a place. A number that no place can have names no item.
 fn peer<W: Write>(pair: &mut Pair, place: u64, out: &mut W) -> io::Result<()> {
     match u32::try_from(place) {
         Ok(place) => step(pair, "peer", Event::Peer(place), out),
@@ -78,7 +78,7 @@ fn peer<W: Write>(pair: &mut Pair, place: u64, out: &mut W) -> io::Result<()> {
     }
 }
 
-/// The same of an item that fails.
+/// Like `peer`, for an item that fails.
 fn peer_fault<W: Write>(pair: &mut Pair, place: u64, kept: u64, out: &mut W) -> io::Result<()> {
     match u32::try_from(place) {
         Ok(place) => step(pair, "peerfail", Event::PeerFault(place, kept), out),
@@ -86,14 +86,14 @@ fn peer_fault<W: Write>(pair: &mut Pair, place: u64, kept: u64, out: &mut W) -> 
     }
 }
 
-/// What came of a hello so far: what the primary decided, and whether a resync ended at once.
+/// The result of a hello so far: what the primary decided, and whether a resync ended at once.
 #[derive(Drop)]
 struct Hello {
     decision: Option<Decision>,
     is_synced: bool,
 }
 
-/// Opens both ends and exchanges the hello. It stops at the first refusal.
+/// Opens both ends and exchanges the hello. Stops at the first refusal.
 fn connect<W: Write>(pair: &mut Pair, sync: u64, loss: u64, out: &mut W) -> io::Result<()> {
     match greet(pair, sync, loss) {
         Err(refusal) => print::refused(out, "connect", refusal),
@@ -125,7 +125,7 @@ fn greet(pair: &mut Pair, sync: u64, loss: u64) -> Result<Hello, Refusal> {
 }
 
 impl Hello {
-    /// Notes what a step of the hello answered.
+    /// Records the reply to a step of the hello. Returns its refusal if it was refused.
     fn note(&mut self, reply: &Reply) -> Result<(), Refusal> {
         match reply {
             Reply::Refused(refusal) => return Err(*refusal),

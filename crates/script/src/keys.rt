@@ -2,16 +2,16 @@
 use blocks::{Protocol, Settings, Tuple};
 use numbers::decimal;
 
-/// What a pair is made with. A key that stands twice is no command, so each of them is noted.
+/// What a pair is made with. A line with the same key twice is no command, so the keys that occurred are recorded.
 #[derive(Clone, Copy)]
 pub(crate) struct Keys {
-    /// The settings, the defaults where no key names them.
+    /// The settings; the default of each that no key names.
     pub(crate) settings: Settings,
     /// The primary's generation identifiers.
     pub(crate) own: Tuple,
     /// The secondary's.
     pub(crate) peer: Tuple,
-    // Which keys stood, by their bits.
+    // Which keys occurred, by their bits.
     seen: u16,
 }
 
@@ -30,7 +30,7 @@ enum Key {
 }
 
 impl Keys {
-    /// No key stands: the default settings, and both tuples 1,0,0,0.
+    /// Returns the values of a pair without keys: the default settings, and both tuples 1,0,0,0.
     pub(crate) fn standard() -> Keys {
         let first = Tuple {
             current: 1,
@@ -46,7 +46,7 @@ impl Keys {
         }
     }
 
-    /// What `KEY=VALUE` words say, parted by one space.
+    /// Parses `KEY=VALUE` words, separated by one space.
     pub(crate) fn parse(words: &str) -> Option<Keys> {
         let mut keys = Keys::standard();
         for word in words.split(' ') {
@@ -57,7 +57,7 @@ impl Keys {
         Some(keys)
     }
 
-    /// One key more, where it did not stand before.
+    /// Adds a key, if it did not occur before.
     fn with(self, key: Key, value: &str) -> Option<Keys> {
         let bit = key.bit();
         if self.seen & bit != 0 {
@@ -81,7 +81,7 @@ impl Keys {
 }
 
 impl Key {
-    /// The key of a name.
+    /// Returns the key with this name.
     fn named(name: &str) -> Option<Key> {
         match name {
             "protocol" => Some(Key::Protocol),
@@ -97,7 +97,7 @@ impl Key {
         }
     }
 
-    /// Its bit among the keys that stood.
+    /// Returns its bit among the keys that occurred.
     fn bit(self) -> u16 {
         match self {
             Key::Protocol => 1,
@@ -122,13 +122,13 @@ fn protocol(value: &str) -> Option<Protocol> {
     }
 }
 
-/// A number. One that has more than 32 bits is as far out of every range as the greatest that has them.
+/// Parses a number. One of more than 32 bits becomes the greatest of 32 bits, which is as far out of every range.
 fn setting(value: &str) -> Option<u32> {
     let number = decimal(value)?;
     Some(u32::try_from(number).unwrap_or(u32::MAX))
 }
 
-/// `a,b,c,d`: the current identifier, the bitmap's and the two historical ones.
+/// Parses `a,b,c,d`: the current identifier, the bitmap's and the two historical ones.
 fn tuple(value: &str) -> Option<Tuple> {
     let (current, rest) = value.split_once(',')?;
     let (bitmap, rest) = rest.split_once(',')?;

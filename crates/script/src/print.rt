@@ -14,7 +14,7 @@ pub(crate) fn reply<W: Write>(out: &mut W, name: &str, reply: &Reply) -> io::Res
     }
 }
 
-/// Prints a refusal: its number, and the number of the conflicting write where it is that.
+/// Prints a refusal: its number and, if it is a conflict, the number of the conflicting write.
 pub(crate) fn refused<W: Write>(out: &mut W, name: &str, refusal: Refusal) -> io::Result<()> {
     let number = refusal.number();
     match refusal {

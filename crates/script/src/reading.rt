@@ -32,7 +32,7 @@ pub(crate) fn read<W: Write>(
     }
 }
 
-/// Prints the marked blocks, rising.
+/// Prints the marked blocks, in ascending order.
 pub(crate) fn marks<W: Write>(pair: &Pair, out: &mut W) -> io::Result<()> {
     write!(out, "marks")?;
     let mut is_any = false;
@@ -45,7 +45,7 @@ pub(crate) fn marks<W: Write>(pair: &Pair, out: &mut W) -> io::Result<()> {
     end_of_blocks(is_any, out)
 }
 
-/// Prints the blocks in which the two disks differ, rising.
+/// Prints the blocks in which the two disks differ, in ascending order.
 pub(crate) fn diff<W: Write>(pair: &mut Pair, out: &mut W) -> io::Result<()> {
     write!(out, "diff")?;
     let mut is_any = false;
@@ -58,7 +58,7 @@ pub(crate) fn diff<W: Write>(pair: &mut Pair, out: &mut W) -> io::Result<()> {
     end_of_blocks(is_any, out)
 }
 
-/// Where there was no block, the line says so.
+/// Ends a line of blocks. If there was no block, the line says so.
 fn end_of_blocks<W: Write>(is_any: bool, out: &mut W) -> io::Result<()> {
     if is_any {
         writeln!(out)

@@ -47,9 +47,9 @@ impl From<io::Error> for Stop {
     }
 }
 
-/// Runs a script: reads all of it, and prints a line for each command. It answers the status: 0, 1 where the
-/// script cannot be read or is not UTF-8 or the output fails, and 2 for a line that stops it; then a line on `err`
-/// says why. A refusal is a result, and what was printed before an error stays.
+/// Runs a script: reads all of it, and prints a line for each command. Returns the status: 0; 1 if the script cannot be
+/// read or is not UTF-8 or the output fails; 2 for a line that stops it. For 1 and 2 a line on `err` says why. A
+/// refusal is a result, and what was printed before an error stays.
 pub fn script_on<R: Read, W: Write, E: Write>(
     alloc: Global,
     input: &mut R,
@@ -97,7 +97,7 @@ fn run_lines<W: Write>(alloc: Global, text: &str, out: &mut W) -> Result<(), Sto
     Ok(())
 }
 
-/// The command of a line. An empty line and a comment have none.
+/// Returns the command of a line. An empty line and a comment have none.
 fn command_of(number: usize, line: &str) -> Result<Option<Command>, Stop> {
     if line.is_empty() || line.starts_with('#') {
         return Ok(None);
@@ -122,7 +122,7 @@ fn run_with_pair<W: Write>(
     }
 }
 
-/// Tells that the pair was made, and runs the lines after the first `done` over it.
+/// Prints that the pair was made, and runs the lines after the first `done` over it.
 fn run_commands<W: Write>(
     alloc: Global,
     pair: &mut Pair,
@@ -142,7 +142,7 @@ fn run_commands<W: Write>(
     Ok(())
 }
 
-/// Tells why no pair was made. No command can follow it.
+/// Prints why no pair was made. No command can follow it.
 fn end_without_pair<W: Write>(
     refusal: Refusal,
     text: &str,
@@ -159,7 +159,7 @@ fn end_without_pair<W: Write>(
     Ok(())
 }
 
-/// A pair with zero-filled disks and no marks.
+/// Creates a pair with zero-filled disks and no marks.
 fn zeroed(alloc: Global, keys: Keys) -> Result<Pair, Refusal> {
     let settings = keys.settings;
     settings.check()?;

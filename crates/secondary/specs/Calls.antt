@@ -1,4 +1,4 @@
--- What a node's calls are whose outcome the link or the disk has a say in.
+-- The calls of a node whose outcome depends on the link or the disk.
 use Rattle.std.specs.Prelude.{ℕ, ◌≡◌, ◌<◌, ◌&&◌, ◌⊎◌, List, Option, is_none, Result}
 use Rattle.blocks.specs.declared.refusal.Refusal.{Refusal}
 use Rattle.blocks.specs.declared.outcome.Done.{Done}
@@ -9,13 +9,13 @@ use Rattle.secondary_protocol.specs.Node.{NodeSteps}
 use Rattle.secondary_protocol.specs.Steps.{replied}
 use Rattle.secondary.specs.State.{SecondaryView, node}
 
--- A frame was taken, or none, and that was the node's step. Memory is wanting only before a frame is taken.
+-- The call was the node's step of taking some frame, or none. Memory is refused only before a frame is taken.
 pub record ReceivesOne (result : Result Done Refusal) (old new : SecondaryView) : Type 0 where
   pub frame : Option Received
   pub link : Takes frame result old.incoming new.incoming
   pub step : NodeSteps (Receives frame (is_none frame && is_out_of_memory result)) (node old) (replied (λ done. done) result) (node new)
 
--- The disk did the item of the place, or failed in this call, and left any of its blocks new.
+-- The disk finished the item at this place, or failed in this call after any of its blocks were written.
 abbrev pub AppliesOne : ℕ → Result Done Refusal → SecondaryView → SecondaryView → Type 0
 AppliesOne place result old new =
     ((new.faults ≡ old.faults) × NodeSteps (Applies place) (node old) (replied (λ done. done) result) (node new))

@@ -12,11 +12,11 @@ use blocks::{Done, Refusal, Store};
 use link::{FrameIn, FrameOut};
 
 impl<O: FrameOut + Drop, I: FrameIn + Drop, S: Store + Drop> Secondary<O, I, S> {
-    /// Sends the next frame that the end owes: of its hello, and then of the acknowledgements that are due.
+    /// Sends the next frame: first those of the hello, then the acknowledgements that are due.
     ///
-    /// `NotConnected` (12) if the end is closed, else `NothingThere` (13) if nothing is due, else
-    /// `LinkFull` (11) if the link is full. An acknowledgement has no blocks, so it wants no memory. The
-    /// reply tells the link's answer.
+    /// `NotConnected` (12) if the end is closed, else `NothingThere` (13) if nothing is due, else `LinkFull` (11)
+    /// if the link is full. An acknowledgement has no blocks, so it needs no memory. The reply shows whether the
+    /// link had room.
     pub fn ack_out(&mut self) -> Result<Done, Refusal>
         ensures step { NodeSteps (Acknowledges (has_room result) (is_out_of_memory result)) (node self.old) (replied (λ done. done) result) (node self.new) }
         ensures link { Sends result self.old.outgoing self.new.outgoing }

@@ -10,8 +10,8 @@ use blocks::{Refusal, Store};
 use link::{FrameIn, FrameOut};
 
 impl<O: FrameOut + Drop, I: FrameIn + Drop, S: Store + Drop> Secondary<O, I, S> {
-    /// Closes the end: no frame is taken or sent from then on, and its items stay. `NotConnected` (12) comes
-    /// where it is closed. It takes no memory.
+    /// Closes the end: no frame is taken or sent from then on, and its items stay. `NotConnected` (12) if it is
+    /// closed. It takes no memory.
     pub fn close(&mut self) -> Result<(), Refusal>
         ensures step { NodeSteps ClosesToo (node self.old) (replied plainly result) (node self.new) }
         ensures rest { self.new ≡ record self.old { core = self.new.core } }

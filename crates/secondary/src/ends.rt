@@ -8,14 +8,14 @@ use endpoint::{PacketReceiver, PacketSender};
 use link::{FrameIn, FrameOut};
 
 impl<O: FrameOut + Drop, I: FrameIn + Drop, S: Store + Drop> Secondary<O, I, S> {
-    /// What went out, where the node was opened.
+    /// Returns the sending side of the link, if the node was opened.
     pub fn outgoing(&self) -> Option<&PacketSender<O>>
         ensures { option_copied result ≡ self.now.outgoing }
     {
         self.outgoing.as_ref()
     }
 
-    /// What came in, where the node was opened.
+    /// Returns the receiving side of the link, if the node was opened.
     pub fn incoming(&self) -> Option<&PacketReceiver<I>>
         ensures { option_copied result ≡ self.now.incoming }
     {

@@ -16,11 +16,11 @@ use endpoint::{PacketReceiver, PacketSender};
 use link::{FrameIn, FrameOut};
 
 impl<O: FrameOut + Drop, I: FrameIn + Drop, S: Store + Drop> Secondary<O, I, S> {
-    /// Opens the end, over unused ends of a link. The connection's number is one more than the last one's,
-    /// and the caller owes that there are no more connections than 32 bits count.
+    /// Opens the end over unused ends of a link. The connection's number is the last one's plus one, and has to fit
+    /// in 32 bits.
     ///
-    /// `NotDrained` (36) if the end is open, and where items are pending; the new ends are dropped
-    /// then. It takes no memory.
+    /// `NotDrained` (36) if the end is open or items are pending; the new ends are dropped then. It takes no
+    /// memory.
     pub fn open(&mut self, outward: O, inward: I) -> Result<(), Refusal>
         requires outward { IsNewOut (O.state outward) }
         requires inward { IsNewIn (I.state inward) }
@@ -40,7 +40,8 @@ impl<O: FrameOut + Drop, I: FrameIn + Drop, S: Store + Drop> Secondary<O, I, S> 
         Ok(())
     }
 
-    /// Whether `open` and `reopen` would be taken now; `NotDrained` (36) if the end is open, and where items are pending.
+    /// Checks whether `open` and `reopen` would be accepted now: `NotDrained` (36) if the end is open or items are
+    /// pending.
     pub fn may_open(&self) -> Result<(), Refusal>
         ensures { (h : SecondaryHistory) → NodeHas (node self.now) h
             → result ≡ (if (secondary_connection h).closed && is_drained h then Ok tt else Err NotDrained) }
@@ -51,11 +52,11 @@ impl<O: FrameOut + Drop, I: FrameIn + Drop, S: Store + Drop> Secondary<O, I, S> 
         Ok(())
     }
 
-    /// Opens the end anew, over the ends of a link that it has, under the connection's number; those between
-    /// the last one's and this it never saw. The caller owes that it was opened before, and that the number
-    /// is above the last one.
+    /// Opens the end again, over the ends of the link that it has, as connection `number`; it never saw the
+    /// connections between the last one and this. The node must have been opened before, and `number` must be above
+    /// the last one's number.
     ///
-    /// `NotDrained` (36) if the end is open, and where items are pending. It takes no memory.
+    /// `NotDrained` (36) if the end is open or items are pending. It takes no memory.
     pub fn reopen(&mut self, number: u32) -> Result<(), Refusal>
         requires opened { is_some self.old.outgoing ≡ true }
         requires opened_too { is_some self.old.incoming ≡ true }

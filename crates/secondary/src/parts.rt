@@ -28,7 +28,7 @@ impl<S: Store + Drop> Model for Unlinked<S> {
 }
 
 impl<O: FrameOut + Drop, I: FrameIn + Drop, S: Store + Drop> Secondary<O, I, S> {
-    /// The node without its link, and both sides of that, where it was opened.
+    /// Takes the node apart: returns it without its link, and both sides of the link, if it was opened.
     pub fn into_parts(
         self,
     ) -> (
@@ -50,7 +50,7 @@ impl<O: FrameOut + Drop, I: FrameIn + Drop, S: Store + Drop> Secondary<O, I, S> 
         (Unlinked { alloc, core, store }, outgoing, incoming)
     }
 
-    /// The disk of the node, for reading.
+    /// Returns the node's disk, for reading.
     pub fn store(&self) -> &S
         ensures contents { S.contents result.now ≡ self.now.disk }
         ensures faults { S.faults result.now ≡ self.now.faults }
@@ -58,7 +58,7 @@ impl<O: FrameOut + Drop, I: FrameIn + Drop, S: Store + Drop> Secondary<O, I, S> 
         &self.store
     }
 
-    /// The disk of the node, which ends with it.
+    /// Drops the node and returns its disk.
     pub fn into_store(self) -> S
         ensures { S.contents result ≡ self.disk }
     {
@@ -67,7 +67,8 @@ impl<O: FrameOut + Drop, I: FrameIn + Drop, S: Store + Drop> Secondary<O, I, S> 
 }
 
 impl<S: Store + Drop> Unlinked<S> {
-    /// The node over both sides of a link. Together they have to be a node, as they are if `into_parts` gave them.
+    /// Joins the node and both sides of a link. Together they have to satisfy the node's invariant, as they do if
+    /// `into_parts` returned them.
     pub fn linked<O: FrameOut + Drop, I: FrameIn + Drop>(
         self,
         outgoing: Option<PacketSender<O>>,

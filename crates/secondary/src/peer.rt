@@ -11,12 +11,12 @@ use blocks::{Done, FaultStore, Refusal, Store};
 use link::{FrameIn, FrameOut};
 
 impl<O: FrameOut + Drop, I: FrameIn + Drop, S: Store + Drop> Secondary<O, I, S> {
-    /// Has the disk do the item of a place, and owes what is to be acknowledged then. Where the disk fails,
-    /// each block of the item is as it was or as it was to be, the end closes, and the items of later epochs
-    /// are dropped.
+    /// Has the disk do the item of a place, and makes due what is to be acknowledged then. If the disk fails, each
+    /// block of the item has its old or its new contents, the end closes, and the items of later epochs are
+    /// dropped.
     ///
-    /// `UnknownJob` (16) if the place is not pending, else `EpochOpen` (17) if an item of an
-    /// earlier epoch is. It takes no memory.
+    /// `UnknownJob` (16) if the place is not pending, else `EpochOpen` (17) if an item of an earlier epoch is. It
+    /// takes no memory.
     pub fn peer(&mut self, place: u32) -> Result<Done, Refusal>
         ensures step { AppliesOne place result self.old self.new }
         ensures works { self.old.steady ≡ true → (self.new.faults ≡ self.old.faults) × (self.new.steady ≡ true) }
@@ -36,11 +36,11 @@ impl<O: FrameOut + Drop, I: FrameIn + Drop, S: Store + Drop> Secondary<O, I, S> 
 }
 
 impl<O: FrameOut + Drop, I: FrameIn + Drop> Secondary<O, I, FaultStore> {
-    /// Has the disk fail the item of a place, after its first `kept` blocks. It does what `peer` does then,
-    /// and afterwards no write is armed on the disk.
+    /// Has the disk fail the item of a place after its first `kept` blocks, and does what `peer` does then. Unless it
+    /// is refused, no write is armed on the disk afterwards.
     ///
-    /// `UnknownJob` (16) and `EpochOpen` (17) come as there, else `BadRange` (1) if the item has fewer
-    /// blocks. It takes no memory.
+    /// `UnknownJob` (16) and `EpochOpen` (17) as for `peer`, else `BadRange` (1) if the item has fewer blocks. It
+    /// takes no memory.
     pub fn peer_fault(&mut self, place: u32, kept: u64) -> Result<Done, Refusal>
         ensures step { IsStep (peer_fault_kept place kept) (node self.old) (replied (λ done. done) result) (node self.new) }
         ensures works { self.old.steady ≡ true → self.new.steady ≡ true }

@@ -7,7 +7,7 @@ use blocks::Store;
 use link::{PlainIn, PlainOut, Queue};
 
 impl<S: Store + Drop> Secondary<PlainOut, PlainIn, S> {
-    /// Hands out the queue of what it sends, if it is here. Until it is back, that side counts as full.
+    /// Hands out the queue of the sending side, if it is here. Until it is back, that side counts as full.
     pub fn give_outward(&mut self) -> Option<Queue>
         ensures given { GivenOut result self.old.outgoing self.new.outgoing }
         ensures rest { self.new ≡ record self.old { outgoing = self.new.outgoing } }
@@ -15,7 +15,7 @@ impl<S: Store + Drop> Secondary<PlainOut, PlainIn, S> {
         self.outgoing.as_mut()?.give_queue()
     }
 
-    /// Takes the queue of what it sends back.
+    /// Takes the queue of the sending side back.
     pub fn lay_outward(&mut self, queue: Queue)
         requires { IfSome self.old.outgoing (λ o. o.frames ≡ queue.taken ++ queue.frames) }
         ensures laid { LaidBack queue self.old.outgoing self.new.outgoing }
@@ -26,7 +26,7 @@ impl<S: Store + Drop> Secondary<PlainOut, PlainIn, S> {
         }
     }
 
-    /// Hands out the queue that it takes from, if it lies here.
+    /// Hands out the queue of the receiving side, if it is here.
     pub fn give_inward(&mut self) -> Option<Queue>
         ensures given { GivenBack result self.old.incoming self.new.incoming }
         ensures rest { self.new ≡ record self.old { incoming = self.new.incoming } }
@@ -34,7 +34,7 @@ impl<S: Store + Drop> Secondary<PlainOut, PlainIn, S> {
         self.incoming.as_mut()?.give_queue()
     }
 
-    /// Takes the queue in, to take from it.
+    /// Takes the queue in, for the receiving side to take frames from it.
     pub fn lay_inward(&mut self, queue: Queue)
         requires { IfSome self.old.incoming (λ i. queue.taken ≡ i.frames) }
         ensures laid { LaidIn queue self.old.incoming self.new.incoming }

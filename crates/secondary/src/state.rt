@@ -13,9 +13,9 @@ use secondary_core::SecondaryCore;
 use std::alloc::Global;
 use std::marker::Model;
 
-/// The secondary node, which owns its disk. It takes the primary's frames in order, has its disk do what
-/// they carry epoch by epoch, and acknowledges it; its core decides what it may do. Invariant: the node has some
-/// history of the model (`NodeHas`), and a partly sent packet is the one that is due.
+/// The secondary node, which owns its disk. It takes the primary's frames in order, has its disk do their items
+/// epoch by epoch, and acknowledges them; its core decides what it may do. Invariant: the node refines some model
+/// history (`NodeHas`), and a partly sent packet is the one that is due.
 #[derive(Drop)]
 pub struct Secondary<O: FrameOut + Drop, I: FrameIn + Drop, S: Store + Drop> {
     pub(crate) alloc: Global,
@@ -36,11 +36,11 @@ impl<O: FrameOut + Drop, I: FrameIn + Drop, S: Store + Drop> Model for Secondary
 }
 
 impl<O: FrameOut + Drop, I: FrameIn + Drop, S: Store + Drop> Secondary<O, I, S> {
-    /// A closed secondary that was never opened, with its disk and that disk's generation identifiers. It is
-    /// consistent unless its current identifier is zero.
+    /// Creates a closed secondary that was never opened, with its disk and that disk's generation identifiers. It
+    /// is consistent unless its current identifier is zero.
     ///
-    /// `BadSetting` (15) if a setting is out of its range, and where the disk has another size than
-    /// the settings say; else `NoMemory` (7) if there is no memory. A refused disk is dropped.
+    /// `BadSetting` (15) if a setting is out of its range, or if the disk has another size than the settings say;
+    /// else `NoMemory` (7) if there is no memory. A refused disk is dropped.
     pub fn new(
         alloc: Global,
         settings: Settings,

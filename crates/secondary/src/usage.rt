@@ -14,43 +14,43 @@ use link::{FrameIn, FrameOut};
 use secondary_core::Usage;
 
 impl<O: FrameOut + Drop, I: FrameIn + Drop, S: Store + Drop> Secondary<O, I, S> {
-    /// The lowest pending place. `NothingThere` (13) if nothing is pending. It takes no memory.
+    /// Returns the lowest pending place. `NothingThere` (13) if nothing is pending. It takes no memory.
     pub fn next(&self) -> Result<u32, Refusal>
         ensures { (h : SecondaryHistory) → NodeHas (node self.now) h → result ≡ ok_or (next_pending h) NothingThere }
     {
         self.core.next().ok_or(Refusal::NothingThere)
     }
 
-    /// Whether nothing is pending.
+    /// Returns whether nothing is pending.
     pub fn is_drained(&self) -> bool
         ensures { (h : SecondaryHistory) → NodeHas (node self.now) h → result ≡ is_drained h }
     {
         self.core.is_drained()
     }
 
-    /// Whether the identifiers are those of the data.
+    /// Returns whether the identifiers are those of the data.
     pub fn is_consistent(&self) -> bool
         ensures { (h : SecondaryHistory) → NodeHas (node self.now) h → result ≡ h.consistent }
     {
         self.core.is_consistent()
     }
 
-    /// The disk's generation identifiers.
+    /// Returns the disk's generation identifiers.
     pub fn tuple(&self) -> Tuple
         ensures { (h : SecondaryHistory) → NodeHas (node self.now) h → result ≡ h.tuple }
     {
         self.core.tuple()
     }
 
-    /// The settings.
+    /// Returns the settings.
     pub fn settings(&self) -> Settings
         ensures { (h : SecondaryHistory) → NodeHas (node self.now) h → result ≡ h.settings }
     {
         self.core.settings()
     }
 
-    /// The number of the last connection, 0 before the first. `open` begins the one after it, and `reopen`
-    /// one with a higher number.
+    /// Returns the number of the last connection, 0 before the first. `open` begins the next one, and `reopen` one
+    /// with a higher number.
     pub fn number(&self) -> u32
         ensures number { result ≡ self.now.core.number }
         ensures history { (h : SecondaryHistory) → NodeHas (node self.now) h → result ≡ (secondary_connection h).number }
@@ -58,36 +58,36 @@ impl<O: FrameOut + Drop, I: FrameIn + Drop, S: Store + Drop> Secondary<O, I, S> 
         self.core.connection()
     }
 
-    /// How many items were taken on the last connection.
+    /// Returns how many items were taken on the last connection.
     pub fn items_taken(&self) -> u32
         ensures { (h : SecondaryHistory) → NodeHas (node self.now) h → result ≡ length (items_taken (secondary_connection h)) }
     {
         self.core.items_taken()
     }
 
-    /// How many writes and resync items of the last connection are applied. One that the disk failed is not, and
-    /// neither is one that was dropped then.
+    /// Returns how many writes and resync items of the last connection are applied. An item that the disk failed
+    /// does not count, and neither does one that was dropped then.
     pub fn items_applied(&self) -> u32
         ensures { (h : SecondaryHistory) → NodeHas (node self.now) h → result ≡ applied_items (secondary_connection h) }
     {
         self.core.items_applied()
     }
 
-    /// Whether the end is open.
+    /// Returns whether the end is open.
     pub fn is_open(&self) -> bool
         ensures { (h : SecondaryHistory) → NodeHas (node self.now) h → result ≡ not (secondary_connection h).closed }
     {
         self.core.is_open()
     }
 
-    /// Whether the hello is done: the end is open, and has taken three frames and sent three.
+    /// Returns whether the hello is done: the end is open, and has taken three frames and sent three.
     pub fn is_hello_done(&self) -> bool
         ensures { (h : SecondaryHistory) → NodeHas (node self.now) h → result ≡ (not (secondary_connection h).closed && hello_is_done (secondary_connection h)) }
     {
         self.core.is_hello_done()
     }
 
-    /// How far the data may be used.
+    /// Returns how far the data may be used.
     pub fn usage(&self) -> Usage
         ensures { (h : SecondaryHistory) → NodeHas (node self.now) h → result ≡ usage_of h }
     {

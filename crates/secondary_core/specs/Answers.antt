@@ -1,4 +1,4 @@
--- What an acknowledgement that is due stands for.
+-- The fields of a due acknowledgement as packets.
 use Rattle.std.specs.Prelude.{ℕ, List, []}
 use Rattle.blocks.specs.declared.settings.Protocol.{Protocol}
 use Rattle.packets.specs.declared.packet.Packet.{Packet}

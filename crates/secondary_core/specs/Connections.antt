@@ -1,4 +1,4 @@
--- What an open connection stands for.
+-- An open connection as plain values, and its invariant.
 use Rattle.std.specs.Prelude.{ℕ, ◌≡◌, ◌+◌, ◌<◌, ◌≤◌, nat_le, Bool, false, ◌&&◌, List, [], ◌++◌, length, Option, None, Some}
 use Rattle.model.specs.Frames.{Packet}
 use Rattle.model.specs.Stream.{StreamItem}
@@ -23,18 +23,18 @@ abbrev pub is_hello_done : Option EndState → Bool
 is_hello_done None = false
 is_hello_done (Some e) = nat_le 3 e.heard && nat_le 3 e.said
 
--- These come due, and then each epoch up to whose end all items are applied is acknowledged.
+-- Makes these due, and then the acknowledgement of each ended epoch whose items, and all before them, are applied.
 abbrev pub acknowledged : List Packet → List (Pending StreamItem) → Connection → Connection
 acknowledged new pending c = record c { outbox = acknowledging pending (record c.outbox { due = c.outbox.due ++ new }) }
 
--- So many barriers were taken, and each is acknowledged or waits for that; none waits up to whose end all items are applied; and
--- there is room for an acknowledgement of each pending item and each barrier that waits.
+-- Each of the `barriers` barriers that were taken is acknowledged or waits for that; none that waits has all items
+-- before it applied; and there is room for an acknowledgement of each pending item and each barrier that waits.
 pub record IsServed (pending : List (Pending StreamItem)) (barriers : ℕ) (o : OutboxState) : Type 0 where
   pub ended : o.answered + length o.sizes ≡ barriers
   pub answered : answers pending o.answered o.sizes ≡ []
   pub room : length o.due + length o.sizes + length pending ≤ o.answers
 
--- There is room for what one frame more may want: a barrier, and two acknowledgements.
+-- There is room for what another frame may need: a barrier, and two acknowledgements.
 pub record HasRoom (pending : List (Pending StreamItem)) (o : OutboxState) : Type 0 where
   pub answers : length o.due + length o.sizes + length pending + 2 ≤ o.answers
   pub epochs : length o.sizes < o.epochs

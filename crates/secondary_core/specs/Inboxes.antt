@@ -1,4 +1,4 @@
--- What the fields of what is kept of a stream stand for.
+-- The fields of the receive-side state of a stream as plain values.
 use Rattle.std.specs.Prelude.{◌≤◌}
 use Rattle.secondary_protocol.specs.Core.{Intake}
 use Rattle.secondary_core.specs.declared.inbox.Inbox.TheInside.{Inside}

@@ -1,4 +1,4 @@
--- What the fields of an item stand for.
+-- The fields of an item as plain values.
 use Rattle.std.specs.Prelude.{ℕ, ◌≡◌, ◌==◌, ◌*◌, ◌<◌, ◌^◌, Bool, true, false, List, length}
 use Rattle.blocks.specs.Contents.{blocks_of}
 use Rattle.model.specs.Stream.{StreamItem, WriteItem, ResyncItem}

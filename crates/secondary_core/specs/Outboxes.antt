@@ -1,4 +1,4 @@
--- What the fields of an outbox stand for.
+-- The fields of an outbox as plain values.
 use Rattle.std.specs.Prelude.{ℕ, ◌+◌, ◌<◌, ◌^◌, ◌++◌, List, [], drop, length}
 use Rattle.std.specs.VecDeque.{deque_capacity}
 use Rattle.model.specs.Frames.{Packet}
@@ -7,8 +7,8 @@ use Rattle.peerdisk.specs.Pending.{Pending}
 use Rattle.secondary_protocol.specs.Core.{answers}
 use Rattle.secondary_core.specs.declared.outbox.Outbox.TheInside.{Inside}
 
--- What is due; how many epochs are acknowledged, or about to be, and the sizes of the others that a barrier ended; and how many
--- acknowledgements and how many sizes there is room for.
+-- What is due; how many epochs are acknowledged or have their acknowledgement due, and the sizes of the others that a
+-- barrier ended; and how many acknowledgements and how many sizes there is room for.
 pub record OutboxState : Type 0 where
   pub due : List Packet
   pub answered : ℕ
@@ -34,7 +34,7 @@ IsOutbox o = o.answered + length o.sizes.items < 2 ^ 32
 abbrev pub begun : ℕ → ℕ → OutboxState
 begun answers epochs = record { due = []; answered = 0; sizes = []; answers = answers; epochs = epochs }
 
--- each epoch up to whose end all items are applied is acknowledged
+-- makes the acknowledgement due of each ended epoch whose items, and all before them, are applied
 abbrev pub acknowledging : List (Pending StreamItem) → OutboxState → OutboxState
 acknowledging pending o =
     let new = answers pending o.answered o.sizes in

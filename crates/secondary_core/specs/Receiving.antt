@@ -1,4 +1,4 @@
--- What taking a frame is made of: the frame is judged, and what is accepted is done.
+-- The parts of taking a frame: it is judged, and an accepted one has its effect.
 use Rattle.std.specs.Prelude.{ℕ, ◌≡◌, ◌<◌, ◌==◌, Bool, true, ◌&&◌, length, Option, Some, None, is_some, option_map, Result, Ok, Err}
 use Rattle.blocks.specs.declared.refusal.Refusal.{Refusal}
 use Rattle.blocks.specs.declared.refusal.Refusal.TheVariants.{NotConnected}
@@ -17,22 +17,22 @@ pub record MayTake (c : CoreState) : Type 0 where
   pub few : length c.state.pending < c.state.settings.pending
   pub ready : c.is_ready ≡ true
 
--- what an accepted frame is called and leaves, with what follows; a refused one leaves the state
+-- the result of an accepted frame, with what follows; a refused one leaves the state
 abbrev pub told : Judged → SecondaryState → Result What Refusal × SecondaryState
 told (Ok done) s = (Ok done.0, follows done.1)
 told (Err refusal) s = (Err refusal, s)
 
--- a frame is judged, at an open end
+-- judges a frame, at an open end
 abbrev pub judged_at : Received → Option EndState → SecondaryState → Result What Refusal × SecondaryState
 judged_at frame None s = (Err NotConnected, s)
 judged_at frame (Some e) s = told (judging frame e s) s
 
--- an item is judged, at an open end
+-- judges an item, at an open end
 abbrev pub item_at : Packet → Option EndState → SecondaryState → Result What Refusal × SecondaryState
 item_at packet None s = (Err NotConnected, s)
 item_at packet (Some e) s = told (judging_item packet e s) s
 
--- one frame more of the hello is taken
+-- counts another taken frame of the hello
 abbrev pub greeted : EndState → SecondaryState → SecondaryState
 greeted e s = record s { end = Some (hearing e) }
 
@@ -40,7 +40,7 @@ greeted e s = record s { end = Some (hearing e) }
 abbrev pub is_next : ℕ → ℕ → ℕ → SecondaryState → Bool
 is_next at first count s = ((at == s.intake.places) && has_place s.intake.places) && is_range s.settings first count
 
--- an item with blocks waits for the disk, and its receipt is due where the protocol asks for one
+-- adds an item with blocks to the pending ones, and makes its receipt due if the protocol asks for one
 abbrev pub admitted : StreamItem → SecondaryState → SecondaryState
 admitted item s =
     follows (record s {

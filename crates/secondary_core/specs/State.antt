@@ -1,4 +1,4 @@
--- What the fields of a secondary stand for.
+-- The fields of a secondary as plain values, and their invariant.
 use Rattle.std.specs.Prelude.{ℕ, suc, ◌≡◌, ◌+◌, ◌<◌, ◌≤◌, Bool, true, length, option_map, IfSome}
 use Rattle.std.specs.List.{AllByRecursion}
 use Rattle.blocks.specs.SettingsRange.{IsInRange}
@@ -9,7 +9,7 @@ use Rattle.secondary_protocol.specs.Core.{Intake, SecondaryState}
 use Rattle.secondary_core.specs.Connections.{HasRoom, IsServed, end_of}
 use Rattle.secondary_core.specs.declared.state.SecondaryCore.TheInside.{Inside}
 
--- a secondary, and whether there is room for what one frame may want
+-- a secondary, and whether there is room for what one frame may need
 pub record CoreState : Type 0 where
   pub state : SecondaryState
   pub is_ready : Bool
@@ -31,14 +31,14 @@ core_of c = record {
   is_ready = c.is_ready;
 }
 
--- A pending item is one of what was taken, at a device of so many blocks.
+-- A pending item is one of those that were taken, at a device of `size` blocks.
 pub record IsOf (size : ℕ) (taken : Intake) (p : Pending StreamItem) : Type 0 where
   pub place : p.place < taken.places
   pub epoch : p.epoch ≤ suc taken.barriers
   pub inside : first_of p.item + length (contents_of p.item) ≤ size
 
--- The blocks are the device's; the disk keeps as many items as the settings say, and has no more; what is pending was taken, and
--- so was what is applied.
+-- The blocks are the device's; the disk keeps as many items as the settings say, and has no more; each pending item was
+-- taken, and so was each applied one.
 pub record IsPending (settings : Settings) (inbox : Intake) (disk : PeerDiskState StreamItem) (items_applied : ℕ) : Type 0 where
   pub limit : disk.limit ≡ settings.pending
   pub size : length inbox.blocks ≡ settings.blocks
@@ -46,8 +46,8 @@ pub record IsPending (settings : Settings) (inbox : Intake) (disk : PeerDiskStat
   pub pending : AllByRecursion (IsOf settings.blocks inbox) disk.pending
   pub counted : items_applied + length disk.pending ≤ inbox.places
 
--- The settings are in their ranges; what is pending is as they say; what is pending and the barriers that were taken are served on
--- an open connection; and there is room for what one frame may want where that was made.
+-- The settings are in their ranges; the pending items are as they say; the pending items and the barriers that were
+-- taken are served on an open connection; and there is room for what one frame may need, if that was made.
 pub record IsCore (c : Inside) : Type 0 where
   pub in_range : IsInRange c.settings
   pub pending : IsPending c.settings c.inbox c.disk c.items_applied

@@ -21,7 +21,7 @@ pub(crate) enum Told {
     Whole { epoch: u32, writes: u32 },
 }
 
-/// An acknowledgement that is due. Proofs see its packet, which has a spelling.
+/// An acknowledgement that is due. Proofs see its packet, which can be encoded.
 #[derive(Drop)]
 pub(crate) struct Answer {
     told: Told,
@@ -40,7 +40,7 @@ impl Model for Answer {
 }
 
 impl Answer {
-    /// An acknowledgement of this; its packet has a spelling.
+    /// Creates the acknowledgement of `told`, whose packet can be encoded.
     pub(crate) fn new(told: Told) -> Answer
         requires { IsSpellable (packet_of told) }
         ensures { result ≡ meaning (packet_of told) }
@@ -48,7 +48,7 @@ impl Answer {
         Answer { told }
     }
 
-    /// Its packet, which has no blocks.
+    /// Returns its packet, which has no blocks.
     pub(crate) fn packet(&self) -> Packet
         ensures means { meaning result ≡ self.now }
         ensures spellable { IsSpellable result }

@@ -13,15 +13,15 @@ use crate::state::SecondaryCore;
 use blocks::{Done, Refusal, What};
 
 impl SecondaryCore {
-    /// The lowest pending place, if an item is pending.
+    /// Returns the lowest pending place, if an item is pending.
     pub fn next(&self) -> Option<u32>
         ensures { ok_or result NothingThere ≡ next self.now.state.pending }
     {
         self.disk.next().ok()
     }
 
-    /// The item of a place, which the disk may do now; the device has its blocks. `UnknownJob` (16) comes
-    /// where the place is not pending, `EpochOpen` (17) if an item of an earlier epoch is.
+    /// Returns the item of a place, if the disk may do it now; the device has its blocks. `UnknownJob` (16) if the
+    /// place is not pending, `EpochOpen` (17) if an item of an earlier epoch is.
     pub fn start(&self, place: u32) -> Result<&PendingItem, Refusal>
         ensures started { MatchResult result (λ item. start place self.now.state ≡ Ok item.now) (λ e. start place self.now.state ≡ Err e) }
         ensures inside { IfOk result (λ item. first_of item.now + length (contents_of item.now) ≤ self.now.state.settings.blocks) }
@@ -29,9 +29,8 @@ impl SecondaryCore {
         self.disk.start(place)
     }
 
-    /// The disk has the item of a place that may start: it is pending no more, and what the protocol asks to
-    /// acknowledge then is due at an open end, with each epoch that is wholly applied by it. It takes no
-    /// memory.
+    /// Records that the disk has done the item of a place that may start. At an open end, the acknowledgement that
+    /// the protocol asks for then comes due, and that of each epoch that is now wholly applied. It takes no memory.
     #[tactic(auto, using(crate::proofs::Places::may_start, crate::proofs::Places::one_less, crate::proofs::Kept::one_most))]
     pub fn done(&mut self, place: u32) -> Done
         requires { IsOk (start place self.old.state) }
@@ -47,8 +46,8 @@ impl SecondaryCore {
         Done::about(What::Nothing)
     }
 
-    /// The disk failed the item of a place that may start: the end closes, and the item and those of later
-    /// epochs are dropped. It takes no memory.
+    /// Records that the disk failed the item of a place that may start: closes the end, and drops the item and
+    /// those of later epochs. It takes no memory.
     #[tactic(auto, using(crate::proofs::Places::may_start))]
     pub fn failed(&mut self, place: u32) -> Done
         requires { IsOk (start place self.old.state) }

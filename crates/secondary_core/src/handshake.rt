@@ -7,9 +7,9 @@ use blocks::{Command, Refusal, Settings};
 use handshakes::Handshake;
 use packets::Packet;
 
-/// Takes the next frame of the primary's hello, and answers its command. The identifiers that UUIDS has
-/// decide nothing here. `OtherProtocol` (34), `OtherSize` (35) and `BadCommand` (21) come as the handshake
-/// judges; then nothing changes.
+/// Takes the next frame of the primary's hello, and returns its command. The identifiers in UUIDS decide nothing
+/// here. `OtherProtocol` (34), `OtherSize` (35) and `BadCommand` (21) come as `Handshake::judge` returns them; then
+/// nothing changes.
 pub(crate) fn greet(
     handshake: &mut Handshake,
     packet: &Packet,

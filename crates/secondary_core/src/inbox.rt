@@ -12,8 +12,8 @@ use std::alloc::Global;
 use std::marker::Model;
 
 /// Receive-side state of the last connection's stream: the number of items and of barriers, the highest write
-/// number, the last epoch's writes and blocks, and whether a resync goes on. Each item has one place, so no
-/// count is above that of the places.
+/// number, the last epoch's writes and blocks, and whether a resync runs. Each item has one place, so no count is
+/// above that of the places.
 ///
 /// It outlives its connection: items of a closed one may still be pending, and it says how many were taken.
 #[derive(Drop)]
@@ -39,8 +39,8 @@ impl Model for Inbox {
 }
 
 impl Inbox {
-    /// Nothing, for a device of `blocks` blocks. `NoMemory` (7) if there is no memory; nothing takes
-    /// memory later.
+    /// Creates the state of a stream without items, for a device of `blocks` blocks. `NoMemory` (7) if there is no
+    /// memory; nothing takes memory later.
     pub(crate) fn new(alloc: Global, blocks: u32) -> Result<Inbox, Refusal>
         ensures nothing { IfOk result (λ t. t ≡ nothing_taken blocks) }
         ensures refused { IfErr result (λ e. e ≡ NoMemory) }
@@ -55,7 +55,7 @@ impl Inbox {
         })
     }
 
-    /// A stream begins.
+    /// Resets the state at the beginning of a stream.
     pub(crate) fn begin(&mut self)
         ensures { self.new ≡ nothing_taken (length self.old.blocks) }
     {
@@ -67,21 +67,21 @@ impl Inbox {
         self.is_resync = false;
     }
 
-    /// How many items were taken, which is the next one's place.
+    /// Returns how many items were taken, which is the next one's place.
     pub(crate) fn places(&self) -> u32
         ensures { result ≡ self.now.places }
     {
         self.places
     }
 
-    /// How many barriers were taken.
+    /// Returns how many barriers were taken.
     pub(crate) fn barriers(&self) -> u32
         ensures { result ≡ self.now.barriers }
     {
         self.barriers
     }
 
-    /// The epoch that goes on.
+    /// Returns the number of the current epoch.
     pub(crate) fn epoch(&self) -> u32
         requires { self.now.places < 4294967295 }
         ensures { result ≡ suc self.now.barriers }
@@ -89,28 +89,29 @@ impl Inbox {
         self.barriers + 1
     }
 
-    /// Whether a resync goes on.
+    /// Returns whether a resync runs.
     pub(crate) fn is_resync(&self) -> bool
         ensures { result ≡ self.now.resync }
     {
         self.is_resync
     }
 
-    /// Whether there is a place for another item.
+    /// Returns whether there is a place for another item.
     pub(crate) fn has_place(&self) -> bool
         ensures { result ≡ has_place self.now.places }
     {
         self.places < u32::MAX
     }
 
-    /// Whether a write of this number may come next: it is the first item, or above all writes before it.
+    /// Returns whether a write of this number may come next: it is the first item, or its number is above those of
+    /// all writes before it.
     pub(crate) fn is_rising(&self, number: u64) -> bool
         ensures { result ≡ ((self.now.places == 0) || nat_lt self.now.highest number) }
     {
         self.places == 0 || self.highest < number
     }
 
-    /// Whether no item of the last epoch has one of these blocks.
+    /// Returns whether no item of the last epoch covers one of these blocks.
     pub(crate) fn is_apart(&self, range: Range) -> bool
         requires { range.first.0 + range.count ≤ length self.now.blocks }
         ensures { result ≡ is_apart range.first.0 range.count self.now }
@@ -118,7 +119,7 @@ impl Inbox {
         !self.blocks.has_any(range)
     }
 
-    /// An item with blocks is taken.
+    /// Counts an item with blocks.
     pub(crate) fn item(&mut self, item: &PendingItem)
         requires place { self.old.places < 4294967295 }
         requires inside { first_of item.now + length (contents_of item.now) ≤ length self.old.blocks }
@@ -132,7 +133,7 @@ impl Inbox {
         }
     }
 
-    /// A barrier is taken, which ends an epoch. Answers how many writes that has.
+    /// Counts a barrier, which ends an epoch. Returns how many writes that epoch has.
     pub(crate) fn barrier(&mut self) -> u32
         requires { self.old.places < 4294967295 }
         ensures writes { result ≡ self.old.writes }
@@ -146,7 +147,7 @@ impl Inbox {
         writes
     }
 
-    /// SYNC_UUID or UUIDS is taken: a resync goes on from here, or none.
+    /// Counts SYNC_UUID or UUIDS. From here on a resync runs if `goes_on` says so.
     pub(crate) fn resync(&mut self, goes_on: bool)
         requires { self.old.places < 4294967295 }
         ensures { self.new ≡ record self.old { places = suc self.old.places; resync = goes_on } }

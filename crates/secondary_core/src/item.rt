@@ -22,7 +22,7 @@ pub(crate) enum ItemKind {
     Resync,
 }
 
-/// A write or a block of a resync, which the disk has to do.
+/// A write or a block of a resync that waits for the disk.
 #[derive(Drop)]
 pub struct PendingItem {
     kind: ItemKind,
@@ -46,7 +46,7 @@ impl Model for PendingItem {
 }
 
 impl PendingItem {
-    /// A write of these bytes.
+    /// Creates a write of these bytes.
     pub(crate) fn write(number: u64, range: Range, contents: Bytes) -> PendingItem
         requires numbered { 0 < number }
         requires small { 8 * range.first.0 < 2 ^ 64 }
@@ -60,7 +60,7 @@ impl PendingItem {
         }
     }
 
-    /// A block of a resync.
+    /// Creates a block of a resync.
     pub(crate) fn resync(range: Range, contents: Bytes) -> PendingItem
         requires one { range.count ≡ 1 }
         requires small { 8 * range.first.0 < 2 ^ 64 }
@@ -74,14 +74,14 @@ impl PendingItem {
         }
     }
 
-    /// Where it comes from.
+    /// Returns where it comes from.
     pub(crate) fn kind(&self) -> ItemKind
         ensures { is_kind result self.now ≡ true }
     {
         self.kind
     }
 
-    /// The blocks that it covers.
+    /// Returns the blocks that it covers.
     pub fn range(&self) -> Range
         ensures first { result.first.0 ≡ first_of self.now }
         ensures count { result.count ≡ length (contents_of self.now) }
@@ -89,7 +89,7 @@ impl PendingItem {
         self.range
     }
 
-    /// What it writes, whole blocks of 4,096 bytes.
+    /// Returns the bytes to write, whole blocks of 4,096 bytes.
     pub fn contents(&self) -> &Bytes
         ensures blocks { blocks_of 4096 result.now ≡ contents_of self.now }
         ensures whole { length result.now ≡ 4096 * length (contents_of self.now) }
@@ -97,7 +97,7 @@ impl PendingItem {
         &self.contents
     }
 
-    /// The acknowledgement that is due once it is taken: under protocol B a write's RECV_ACK.
+    /// Returns the acknowledgement that is due once it is taken: under protocol B a write's RECV_ACK.
     pub(crate) fn receipt(&self, protocol: Protocol, place: u32) -> Option<Answer>
         ensures { option_to_list result ≡ receipt_of protocol place self.now }
     {
@@ -109,8 +109,8 @@ impl PendingItem {
         }
     }
 
-    /// The acknowledgement that is due once it is on the disk: under protocol C a write's WRITE_ACK, and a
-    /// block's RS_WRITE_ACK under each.
+    /// Returns the acknowledgement that is due once it is on the disk: a write's WRITE_ACK under protocol C, and a
+    /// resync block's RS_WRITE_ACK under every protocol.
     pub(crate) fn answer(&self, protocol: Protocol, place: u32) -> Option<Answer>
         ensures { option_to_list result ≡ applied_answer protocol place self.now }
     {
@@ -123,7 +123,7 @@ impl PendingItem {
         }
     }
 
-    // How an acknowledgement names it.
+    // Returns its name in an acknowledgement.
     fn naming(&self, number: u64, place: u32) -> Acknowledgement
         ensures named { named result ≡ record { first = first_of self.now; number = number; count = length (contents_of self.now); place = place } }
         ensures small { 8 * result.first.0 < 2 ^ 64 }
@@ -140,7 +140,7 @@ impl PendingItem {
     }
 }
 
-/// How many whole blocks these bytes have.
+/// Returns how many whole blocks these bytes have.
 pub(crate) fn whole_blocks(contents: &Bytes) -> u64
     ensures blocks { result ≡ length (blocks_of 4096 contents.now) }
     ensures bytes { result ≡ length contents.now / 4096 }

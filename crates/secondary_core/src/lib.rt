@@ -1,5 +1,6 @@
-//! A secondary without its link and its disk: which frames it takes and what becomes of them, which items its disk may do, what
-//! it owes to the primary, and how far its data may be used. It touches nothing; packets and numbers go in and come out.
+//! A secondary without its link and its disk: which frames it takes and what becomes of them, which items its disk
+//! may do, which acknowledgements it owes to the primary, and how far its data may be used. It does no input or
+//! output; packets and numbers go in and come out.
 #![tactic(auto)]
 
 mod answer;

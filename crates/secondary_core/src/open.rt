@@ -9,8 +9,8 @@ use blocks::Refusal;
 use handshakes::Handshake;
 
 impl SecondaryCore {
-    /// Opens the end, under the connection's number. `NotDrained` (36) if it is open, and where
-    /// items are pending. It takes no memory.
+    /// Opens the end as connection `number`. `NotDrained` (36) if it is open or items are pending. It takes no
+    /// memory.
     pub fn open(&mut self, number: u32) -> Result<(), Refusal>
         ensures { (result, self.new.state) ≡ open_end number self.old.state }
     {

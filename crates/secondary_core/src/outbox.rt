@@ -16,11 +16,11 @@ use std::alloc::Global;
 use std::collections::VecDeque;
 use std::marker::Model;
 
-/// The most acknowledgements that one item asks for: of a write that is taken, and of one that is applied.
+/// The most acknowledgements that one item asks for: one when it is taken, and one when it is applied.
 const ANSWERS: usize = 2;
 
-/// The acknowledgements that are due and not pushed, in their order; and of the epochs that a barrier ended
-/// how many are acknowledged, or about to be, and how many writes each of the others has. The numbers of
+/// The acknowledgements that are due and not sent, in order. For the epochs that a barrier ended: how many of them
+/// are acknowledged or have their acknowledgement due, and how many writes each of the others has. The numbers of
 /// epochs fit in 32 bits.
 #[derive(Drop)]
 pub(crate) struct Outbox {
@@ -40,7 +40,7 @@ impl Model for Outbox {
 }
 
 impl Outbox {
-    /// Nothing is due, and no epoch was ended. It takes no memory.
+    /// Creates an outbox with nothing due and no epoch ended. It takes no memory.
     pub(crate) fn new(alloc: Global) -> Outbox
         ensures { result ≡ begun result.answers result.epochs }
     {
@@ -67,7 +67,7 @@ impl Outbox {
         Ok(())
     }
 
-    /// An acknowledgement comes due, or none does.
+    /// Appends an acknowledgement, if there is one.
     pub(crate) fn push(&mut self, answer: Option<Answer>)
         requires { length self.old.due + length (option_to_list answer) ≤ self.old.answers }
         ensures { self.new ≡ record self.old { due = self.old.due ++ option_to_list answer } }
@@ -77,7 +77,7 @@ impl Outbox {
         }
     }
 
-    /// A barrier ended an epoch, which has `writes` writes.
+    /// Records that a barrier ended an epoch of `writes` writes.
     pub(crate) fn ended(&mut self, writes: u32)
         requires room { length self.old.sizes < self.old.epochs }
         requires fits { self.old.answered + length self.old.sizes < 4294967295 }
@@ -86,7 +86,7 @@ impl Outbox {
         self.sizes.push_back_reserved(writes);
     }
 
-    /// The acknowledgement of each epoch comes due up to whose end all items are applied.
+    /// Appends the acknowledgement of each epoch up to whose end all items are applied.
     pub(crate) fn answer(&mut self, disk: &PeerDisk<PendingItem>)
         requires { length self.old.due + length self.old.sizes ≤ self.old.answers }
         ensures answered { self.new ≡ acknowledging disk.now.pending self.old }
@@ -105,7 +105,7 @@ impl Outbox {
         }
     }
 
-    /// The packet of the oldest acknowledgement that is due, if one is. It has no blocks.
+    /// Returns the packet of the oldest acknowledgement that is due, if there is one. It has no blocks.
     pub(crate) fn next(&self) -> Option<Packet>
         ensures due { MatchOption result (slice_get self.now.due 0 ≡ None) (λ packet. (slice_get self.now.due 0 ≡ Some (meaning packet)) × IsSpellable packet) }
         ensures inline { IfSome result (λ packet. has_blocks packet ≡ false) }
@@ -113,7 +113,7 @@ impl Outbox {
         Some(self.due.front()?.packet())
     }
 
-    /// The oldest is due no more.
+    /// Removes the oldest acknowledgement.
     pub(crate) fn pop(&mut self)
         ensures { self.new ≡ record self.old { due = drop 1 self.old.due } }
     {
@@ -121,7 +121,7 @@ impl Outbox {
     }
 }
 
-// The last epoch up to whose end all items are applied.
+// Returns the last epoch up to whose end all items are applied.
 fn last_applied(disk: &PeerDisk<PendingItem>) -> u32
     ensures { (epoch : ℕ) → 0 < epoch → epoch < 4294967296 → is_applied_to disk.now.pending epoch ≡ nat_le epoch result }
 {

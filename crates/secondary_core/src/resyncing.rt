@@ -1,4 +1,4 @@
-//! A resync, as it is taken. The disk's identifiers change here alone.
+//! The target side of a resync. The disk's identifiers change only here.
 ghost use Rattle.std.specs.Prelude.{◌≡◌};
 ghost use Rattle.packets.specs.Spelling.{IsSpellable};
 ghost use Rattle.packets.specs.declared.packet.Packet.TheVariants as packet;
@@ -11,7 +11,7 @@ use blocks::{Block, Command, Refusal, Tuple, What};
 use bytes::Bytes;
 
 impl SecondaryCore {
-    // SYNC_UUID, the first item of a stream: until the resync is over the data are of no generation.
+    // Takes SYNC_UUID, the first item of a stream: until the resync is over the data are of no generation.
     pub(crate) fn resync_begins(&mut self, word: u64) -> Result<What, Refusal>
         requires { MayTake self.old }
         ensures { (result, self.new.state) ≡ item_at (meaning (packet.SyncUuid word)) self.old.state.end self.old.state }
@@ -44,7 +44,7 @@ impl SecondaryCore {
         Ok(What::Frame(Command::RsDataReply, Some(at)))
     }
 
-    // UUIDS after the hello: the data are those of the primary.
+    // Takes UUIDS after the hello: from here on the data are those of the primary.
     pub(crate) fn resync_ends(&mut self, tuple: Tuple) -> Result<What, Refusal>
         requires { MayTake self.old }
         ensures { (result, self.new.state) ≡ item_at (meaning (packet.Uuids tuple)) self.old.state.end self.old.state }

@@ -16,9 +16,9 @@ use packets::Packet;
 use peerdisk::PeerDisk;
 
 impl SecondaryCore {
-    /// The next frame that the end owes: of its hello, and then of the acknowledgements that are due. It has
-    /// a spelling, and no blocks. `NotConnected` (12) if the end is closed, else `NothingThere` (13) if nothing
-    /// is due. It takes no memory.
+    /// Returns the packet to send next: first those of the hello, then the acknowledgements that are due. It can be
+    /// encoded, and has no blocks. `NotConnected` (12) if the end is closed, else `NothingThere` (13) if nothing is
+    /// due. It takes no memory.
     pub fn due(&self) -> Result<Packet, Refusal>
         ensures due { MatchResult result (λ packet. due self.now.state ≡ Ok (meaning packet)) (λ e. due self.now.state ≡ Err e) }
         ensures spellable { IfOk result IsSpellable }
@@ -34,7 +34,7 @@ impl SecondaryCore {
         }
     }
 
-    /// What was due is pushed. It takes no memory.
+    /// Records that the packet that `due` returns was sent. It takes no memory.
     pub fn sent(&mut self) -> Done
         requires { IsOk (due self.old.state) }
         ensures { (Ok result, self.new.state) ≡ ack_out true false self.old.state }
@@ -54,8 +54,8 @@ impl SecondaryCore {
     }
 }
 
-/// Every acknowledgement of an open connection comes due here: this answer, if there is one, and then each
-/// epoch up to whose end all items are applied.
+/// Makes acknowledgements due on an open connection: this answer, if there is one, then that of each epoch up to
+/// whose end all items are applied. No other call makes one due.
 pub(crate) fn acknowledge(
     connection: &mut Option<Connection>,
     answer: Option<Answer>,

@@ -12,16 +12,16 @@ use peerdisk::PeerDisk;
 use std::alloc::Global;
 use std::marker::Model;
 
-/// The secondary without its disk and its link. Its pending items and its epochs are as the settings say, and
-/// an open connection always has room for what these items and the barriers taken ask to acknowledge.
+/// The secondary without its disk and its link. Invariant: its pending items and its epochs are as the settings say,
+/// and an open connection has room for the acknowledgements that these items and the barriers taken ask for.
 ///
-/// An item's life, by the calls that bring the events:
+/// An item's life, by calls:
 ///
 /// | the item is | `take` | `done` | `failed` | `close` |
 /// |---|---|---|---|---|
 /// | a frame | pending; under protocol B a write's RECV_ACK is due | | | |
-/// | pending | | applied; RS_WRITE_ACK, or under protocol C WRITE_ACK, is due | dropped | pending, and nothing is due for it any more |
-/// | a barrier | its BARRIER_ACK is due at once where every item before it is applied | it is due with the last such item | it is never due | it is never due |
+/// | pending | | applied; RS_WRITE_ACK, or under protocol C WRITE_ACK, is due | dropped | pending, nothing due for it |
+/// | a barrier | BARRIER_ACK due if all items before are applied | due with the last of them | never due | never due |
 /// | applied, with an answer due | | | no answer | no answer |
 #[derive(Drop)]
 pub struct SecondaryCore {
@@ -51,10 +51,9 @@ impl Model for SecondaryCore {
 }
 
 impl SecondaryCore {
-    /// A secondary that was never opened. It is consistent unless its current identifier is zero.
+    /// Creates a secondary that was never opened. It is consistent unless its current identifier is zero.
     ///
-    /// `BadSetting` (15) if `settings.check()` says so; else `NoMemory` (7) if there is no
-    /// memory.
+    /// `BadSetting` (15) if `settings.check()` says so; else `NoMemory` (7) if there is no memory.
     pub fn new(alloc: Global, settings: Settings, tuple: Tuple) -> Result<SecondaryCore, Refusal>
         ensures fresh { IfOk result (λ c. IsInRange settings × (c ≡ record { state = fresh settings tuple; is_ready = false })) }
         ensures refused { IfErr result (λ e. ((e ≡ BadSetting) × (IsInRange settings → ⊥)) ⊎ ((e ≡ NoMemory) × IsInRange settings)) }

@@ -18,8 +18,8 @@ use bytes::Bytes;
 use packets::Packet;
 
 impl SecondaryCore {
-    /// Makes the room for all that taking one frame, and the later steps of its item, can want, so that none
-    /// of these takes memory. `NoMemory` (7) if there is none; then nothing changes.
+    /// Makes room for all that taking one frame, and the later steps of its item, may need, so that none of these
+    /// takes memory. `NoMemory` (7) if there is none; then nothing changes.
     pub fn ready(&mut self) -> Result<(), Refusal>
         ensures ready { OnOk result (self.new ≡ record self.old { is_ready = true }) }
         ensures unchanged { OnErr result (self.new ≡ self.old) }
@@ -33,15 +33,15 @@ impl SecondaryCore {
         Ok(())
     }
 
-    /// Takes a frame: a packet, or the fault that stands in its place (20 to 23).
+    /// Takes a frame: a packet, or the fault that was read in its place (20 to 23).
     ///
-    /// Each refusal is a protocol error: the frame counts as taken, and the end closes. Of the hello these
-    /// are `OtherProtocol` (34), `OtherSize` (35), and `BadCommand` (21) for every frame but the next one.
-    /// After it `BadCommand` comes for a frame that is no item, and `BadField` (23) for an item that may not
-    /// stand at the next place: it names another place; its blocks are not 1 to 32 of the device and of one
-    /// extent, or the last epoch has one of them; the number of a write does not rise; a barrier is not the
-    /// next; a resync begins elsewhere than at place 0, or with the identifier 0; or what belongs to a
-    /// resync comes where none goes on (this project's rules). It takes no memory.
+    /// Each refusal is a protocol error: the frame counts as taken, and the end closes. In the hello these are
+    /// `OtherProtocol` (34), `OtherSize` (35), and `BadCommand` (21) for every frame but the next one. After it
+    /// `BadCommand` comes for a frame that is no item, and `BadField` (23) for an item that may not come at the
+    /// next place: it names another place; its blocks are not 1 to 32 of the device and of one extent, or the last
+    /// epoch has one of them; the number of a write does not rise; a barrier is not the next; a resync begins
+    /// elsewhere than at place 0, or with the identifier 0; or an item of a resync comes while none runs (this
+    /// project's rules). It takes no memory.
     pub fn take(&mut self, frame: Result<Packet, Refusal>) -> Result<Done, Refusal>
         requires may_take { IsOk (may_take self.old.state) }
         requires ready { self.old.is_ready ≡ true }
@@ -57,7 +57,7 @@ impl SecondaryCore {
         }
     }
 
-    // What a frame that is accepted is called; it does what it has to. A refused one does nothing.
+    // Takes the frame and returns its name. A refused frame changes nothing.
     fn judge(&mut self, frame: Result<Packet, Refusal>) -> Result<What, Refusal>
         requires may { MayTake self.old }
         requires spellable { IfOk frame IsSpellable }
@@ -74,7 +74,7 @@ impl SecondaryCore {
         Ok(What::Frame(command, None))
     }
 
-    // An item of the stream, at the next place.
+    // Takes an item of the stream at the next place.
     fn item(&mut self, packet: Packet) -> Result<What, Refusal>
         requires may { MayTake self.old }
         requires spellable { IsSpellable packet }
@@ -118,7 +118,8 @@ impl SecondaryCore {
         Ok(What::Frame(Command::Data, Some(at)))
     }
 
-    // The blocks of an item that names this place, where it is the next and the device has them.
+    // Returns the blocks of an item that names place `at`. `BadField` (23) if that is not the next place, or these
+    // are not 1 to 32 blocks of the device and of one extent.
     pub(crate) fn next_range(&self, at: u32, first: Block, count: u64) -> Result<Range, Refusal>
         ensures { MatchResult result
             (λ range. (is_next at first.0 count self.now.state ≡ true) × (range.first.0 ≡ first.0) × (range.count ≡ count))
@@ -130,7 +131,7 @@ impl SecondaryCore {
         Range::new(first.0, count, self.settings.blocks).or(Err(Refusal::BadField))
     }
 
-    // An item with blocks waits for the disk, and its receipt is due where the protocol asks for one.
+    // Makes an item with blocks pending for the disk, and its receipt due if the protocol asks for one.
     pub(crate) fn admit(&mut self, item: PendingItem)
         requires may { MayTake self.old }
         requires place { self.old.state.intake.places < 4294967295 }

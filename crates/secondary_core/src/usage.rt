@@ -13,13 +13,13 @@ pub struct Usage {
     pub consistent: bool,
     /// The last epoch up to whose end every item is applied, and none of them failed.
     pub whole: u32,
-    /// How many items are taken and not applied.
+    /// How many items are taken and not yet applied.
     pub pending: u32,
 }
 
 impl SecondaryCore {
-    /// Whether a frame may be taken: `NotConnected` (12) if the end is closed, else `PendingFull`
-    /// (18) if as many items are pending as may be.
+    /// Checks whether a frame may be taken: `NotConnected` (12) if the end is closed, else `PendingFull` (18) if as
+    /// many items are pending as the settings allow.
     pub fn may_take(&self) -> Result<(), Refusal>
         ensures { result ≡ may_take self.now.state }
     {
@@ -29,35 +29,35 @@ impl SecondaryCore {
         self.disk.may_put()
     }
 
-    /// Whether nothing is pending.
+    /// Returns whether nothing is pending.
     pub fn is_drained(&self) -> bool
         ensures { result ≡ (length self.now.state.pending == 0) }
     {
         self.disk.is_empty()
     }
 
-    /// Whether the identifiers are those of the data.
+    /// Returns whether the identifiers are those of the data.
     pub fn is_consistent(&self) -> bool
         ensures { result ≡ self.now.state.consistent }
     {
         self.is_consistent
     }
 
-    /// The disk's generation identifiers.
+    /// Returns the disk's generation identifiers.
     pub fn tuple(&self) -> Tuple
         ensures { result ≡ self.now.state.tuple }
     {
         self.tuple
     }
 
-    /// Whether the end is open.
+    /// Returns whether the end is open.
     pub fn is_open(&self) -> bool
         ensures { result ≡ is_some self.now.state.end }
     {
         self.connection.is_some()
     }
 
-    /// Whether the hello is done: the end is open, and has taken three frames and pushed three.
+    /// Returns whether the hello is done: the end is open, and has taken three frames and sent three.
     pub fn is_hello_done(&self) -> bool
         ensures { result ≡ is_hello_done self.now.state.end }
     {
@@ -67,36 +67,36 @@ impl SecondaryCore {
         connection.handshake.is_heard() && connection.handshake.is_said()
     }
 
-    /// The number of the last connection, 0 before the first.
+    /// Returns the number of the last connection, 0 before the first.
     pub fn connection(&self) -> u32
         ensures { result ≡ self.now.state.number }
     {
         self.number
     }
 
-    /// How many items of the last connection's stream were taken.
+    /// Returns how many items of the last connection's stream were taken.
     pub fn items_taken(&self) -> u32
         ensures { result ≡ self.now.state.intake.places }
     {
         self.inbox.places()
     }
 
-    /// How many writes and resync items of the last connection's stream are applied. One that the disk failed
-    /// is not, and neither is one that was dropped then.
+    /// Returns how many writes and resync items of the last connection's stream are applied. An item that the disk
+    /// failed does not count, and neither does one that was dropped then.
     pub fn items_applied(&self) -> u32
         ensures { result ≡ self.now.state.items_applied }
     {
         self.items_applied
     }
 
-    /// The settings.
+    /// Returns the settings.
     pub fn settings(&self) -> Settings
         ensures { result ≡ self.now.state.settings }
     {
         self.settings
     }
 
-    /// How far the data may be used.
+    /// Returns how far the data may be used.
     pub fn usage(&self) -> Usage
         ensures { result ≡ record { consistent = self.now.state.consistent; whole = whole self.now.state; pending = length self.now.state.pending } }
     {

@@ -23,8 +23,8 @@ use Rattle.peerdisk.specs.Pending.{Pending, without, after_fault, epoch_at, item
 use Rattle.peerdisk.specs.Pending as peerdisk
 use Rattle.peerdisk.specs.Blocks.{none_of, adding, has_any}
 
--- What is kept of the stream that was taken: how many items, the highest number of a write, the barriers, and of the last
--- epoch how many writes it has and which blocks its items have; and whether a resync goes on.
+-- Receive-side state of the connection's stream: how many items were taken, the highest write number, how many
+-- barriers; how many writes the last epoch has, and which blocks its items cover; and whether a resync is running.
 pub record Intake : Type 0 where
   pub places : ℕ
   pub highest : ℕ
@@ -33,9 +33,9 @@ pub record Intake : Type 0 where
   pub blocks : List Bool
   pub resync : Bool
 
--- An open end: the tuple that its hello names, how many frames of the peer's hello were taken and of its own pushed (3 at
--- most), the acknowledgements that are due and not pushed, and of the epochs that were ended by a barrier how many are
--- acknowledged, or about to be, and the sizes of the others.
+-- An open end: the tuple that its hello names, how many frames of the peer's hello were taken and of its own pushed (3
+-- at most), the acknowledgements that are due and not pushed, how many of the epochs that a barrier ended are
+-- acknowledged or have their acknowledgement due, and the sizes of the others.
 pub record EndState : Type 0 where
   pub hello : Tuple
   pub heard : ℕ
@@ -44,8 +44,9 @@ pub record EndState : Type 0 where
   pub answered : ℕ
   pub sizes : List ℕ
 
--- A secondary: the number of its last connection, what it keeps of that one's stream, what is taken and not applied, how many
--- items of it are applied (one that failed is not), the epoch of an item that the disk failed, and its end where that is open.
+-- A secondary: its settings, its identifiers and whether it is consistent, the number of its last connection, the
+-- receive-side state of that one's stream, the pending items, how many of the stream's items are applied (one that
+-- failed is not), the epoch of an item that the disk failed, and its end if that is open.
 pub record SecondaryState : Type 0 where
   pub settings : Settings
   pub tuple : Tuple
@@ -57,7 +58,7 @@ pub record SecondaryState : Type 0 where
   pub failed : Option ℕ
   pub end : Option EndState
 
--- a stream of which nothing was taken, for a device of so many blocks
+-- the receive-side state of a stream without an item, for a device of `size` blocks
 abbrev pub nothing_taken : ℕ → Intake
 nothing_taken size = record { places = 0; highest = 0; barriers = 0; writes = 0; blocks = none_of size; resync = false }
 
@@ -75,7 +76,7 @@ fresh settings tuple = record {
   end = None;
 }
 
--- A step that its tests refuse leaves the state.
+-- A step that its tests refuse leaves the state as it is; otherwise `done` is its outcome.
 abbrev pub tested : {R : Type 0} → SecondaryState → List Test → (Unit {0} → Result R Refusal × SecondaryState) → Result R Refusal × SecondaryState
 tested s tests done = elim (first_refusal tests) [ Some refusal ↦ (Err refusal, s) | None ↦ done tt ]
 
@@ -85,11 +86,11 @@ tested s tests done = elim (first_refusal tests) [ Some refusal ↦ (Err refusal
 abbrev pub opened_end : Tuple → EndState
 opened_end tuple = record { hello = tuple; heard = 0; said = 0; due = []; answered = 0; sizes = [] }
 
--- a connection of this number begins
+-- begins the connection of this number
 abbrev pub opened : ℕ → SecondaryState → SecondaryState
 opened number s = record s { number = number; intake = nothing_taken s.settings.blocks; items_applied = 0; failed = None; end = Some (opened_end s.tuple) }
 
--- when an opening is refused: the end is open, or items are pending
+-- the test of an opening: the end is closed, and no item is pending
 abbrev pub open_tests : SecondaryState → List Test
 open_tests s = (is_some s.end || nat_lt 0 (length s.pending), NotDrained) ∷ []
 
@@ -109,7 +110,7 @@ abbrev pub answers : List (Pending StreamItem) → ℕ → List ℕ → List Pac
 answers pending epoch [] = []
 answers pending epoch (size ∷ sizes) = if is_applied_to pending (suc epoch) then BarrierAckFrame (suc epoch) size ∷ answers pending (suc epoch) sizes else []
 
--- Each barrier taken is acknowledged once all of the epochs up to it are applied.
+-- Makes each taken barrier's acknowledgement due, once all of the epochs up to it are applied.
 abbrev pub answering : List (Pending StreamItem) → EndState → EndState
 answering pending e =
     let new = answers pending e.answered e.sizes in
@@ -121,7 +122,7 @@ follows s = record s { end = option_map (answering s.pending) s.end }
 
 -- Taking a frame.
 
--- a frame may be taken: the end is open, and not too many items are pending
+-- the tests of taking a frame: the end is open, and not too many items are pending
 abbrev pub take_tests : SecondaryState → List Test
 take_tests s = (is_none s.end, NotConnected) ∷ (nat_le s.settings.pending (length s.pending), PendingFull) ∷ []
 
@@ -129,11 +130,11 @@ take_tests s = (is_none s.end, NotConnected) ∷ (nat_le s.settings.pending (len
 abbrev pub may_take : SecondaryState → Result (Unit {0}) Refusal
 may_take s = elim (first_refusal (take_tests s)) [ Some refusal ↦ Err refusal | None ↦ Ok tt ]
 
--- a write, with its blocks among those of the last epoch
+-- counts an item, and adds its blocks to those of the last epoch
 abbrev pub with_blocks : StreamItem → Intake → Intake
 with_blocks item i = record i { places = suc i.places; blocks = adding (first_of item) (length (contents_of item)) i.blocks }
 
--- one item more
+-- the receive-side state after another item
 abbrev pub and_item : StreamItem → Intake → Intake
 and_item (WriteItem write) i = record (with_blocks (WriteItem write) i) { highest = write.number; writes = suc i.writes }
 and_item (ResyncItem block contents) i = with_blocks (ResyncItem block contents) i
@@ -141,17 +142,17 @@ and_item (BarrierItem epoch) i = record i { places = suc i.places; barriers = su
 and_item (SyncUuidItem word) i = record i { places = suc i.places; resync = true }
 and_item (UuidsItem tuple) i = record i { places = suc i.places; resync = false }
 
--- an item of the last epoch waits for the disk
+-- the pending items, with another one of the last epoch
 abbrev pub waiting : StreamItem → SecondaryState → List (Pending StreamItem)
 waiting item s = s.pending ++ record { place = s.intake.places; epoch = suc s.intake.barriers; item = item } ∷ []
 
--- under B a write is acknowledged when it is taken
+-- the acknowledgement of a taken write, which B asks for
 abbrev pub receipt : Protocol → ℕ → StreamItem → List Packet
 receipt protocol.A place item = []
 receipt protocol.B place item = RecvAckFrame (naming place item) ∷ []
 receipt protocol.C place item = []
 
--- an acknowledgement becomes due
+-- makes acknowledgements due
 abbrev pub owing : List Packet → EndState → EndState
 owing packets e = record e { due = e.due ++ packets }
 
@@ -159,15 +160,15 @@ owing packets e = record e { due = e.due ++ packets }
 abbrev pub is_apart : ℕ → ℕ → Intake → Bool
 is_apart first count i = not (has_any first count i.blocks)
 
--- What a frame that is accepted is called, and what the secondary is then, before what follows.
+-- The outcome of checking a frame: its report and the state before what follows, or a protocol error.
 abbrev pub Judged : Type 0
 Judged = Result (What × SecondaryState) Refusal
 
--- the last of the checks
+-- accepts the frame if its checks hold, and else refuses it with `BadField`
 abbrev pub judged_if : Bool → What → SecondaryState → Judged
 judged_if good name s = if good then Ok (name, s) else Err BadField
 
--- the primary's hello, by how many of its frames were taken before
+-- checks the next frame of the primary's hello, by how many were taken before
 abbrev pub judging_hello : ℕ → Packet → SecondaryState → Judged
 judging_hello zero (ProtocolFrame asked) s =
     if same_protocol asked s.settings.protocol then Ok (what.Frame command.Protocol None, s) else Err OtherProtocol
@@ -176,7 +177,7 @@ judging_hello (suc zero) (SizesFrame blocks) s =
 judging_hello (suc (suc n)) (UuidsFrame peer) s = Ok (what.Frame command.Uuids None, s)
 judging_hello n packet s = Err BadCommand
 
--- an item of the stream, at the next place
+-- checks an item of the stream at the next place, and takes it
 abbrev pub judging_item : Packet → EndState → SecondaryState → Judged
 judging_item (DataFrame write at) e s =
     let i = s.intake in
@@ -207,37 +208,37 @@ judging_item (UuidsFrame tuple) e s =
     (record s { intake = and_item (UuidsItem tuple) i; tuple = tuple; consistent = true })
 judging_item packet e s = Err BadCommand
 
--- one frame more of the peer's hello was taken, where that goes on
+-- counts another taken frame of the peer's hello, up to 3
 abbrev pub hearing : EndState → EndState
 hearing e = record e { heard = if nat_lt e.heard 3 then suc e.heard else e.heard }
 
--- a frame is one of the hello, and then an item
+-- checks a frame: the first three as the hello, all others as items
 abbrev pub judging : Received → EndState → SecondaryState → Judged
 judging (Err fault) e s = Err fault
 judging (Ok packet) e s =
     let t = record s { end = Some (hearing e) } in
     if nat_lt e.heard 3 then judging_hello e.heard packet t else judging_item packet (hearing e) t
 
--- A protocol error closes the end. Its items stay.
+-- The result of a checked frame. A protocol error closes the end; its items stay.
 abbrev pub taking : Judged → SecondaryState → Result Done Refusal × SecondaryState
 taking (Ok done) s = (Ok (done_with done.0), follows done.1)
 taking (Err refusal) s = (Err refusal, record s { end = None })
 
--- a frame is taken at an open end
+-- takes a frame at an open end
 abbrev pub take_frame : Received → EndState → SecondaryState → Result Done Refusal × SecondaryState
 take_frame frame e s = taking (judging frame e s) s
 
--- the next frame is taken, if the end may take one; at a closed end nothing happens
+-- takes a frame, if the end is open; a closed end refuses it
 abbrev pub take_at : Received → Option EndState → SecondaryState → Result Done Refusal × SecondaryState
 take_at frame None s = (Err NotConnected, s)
 take_at frame (Some e) s = take_frame frame e s
 
--- when the next frame is not taken, in order
+-- the tests of `receive`, in order
 abbrev pub receive_tests : Option Received → Bool → SecondaryState → List Test
 receive_tests frame out_of_memory s =
     (is_none s.end, NotConnected) ∷ (nat_le s.settings.pending (length s.pending), PendingFull) ∷ (out_of_memory, NoMemory) ∷ (is_none frame, NothingThere) ∷ []
 
--- the next frame that the link has for this end, or none
+-- the secondary takes the next frame that the link has for it, if there is one
 abbrev pub receive : Option Received → Bool → SecondaryState → Result Done Refusal × SecondaryState
 receive frame out_of_memory s = tested s (receive_tests frame out_of_memory s) (λ _. elim frame [
   | None ↦ (Err NothingThere, s)
@@ -250,12 +251,12 @@ receive frame out_of_memory s = tested s (receive_tests frame out_of_memory s) (
 abbrev pub start : ℕ → SecondaryState → Result StreamItem Refusal
 start place s = peerdisk.start place s.pending
 
--- the acknowledgements of an item that is applied
+-- the acknowledgements of an item that is applied, if there is one
 abbrev pub answers_of : Protocol → ℕ → Option StreamItem → List Packet
 answers_of asked place None = []
 answers_of asked place (Some item) = applied_answer asked place item
 
--- the disk has the item of this place
+-- records that the disk has the item at this place
 abbrev pub applied : ℕ → SecondaryState → SecondaryState
 applied place s =
     follows (record s {
@@ -264,11 +265,11 @@ applied place s =
       end = option_map (owing (answers_of s.settings.protocol place (item_at place s.pending))) s.end;
     })
 
--- the disk failed the item of this place: the end closes, and the pending items of later epochs are dropped
+-- records that the disk failed the item at this place: closes the end, and drops the pending items of later epochs
 abbrev pub failing : ℕ → SecondaryState → SecondaryState
 failing place s = record s { pending = after_fault place s.pending; failed = Some (epoch_at place s.pending); end = None }
 
--- the secondary's disk does an item
+-- the secondary's disk finishes an item
 abbrev pub peer : ℕ → SecondaryState → Result (Unit {0}) Refusal × SecondaryState
 peer place s = elim (start place s) [ Err refusal ↦ (Err refusal, s) | Ok item ↦ (Ok tt, applied place s) ]
 
@@ -278,7 +279,7 @@ peer_fault place s = elim (start place s) [ Err refusal ↦ (Err refusal, s) | O
 
 -- Sending.
 
--- the next frame that an open end owes: its hello, and then its acknowledgements
+-- the next frame that an open end is to send: of its hello, and then of its acknowledgements
 abbrev pub owed : Settings → EndState → Option Packet
 owed settings e = if nat_lt e.said 3 then slice_get (hello_of settings e.hello) e.said else slice_get e.due 0
 
@@ -286,19 +287,19 @@ owed settings e = if nat_lt e.said 3 then slice_get (hello_of settings e.hello) 
 abbrev pub due : SecondaryState → Result Packet Refusal
 due s = elim s.end [ None ↦ Err NotConnected | Some e ↦ ok_or (owed s.settings e) NothingThere ]
 
--- one frame more was pushed
+-- counts a pushed frame of the hello, or takes a pushed acknowledgement from the due ones
 abbrev pub pushing : EndState → EndState
 pushing e = if nat_lt e.said 3 then record e { said = suc e.said } else record e { due = drop 1 e.due }
 
--- what was due is pushed
+-- records that the due frame was pushed
 abbrev pub sent : SecondaryState → SecondaryState
 sent s = record s { end = option_map pushing s.end }
 
--- when a frame that is owed is not pushed, in order
+-- the tests of pushing a due frame, in order
 abbrev pub sent_tests : Bool → Bool → List Test
 sent_tests room out_of_memory = (out_of_memory, NoMemory) ∷ (not room, LinkFull) ∷ []
 
--- An acknowledgement, or a frame of the hello, is pushed. `room` is what the link answers.
+-- Sends an acknowledgement or a frame of the hello. `room` says whether the link has room.
 abbrev pub ack_out : Bool → Bool → SecondaryState → Result Done Refusal × SecondaryState
 ack_out room out_of_memory s = elim (due s) [
   | Err refusal ↦ (Err refusal, s)
@@ -307,11 +308,11 @@ ack_out room out_of_memory s = elim (due s) [
 
 -- Closing.
 
--- the end closes; its items stay
+-- closes the end; its items stay
 abbrev pub close_end : SecondaryState → Result (Unit {0}) Refusal × SecondaryState
 close_end s = tested s ((is_none s.end, NotConnected) ∷ []) (λ _. (Ok tt, record s { end = None }))
 
--- What is read off.
+-- Read-only values.
 
 -- the last epoch up to whose end every item is applied, and none of them failed
 abbrev pub whole : SecondaryState → ℕ

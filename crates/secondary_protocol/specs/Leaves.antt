@@ -1,4 +1,4 @@
--- Which histories leave a secondary's state.
+-- The relation between a secondary's state and the model histories that leave it.
 use Rattle.std.specs.Prelude.{ℕ, zero, suc, ◌-◌, ◌≡◌, ◌<◌, ◌≤◌, nat_le, ◌==◌, true, false, List, [], ◌∷◌, length, drop, map, min, max, Option, Some, None}
 use Rattle.std.specs.Prelude.{slice_get}
 use Rattle.std.specs.List.{list_any}
@@ -12,12 +12,12 @@ use Rattle.peerdisk.specs.Pending.{Pending}
 use Rattle.peerdisk.specs.Blocks.{flags}
 use Rattle.secondary_protocol.specs.Core.{Intake, EndState, SecondaryState}
 
--- the highest number of a write, 0 where there is none
+-- the highest number of a write, or 0 if there is none
 abbrev pub highest_in : List StreamItem → ℕ
 highest_in [] = 0
 highest_in (item ∷ items) = max (number_of item) (highest_in items)
 
--- what is kept of these items, for a device of so many blocks
+-- the receive-side state after these items, for a device of `size` blocks
 abbrev pub intake_of : ℕ → List StreamItem → Intake
 intake_of size items = record {
   places = length items;
@@ -28,16 +28,17 @@ intake_of size items = record {
   resync = in_resync items;
 }
 
--- the numbers after this one, so many of them
+-- the `count` numbers after `n`
 abbrev pub numbers_after : ℕ → ℕ → List ℕ
 numbers_after n zero = []
 numbers_after n (suc count) = suc n ∷ numbers_after (suc n) count
 
--- an item that waits for the disk, with its epoch
+-- a pending item, with its place and epoch
 abbrev pub pending_in : List StreamItem → ℕ × StreamItem → Pending StreamItem
 pending_in items entry = record { place = entry.0; epoch = epoch_of items entry.0; item = entry.1 }
 
--- The open end is what the connection leaves. An epoch that was ended is acknowledged if it is one of the first so many.
+-- The open end is what the connection leaves. A BARRIER_ACK was made due for the first `answered` epochs, and for no
+-- other.
 pub record LeavesEnd (e : EndState) (c : SecondaryConnection) : Type 0 where
   pub is_open : c.closed ≡ false
   pub plain : c.refused ≡ false
@@ -50,13 +51,13 @@ pub record LeavesEnd (e : EndState) (c : SecondaryConnection) : Type 0 where
   pub within : e.answered ≤ barriers_in (items_taken c)
   pub sizes : e.sizes ≡ map (epoch_size (items_taken c)) (numbers_after e.answered (barriers_in (items_taken c) - e.answered))
 
--- a closed end, or an open one
+-- the end is closed as the connection is, or is the open one that the connection leaves
 abbrev pub EndLeft : Option EndState → SecondaryConnection → Type 0
 EndLeft None c = c.closed ≡ true
 EndLeft (Some e) c = LeavesEnd e c
 
--- The disk failed an item of this epoch: one of that epoch is gone, none of an earlier one is, and nothing waits but
--- items of that epoch.
+-- The disk failed an item of this epoch: an item of that epoch is gone, none of an earlier one is, and only items of
+-- that epoch are pending.
 pub record LeavesFailed (epoch : ℕ) (c : SecondaryConnection) : Type 0 where
   pub place : ℕ
   pub item : StreamItem
@@ -69,12 +70,13 @@ pub record LeavesFailed (epoch : ℕ) (c : SecondaryConnection) : Type 0 where
       → epoch_of (items_taken c) other ≡ epoch
   pub closed : c.closed ≡ true
 
--- no item failed, or one of this epoch
+-- no item failed, or one of this epoch did
 abbrev pub FailedLeft : Option ℕ → SecondaryConnection → Type 0
 FailedLeft None c = c.gone ≡ []
 FailedLeft (Some epoch) c = LeavesFailed epoch c
 
--- The state is what the last connection leaves, at a device of so many blocks. The part applied names only places that were taken.
+-- The state is what the last connection leaves, at a device of `size` blocks. The applied part names only places that
+-- were taken.
 pub record LeavesLast (size : ℕ) (s : SecondaryState) (c : SecondaryConnection) : Type 0 where
   pub number : s.number ≡ c.number
   pub intake : s.intake ≡ intake_of size (items_taken c)

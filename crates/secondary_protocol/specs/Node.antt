@@ -1,4 +1,4 @@
--- A secondary with its disk and both ends of its link, and which histories it has.
+-- A secondary with its disk and both ends of its link, and the model histories that it refines.
 use Rattle.std.specs.Prelude.{ℕ, ◌≡◌, List, take, slice_get}
 use Rattle.blocks.specs.SettingsRange.{IsInRange}
 use Rattle.blocks.specs.declared.tuple.Tuple.{Tuple}
@@ -19,7 +19,7 @@ pub record NodeState : Type 0 where
   pub pushed : List Packet
   pub taken : List Received
 
--- the step of an event
+-- the model's step of an event
 abbrev pub secondary_step : SecondaryEvent → SecondaryHistory → Reply × SecondaryHistory
 secondary_step (OpensToo unseen) h = step.open_secondary unseen h
 secondary_step (Receives frame out_of_memory) h = step.receive frame out_of_memory h
@@ -35,7 +35,7 @@ pub record NodeLeaves (n : NodeState) (h : SecondaryHistory) : Type 0 where
   pub pushed : n.pushed ≡ take (secondary_connection h).pushed (answers_due h.settings (secondary_connection h))
   pub taken : n.taken ≡ (secondary_connection h).taken
 
--- Events led to the history from an opening, whose settings are in their ranges and whose disk has their size.
+-- Some events lead to the history from an opening, whose settings are in their ranges and whose disk has their size.
 pub record IsReached (h : SecondaryHistory) : Type 0 where
   pub settings : Settings
   pub in_range : IsInRange settings
@@ -45,17 +45,17 @@ pub record IsReached (h : SecondaryHistory) : Type 0 where
   pub events : List SecondaryEvent
   pub reached : h ≡ secondary_run events (secondary_opening settings disk tuple)
 
--- the node has this history
+-- the node refines this history, which some run of a secondary reaches
 pub record NodeHas (n : NodeState) (h : SecondaryHistory) : Type 0 where
   pub leaves : NodeLeaves n h
   pub reached : IsReached h
 
--- some history is had
+-- Invariant: the node refines some model history.
 pub record NodeIsHad (n : NodeState) : Type 0 where
   pub history : SecondaryHistory
   pub has : NodeHas n history
 
--- The call was this step, on whichever history the node had.
+-- The call was this step of the model, for every history that the node refined.
 pub record IsStep (step : SecondaryHistory → Reply × SecondaryHistory) (n : NodeState) (reply : Reply) (next : NodeState) : Type 0 where
   pub said : (h : SecondaryHistory) → NodeHas n h → reply ≡ (step h).0
   pub after : (h : SecondaryHistory) → NodeHas n h → NodeHas next (step h).1

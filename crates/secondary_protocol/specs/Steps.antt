@@ -1,4 +1,4 @@
--- Each transition of a secondary is its step of the model, on whichever history leaves the state.
+-- Each transition of a secondary is its step of the model, for every history that leaves the state.
 use Rattle.std.specs.Prelude.{ℕ, ◌≡◌, ◌==◌, Bool, List, length, Option, Some, ok_or, slice_get, Result, Ok, Err}
 use Rattle.blocks.specs.declared.tuple.Tuple.{Tuple}
 use Rattle.blocks.specs.declared.settings.Settings.{Settings}
@@ -24,16 +24,16 @@ abbrev pub replied : {R : Type 0} → (R → Done) → Result R Refusal → Repl
 replied tell (Ok done) = reply.Ok (tell done)
 replied tell (Err refusal) = reply.Refused refusal
 
--- a step that has nothing to tell
+-- the report of a step that has nothing to report
 abbrev pub plainly : Unit {0} → Done
 plainly _ = done_with what.Nothing
 
--- The transition answers as the model's step does, and leaves what the step leaves.
+-- The transition gives the reply of the model's step, and its state is the one that the step leaves.
 pub record Agrees {R : Type 0} (tell : R → Done) (got : Result R Refusal × SecondaryState) (step : Reply × SecondaryHistory) : Type 0 where
   pub reply : replied tell got.0 ≡ step.0
   pub leaves : Leaves got.1 step.1
 
--- a new secondary
+-- a new secondary's state is the one that the opening leaves
 abbrev pub FreshIsOpening : Type 0
 FreshIsOpening = (settings : Settings) (disk : BlockMap) (tuple : Tuple) → Leaves (fresh settings tuple) (secondary_opening settings disk tuple)
 
@@ -42,16 +42,16 @@ abbrev pub OpensAgree : Type 0
 OpensAgree = (unseen : ℕ) (s : SecondaryState) (h : SecondaryHistory) → Leaves s h
     → Agrees plainly (open_end (step.next_number unseen h) s) (step.open_secondary unseen h)
 
--- it takes a frame, whatever frame it is
+-- it takes any frame
 abbrev pub ReceivesAgree : Type 0
 ReceivesAgree = (frame : Option Received) (out_of_memory : Bool) (s : SecondaryState) (h : SecondaryHistory) → Leaves s h
     → Agrees (λ done. done) (receive frame out_of_memory s) (step.receive frame out_of_memory h)
 
--- its disk does an item
+-- its disk finishes an item
 abbrev pub AppliesAgree : Type 0
 AppliesAgree = (place : ℕ) (s : SecondaryState) (h : SecondaryHistory) → Leaves s h → Agrees plainly (peer place s) (step.peer place h)
 
--- its disk fails an item, and leaves any of its blocks new
+-- its disk fails an item, after any of its blocks were written
 abbrev pub FaultsAgree : Type 0
 FaultsAgree = (place : ℕ) (offsets : List ℕ) (s : SecondaryState) (h : SecondaryHistory) → Leaves s h
     → Agrees plainly (peer_fault place s) (step.peer_fault place offsets h)
@@ -65,8 +65,8 @@ PushesAgree = (room out_of_memory : Bool) (s : SecondaryState) (h : SecondaryHis
 abbrev pub ClosesAgree : Type 0
 ClosesAgree = (s : SecondaryState) (h : SecondaryHistory) → Leaves s h → Agrees plainly (close_end s) (step.close_secondary h)
 
--- What a state says is what the history says: the lowest pending place, whether nothing is pending, how far it is whole; the
--- item that a place may apply is the stream's; and the frame that is due is the next one that the end owes.
+-- The state gives what the history gives: the lowest pending place, whether nothing is pending, how far it is whole;
+-- the item that a place may apply is the stream's; and the due frame is the next one that the end is to send.
 pub record Says (s : SecondaryState) (h : SecondaryHistory) : Type 0 where
   pub next : next s.pending ≡ ok_or (next_pending h) NothingThere
   pub drained : (length s.pending == 0) ≡ is_drained h
@@ -74,6 +74,6 @@ pub record Says (s : SecondaryState) (h : SecondaryHistory) : Type 0 where
   pub items : (place : ℕ) (item : StreamItem) → start place s ≡ Ok item → slice_get (items_taken (secondary_connection h)) place ≡ Some item
   pub owes : (packet : Packet) → due s ≡ Ok packet → slice_get (answers_due h.settings (secondary_connection h)) (secondary_connection h).pushed ≡ Some packet
 
--- of every state and history
+-- every state gives what each history that leaves it gives
 abbrev pub StatesSay : Type 0
 StatesSay = (s : SecondaryState) (h : SecondaryHistory) → Leaves s h → Says s h

@@ -1,11 +1,11 @@
-//! A secondary's state in plain values, and that each of its transitions is the model's step. It has no code of a node.
+//! A secondary's state in plain values, whose transitions are the model's steps. It has no code of a node.
 #![tactic(auto)]
 
 ghost use Rattle.secondary_protocol.specs.Steps.{FreshIsOpening, OpensAgree, ReceivesAgree, AppliesAgree, FaultsAgree, PushesAgree, ClosesAgree, StatesSay};
 
-/// On whichever history leaves the state, each transition answers what the model's step answers, and leaves what that
-/// step leaves: for any packet or fault taken, and any blocks that a fault of the disk leaves new. The function does
-/// nothing, and its contract is this.
+/// States laws by its contract, and does nothing. On whichever history leaves the state, each transition returns what
+/// the model's step replies, and leaves what that step leaves: for any packet or fault taken, and any blocks that a
+/// fault of the disk leaves new.
 pub fn transitions_are_steps()
     ensures fresh { FreshIsOpening }
     ensures opens { OpensAgree }
@@ -16,7 +16,7 @@ pub fn transitions_are_steps()
     ensures closes { ClosesAgree }
 {}
 
-/// A state and its history tell the same.
+/// States a law by its contract, and does nothing. A state and its history say the same.
 pub fn states_say()
     ensures { StatesSay }
 {}

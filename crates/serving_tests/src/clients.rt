@@ -1,4 +1,4 @@
-//! A client over a socket. Its bytes and the server's are written out by hand from the protocol document.
+//! Tests of a client over a socket. Its bytes and the server's are written out by hand from the protocol document.
 use blocks::Protocol;
 use serving::{Host, ServeOptions, serve};
 use std::alloc::{AllocError, Global};
@@ -16,7 +16,7 @@ use std::{fs, io, thread};
 /// Bytes of the images: 8 blocks.
 const IMAGE_BYTES: usize = 32_768;
 
-/// How often a client tries to connect, and what waits looks.
+/// How often a client tries to connect.
 const LOOKS: u32 = 1000;
 
 const GREETING: [u8; 18] = *b"NBDMAGICIHAVEOPT\0\x03";
@@ -27,7 +27,7 @@ const FLAGS: [u8; 4] = [0, 0, 0, 3];
 /// GO for the default export, with a request for NBD_INFO_BLOCK_SIZE.
 const GO: [u8; 24] = *b"IHAVEOPT\0\0\0\x07\0\0\0\x08\0\0\0\0\0\x01\0\x03";
 
-/// NBD_INFO_EXPORT of 32,768 bytes, NBD_INFO_BLOCK_SIZE and NBD_REP_ACK.
+/// The answer to GO: NBD_INFO_EXPORT of 32,768 bytes, NBD_INFO_BLOCK_SIZE and NBD_REP_ACK.
 const GO_ANSWER: [u8; 86] = [
     0x00, 0x03, 0xE8, 0x89, 0x04, 0x55, 0x65, 0xA9, 0, 0, 0, 7, 0, 0, 0, 3, 0, 0, 0, 12, 0, 0, 0,
     0, 0, 0, 0, 0, 0x80, 0, 0x01, 0x4D, 0x00, 0x03, 0xE8, 0x89, 0x04, 0x55, 0x65, 0xA9, 0, 0, 0, 7,
@@ -39,7 +39,7 @@ const AB_BLOCK: [u8; 4096] = [0xAB; 4096];
 
 const ZERO_BLOCK: [u8; 4096] = [0; 4096];
 
-/// The header of a request.
+/// Makes the header of a request.
 fn ask(kind: u8, cookie: u8, offset: [u8; 2], length: [u8; 2]) -> [u8; 28] {
     [
         0x25, 0x60, 0x95, 0x13, 0, 0, 0, kind, 0, 0, 0, 0, 0, 0, 0, cookie, 0, 0, 0, 0, 0, 0,
@@ -47,14 +47,14 @@ fn ask(kind: u8, cookie: u8, offset: [u8; 2], length: [u8; 2]) -> [u8; 28] {
     ]
 }
 
-/// The header of a reply.
+/// Makes the header of a reply.
 fn told(error: u8, cookie: u8) -> [u8; 16] {
     [
         0x67, 0x44, 0x66, 0x98, 0, 0, 0, error, 0, 0, 0, 0, 0, 0, 0, cookie,
     ]
 }
 
-/// A standard input whose line `quit` comes once a client has done its work.
+/// A standard input whose line `quit` comes after a client has done its work.
 #[derive(Drop)]
 struct Order<R: Drop> {
     rt: R,
@@ -78,7 +78,7 @@ impl<R: Wait + Clock + Drop> Read for Order<R> {
     }
 }
 
-// Sends these bytes, and returns whether these come back.
+// Sends bytes. Returns whether the wanted ones come back.
 fn exchange(
     alloc: Global,
     stream: &mut TcpStream,
@@ -96,14 +96,14 @@ fn exchange(
     Ok(true)
 }
 
-// Whether these bytes come.
+// Returns whether these bytes come.
 fn comes(alloc: Global, stream: &mut TcpStream, wanted: &[u8]) -> io::Result<bool> {
     let mut came = Vec::from_elem(alloc, 0u8, wanted.len())?;
     stream.read_exact(&mut came)?;
     Ok(came.as_slice() == wanted)
 }
 
-// Connects to the server, once it listens.
+// Connects to the server, when it listens.
 fn connect<R: Net<Stream = TcpStream> + Clock>(
     rt: &R,
     address: SocketAddr,
@@ -117,7 +117,7 @@ fn connect<R: Net<Stream = TcpStream> + Clock>(
     TcpStream::connect(rt, address)
 }
 
-// What a client does. Returns whether each answer is the right one.
+// Does what a client does. Returns whether each answer is right.
 fn talk(alloc: Global, stream: &mut TcpStream) -> io::Result<bool> {
     let is_open = exchange(alloc, stream, &[&FLAGS, &GO], &[&GREETING, &GO_ANSWER])?;
     let is_changed = change(alloc, stream)?;
@@ -133,7 +133,7 @@ fn talk(alloc: Global, stream: &mut TcpStream) -> io::Result<bool> {
     Ok(is_open && is_changed && is_read && is_done_at_once && is_refused)
 }
 
-// Writes, zeroes and flushes.
+// Writes, zeroes and flushes. Returns whether each answer is right.
 fn change(alloc: Global, stream: &mut TcpStream) -> io::Result<bool> {
     let write = ask(1, 1, [0x10, 0], [0x20, 0]);
     let zero = ask(6, 2, [0x20, 0], [0x10, 0]);
@@ -149,7 +149,7 @@ fn change(alloc: Global, stream: &mut TcpStream) -> io::Result<bool> {
     Ok(is_written && is_zeroed && is_flushed)
 }
 
-// Asks for what is refused: a part of a block is EINVAL, a write past the end ENOSPC.
+// Asks for what is refused: a part of a block with EINVAL, a write past the end with ENOSPC.
 fn overstep(alloc: Global, stream: &mut TcpStream) -> io::Result<bool> {
     let part = ask(0, 5, [0, 1], [0x10, 0]);
     let past = ask(1, 6, [0x80, 0], [0x10, 0]);
@@ -158,8 +158,8 @@ fn overstep(alloc: Global, stream: &mut TcpStream) -> io::Result<bool> {
     Ok(is_part_refused && is_end_refused)
 }
 
-// Asks for two writes of the same block and a read of another before any reply has come. Returns whether each is answered
-// once, in whatever order.
+// Asks for two writes of the same block and a read of another before any reply has come. Returns whether each is
+// answered once, in whatever order.
 fn burst(alloc: Global, stream: &mut TcpStream) -> io::Result<bool> {
     let asked = asked_at_once(alloc)?;
     stream.write_all(asked.as_slice())?;
@@ -172,7 +172,7 @@ fn burst(alloc: Global, stream: &mut TcpStream) -> io::Result<bool> {
     Ok(true)
 }
 
-// The requests 8 to 10, in one piece.
+// Makes the requests 8 to 10, in one piece.
 fn asked_at_once(alloc: Global) -> Result<Vec<u8>, AllocError> {
     [
         ask(1, 8, [0x40, 0], [0x10, 0]).as_slice(),
@@ -184,7 +184,7 @@ fn asked_at_once(alloc: Global) -> Result<Vec<u8>, AllocError> {
     .concat(alloc)
 }
 
-// Whether the next reply is the right one to one of these requests, none of whose replies was seen before.
+// Returns whether the next reply is right for one of these requests, whose reply did not come before.
 fn is_one_told(alloc: Global, stream: &mut TcpStream, seen: &mut [bool; 3]) -> io::Result<bool> {
     let mut header = [0u8; 16];
     stream.read_exact(&mut header)?;
@@ -203,15 +203,15 @@ fn is_one_told(alloc: Global, stream: &mut TcpStream, seen: &mut [bool; 3]) -> i
     Ok(true)
 }
 
-/// What a client of the status page asks.
+/// The request of a client of the status page.
 const PAGE: &[u8] = b"GET / HTTP/1.1\r\nHost: localhost\r\n\r\n";
 
-/// How the answer begins, and how its body does.
+/// The beginning of the answer, and that of its body.
 const PAGE_ANSWER: &[u8] = b"HTTP/1.1 200 OK\r\n";
 
 const PAGE_LINE: &[u8] = b"\r\n\r\ncs:Connected ro:Primary/Secondary ds:UpToDate/UpToDate pr:";
 
-// Whether the status page tells that both nodes are connected.
+// Returns whether the status page says that both nodes are connected.
 fn is_told(alloc: Global, stream: &mut TcpStream) -> io::Result<bool> {
     stream.write_all(PAGE)?;
     let mut came = Vec::new(alloc);
@@ -223,7 +223,7 @@ fn is_told(alloc: Global, stream: &mut TcpStream) -> io::Result<bool> {
     Ok(came.starts_with(PAGE_ANSWER) && is_line)
 }
 
-// Whether a client has the right answers at this address.
+// Returns whether a client gets the right answers at this address.
 fn is_served<R: Net<Stream = TcpStream> + Clock>(
     rt: &R,
     alloc: Global,
@@ -233,7 +233,7 @@ fn is_served<R: Net<Stream = TcpStream> + Clock>(
     talk(alloc, &mut stream)
 }
 
-// Whether the page at this address tells that both nodes are connected.
+// Returns whether the page at this address says that both nodes are connected.
 fn is_shown<R: Net<Stream = TcpStream> + Clock>(
     rt: &R,
     alloc: Global,
@@ -243,7 +243,7 @@ fn is_shown<R: Net<Stream = TcpStream> + Clock>(
     is_told(alloc, &mut stream)
 }
 
-// Two addresses at which nothing listens.
+// Returns two addresses at which nothing listens.
 fn free_addresses<R: Abort + Net<Listener = TcpListener, Stream = TcpStream>>(
     rt: &R,
 ) -> (SocketAddr, SocketAddr) {
@@ -255,7 +255,7 @@ fn free_addresses<R: Abort + Net<Listener = TcpListener, Stream = TcpStream>>(
     )
 }
 
-// How the images are served.
+// Returns the options under which the images are served.
 fn options_of(protocol: Protocol, listen: SocketAddr, page: SocketAddr) -> ServeOptions<'static> {
     ServeOptions {
         local: "serving_local",
@@ -268,8 +268,8 @@ fn options_of(protocol: Protocol, listen: SocketAddr, page: SocketAddr) -> Serve
     }
 }
 
-// Serves two images to one client, under this protocol. Returns the server's status, and whether the client had the right
-// answers.
+// Serves two images to one client, under this protocol. Returns the server's status, and whether the client got the
+// right answers.
 fn serve_one<
     H: Abort
         + Host
@@ -300,7 +300,7 @@ fn serve_one<
     (status, is_right)
 }
 
-// Puts two images of zeros where the server looks for them.
+// Writes two images of zeros where the server looks for them.
 fn put_images(rt: &(impl Abort + AllocGlobal + Files)) {
     let zeros = Vec::from_elem(rt.alloc(), 0u8, IMAGE_BYTES).expect(rt, "memory");
     for file in ["serving_local", "serving_peer"] {
@@ -308,7 +308,7 @@ fn put_images(rt: &(impl Abort + AllocGlobal + Files)) {
     }
 }
 
-// The image that is left, which goes, has what the client wrote.
+// Checks that the image has what the client wrote, and removes it.
 fn is_written(rt: &(impl Abort + AllocGlobal + Files), protocol: Protocol, file: &str) {
     let mut wanted = Vec::new(rt.alloc());
     for block in 0..8 {

@@ -1,4 +1,4 @@
-//! A disk over an image file, by whole calls over files of the tests' own. No contract says what a file holds.
+//! Tests of a disk over an image file, by whole calls over files of their own. No contract says what a file holds.
 use blocks::{BLOCK_BYTES, Block, MemStore, Range, Refusal, Store, StoreFault};
 use image_store::{ImageStore, OpenFault};
 use std::alloc::{AllocError, Global};
@@ -9,7 +9,7 @@ use std::process::Abort;
 use std::sync::Arc;
 use std::{fs, io, thread};
 
-// An image of this length: `blocks` blocks, block `n` filled with `n + 1`, and zeros after them.
+// Makes an image of this length: `blocks` blocks, block `n` filled with `n + 1`, and zeros after them.
 fn image(alloc: Global, blocks: u8, length: usize) -> Result<Vec<u8>, AllocError> {
     let mut bytes = Vec::new(alloc);
     for block in 0..blocks {
@@ -25,7 +25,7 @@ fn make_image(rt: &(impl Abort + Files + AllocGlobal), path: &str, blocks: u8, l
     fs::write(rt, path, bytes.as_slice()).expect(rt, "a file");
 }
 
-// Whether the file has one block for each of these bytes, filled with it.
+// Returns whether the file has one block for each of these bytes, filled with it.
 fn is_image(rt: &(impl Files + AllocGlobal), path: &str, fills: &[u8]) -> io::Result<bool> {
     let image = fs::read(rt, path)?;
     let mut is_alike = image.len() / BLOCK_BYTES == fills.len() && image.len() % BLOCK_BYTES == 0;
@@ -35,7 +35,7 @@ fn is_image(rt: &(impl Files + AllocGlobal), path: &str, fills: &[u8]) -> io::Re
     Ok(is_alike)
 }
 
-// The byte that fills the block, if there is such a block, filled with one byte.
+// Returns the byte that fills the block, if there is such a block, filled with one byte.
 fn fill_of<F: FileExt>(store: &mut ImageStore<F>, block: usize) -> Option<u8> {
     let block = block as u64;
     if block >= u64::from(store.blocks()) {
@@ -47,7 +47,7 @@ fn fill_of<F: FileExt>(store: &mut ImageStore<F>, block: usize) -> Option<u8> {
     buffer.iter().all(|byte| *byte == fill).then_some(fill)
 }
 
-// Whether the store has one block for each of these bytes, filled with it.
+// Returns whether the store has one block for each of these bytes, filled with it.
 fn is_held<F: FileExt>(store: &mut ImageStore<F>, fills: &[u8]) -> bool {
     let mut is_alike = store.blocks() as usize == fills.len();
     for (block, fill) in fills.iter().enumerate() {
@@ -68,7 +68,7 @@ fn put_two<F: FileExt>(
     Ok(store.write(range, &bytes))
 }
 
-// The store answers a write of two blocks so.
+// Checks the result of a write of two blocks.
 fn puts<F: FileExt>(
     rt: &impl Abort,
     store: &mut ImageStore<F>,
@@ -78,7 +78,7 @@ fn puts<F: FileExt>(
     assert_eq!(rt; put_two(store, first, fills), Ok(wanted));
 }
 
-// What a write changes is read back, and stands in the file as soon as the write has returned.
+// What a write changes is read back, and is in the file as soon as the write has returned.
 #[test]
 fn a_write_is_in_the_file(rt: HostRuntime) {
     make_image(&rt, "written", 4, 16_384);
@@ -93,7 +93,7 @@ fn a_write_is_in_the_file(rt: HostRuntime) {
     fs::remove_file(&rt, "written").expect(&rt, "a file");
 }
 
-// A device of five blocks refuses an image of this length.
+// Checks that a device of five blocks refuses an image of this length.
 fn refuses(rt: &(impl Abort + Files<File = File> + AllocGlobal), blocks: u8, length: usize) {
     make_image(rt, "other_length", blocks, length);
     let length = length as u64;
@@ -124,7 +124,7 @@ fn another_length_is_refused(rt: HostRuntime) {
     fs::remove_file(&rt, "other_length").expect(&rt, "a file");
 }
 
-// A file that is not there is not made.
+// A file that does not exist is not created.
 #[test]
 fn a_missing_file_is_unread(rt: HostRuntime) {
     let fault = match ImageStore::open(&rt, "no_image", 4) {
@@ -176,7 +176,7 @@ fn a_flush_needs_no_store(rt: HostRuntime) {
     fs::remove_file(&rt, "flushed").expect(&rt, "a file");
 }
 
-// A file in which one write puts a third of its bytes. Later ones fail, up to the write `passes_from`.
+// A file in which one write writes a third of its bytes. Later ones fail, up to the write `passes_from`.
 #[derive(Drop)]
 struct FailingFile {
     file: File,
@@ -203,8 +203,8 @@ impl FileExt for FailingFile {
     }
 }
 
-// A store of four blocks of zeros whose second write fails in the middle, over a file that passes again from this write
-// on.
+// Makes a store of four blocks of zeros whose second write fails in the middle, over a file whose writes pass again
+// from `passes_from` on.
 fn failing_store(
     rt: &(impl Abort + Files<File = File> + AllocGlobal),
     path: &str,
@@ -222,14 +222,14 @@ fn failing_store(
     ImageStore::over(file, memory)
 }
 
-// The file at this path has one block for each of these bytes, or not.
+// Checks whether the file at this path has one block for each of these bytes.
 fn has(rt: &(impl Abort + Files + AllocGlobal), path: &str, fills: &[u8], wanted: bool) {
     let found = is_image(rt, path, fills).expect(rt, "an image");
     assert_eq!(rt; found, wanted);
 }
 
-// A write that fails in the middle changes no memory, and the file has the old bytes or not. The next write changes
-// both.
+// Checks that a write that fails in the middle does not change memory, that the file has the old bytes or not, and that
+// the next write changes both.
 fn fails_and_is_mended(
     rt: &(impl Abort + Files<File = File> + AllocGlobal),
     path: &str,
@@ -247,13 +247,13 @@ fn fails_and_is_mended(
     fs::remove_file(rt, path).expect(rt, "a file");
 }
 
-// A write that fails in the middle changes neither memory nor the file, where the file takes the old bytes back.
+// A write that fails in the middle changes neither memory nor the file, if the file takes the old bytes back.
 #[test]
 fn a_failed_write_is_taken_back(rt: HostRuntime) {
     fails_and_is_mended(&rt, "taken_back", 3, true);
 }
 
-// Where the file does not take the old bytes back either, memory has them, and the next write mends the file.
+// If the file does not take the old bytes back either, memory has them, and the next write mends the file.
 #[test]
 fn a_torn_file_is_mended_by_a_write(rt: HostRuntime) {
     fails_and_is_mended(&rt, "torn", 5, false);

@@ -1,4 +1,4 @@
-//! Tests of a server: clients over sockets, by bytes written out by hand, its disks over image files, and its status page.
+//! Tests of a server: clients over sockets, by bytes written out by hand; disks over image files; and the status page.
 #![tactic(auto)]
 
 #[cfg(test)]

@@ -1,11 +1,11 @@
-//! The texts of the status page, written out by hand.
+//! Tests of the texts of the status page, written out by hand.
 use status_page::{Report, Resync, answer_one};
 use std::alloc::{AllocError, Global};
 use std::hash::RandomState;
 use std::process::Abort;
 use std::random::RandomSource;
 
-/// Both nodes while a resync has copied one of four blocks.
+/// Returns the report of both nodes while a resync has copied one of four blocks.
 fn report(alloc: Global) -> Result<Report, AllocError> {
     let primary =
         "cs:SyncSource ro:Primary/Secondary ds:UpToDate/Inconsistent pr:C pe:0 ap:1 ep:2 oos:12";
@@ -24,7 +24,7 @@ const LINES: &str =
 const JSON: &str =
     "{\"primary\":{\"connection\":\"SyncSource\",\"disk\":\"UpToDate\",\"open_epochs\":2,\"open_writes\":1,\"out_of_sync_kib\":12,\"peer_disk\":\"Inconsistent\",\"peer_role\":\"Secondary\",\"protocol\":\"C\",\"role\":\"Primary\",\"unanswered_writes\":0},\"resync\":{\"left_kib\":12,\"percent\":25},\"secondary\":{\"connection\":\"SyncTarget\",\"disk\":\"Inconsistent\",\"is_consistent\":false,\"peer_disk\":\"UpToDate\",\"peer_role\":\"Primary\",\"pending_items\":3,\"protocol\":\"C\",\"role\":\"Secondary\",\"whole_epoch\":1}}";
 
-/// A client that asks so gets this status, and this body.
+/// Checks that a client that asks this gets this status and this body.
 fn is_told(
     rt: &(impl Abort + AllocGlobal + RandomSource),
     asked: &str,

@@ -1,9 +1,9 @@
-//! How many writes a second go through a session between threads, and how long a writer waits for its receipt, over a
-//! link and over sockets, beside a loop in one thread that copies the same bytes. What became of the writes goes to
-//! standard output, the rates go to standard error.
+//! The rate of writes through a session between threads, and the time that a writer waits for its receipt, over a link
+//! and over sockets, beside a loop in one thread that copies the same bytes. The counts go to standard output, the
+//! rates to standard error.
 //!
-//! `session_bench [COUNT]`: each writer makes COUNT writes. `session_bench idle [SECONDS]` leaves a session alone for so
-//! long. `rt run` builds it to be timed; what `rt try` runs is not optimized, and times nothing.
+//! `session_bench [COUNT]`: each writer makes COUNT writes. `session_bench idle [SECONDS]` leaves a session alone for
+//! SECONDS seconds. `rt run` builds it to be timed; what `rt try` runs is not optimized, and times nothing.
 #![tactic(auto)]
 
 mod measure;
@@ -13,7 +13,7 @@ mod writers;
 
 use std::env;
 
-/// Writes of each writer, where it is not told how many.
+/// Writes of each writer, if no COUNT is given.
 const WRITES: u32 = 100;
 
 /// How long a session is left alone, in seconds.
@@ -28,7 +28,7 @@ fn main(rt: HostRuntime) -> anyhow::Result<()> {
     }
 }
 
-/// The number that a word spells; this one if there is no word.
+/// Returns the number that a word spells, or `number` if there is no word.
 fn parsed(word: Option<&String>, number: u32) -> anyhow::Result<u32> {
     match word {
         Some(word) => Ok(word.as_str().parse::<u32>()?),

@@ -2,22 +2,22 @@
 use blocks::BLOCK_BYTES;
 use std::time::{Duration, Instant};
 
-/// Blocks of the device of a session, 32 MiB.
+/// Blocks of the device of a session: 32 MiB.
 pub(crate) const BLOCKS: u32 = 8_192;
 
-/// What a session came to, and how long its writers waited for their receipts.
+/// How many receipts a session gave, in what time, and how long its writers waited for them.
 #[derive(Clone, Copy, Debug, PartialEq, Eq)]
 pub(crate) struct Report {
     pub(crate) receipts: usize,
     pub(crate) time: Duration,
-    /// Half of the writes waited no longer, in microseconds.
+    /// Half of the writes waited no longer than this, in microseconds.
     pub(crate) median_us: u64,
-    /// Of 100 writes 99 waited no longer, in microseconds.
+    /// 99 of 100 writes waited no longer than this, in microseconds.
     pub(crate) slow_us: u64,
 }
 
 impl Report {
-    /// The report of a session that took this long, whose writes waited for these nanoseconds.
+    /// Makes the report of a session that took `time` and whose writes waited for `waits` nanoseconds.
     pub(crate) fn of(waits: Vec<u64>, time: Duration) -> Report {
         let mut waits = waits;
         waits.sort_unstable();
@@ -30,13 +30,13 @@ impl Report {
         }
     }
 
-    /// Writes that had their receipts, in a second.
+    /// Returns how many writes had their receipts in a second.
     pub(crate) fn per_second(&self) -> u128 {
         self.receipts as u128 * 1_000_000 / self.time.as_micros().max(1)
     }
 }
 
-// The wait at this index, 0 if there is none.
+// Returns the wait at this index, 0 if there is none.
 fn at(sorted: &Vec<u64>, index: usize) -> u64 {
     match sorted.get(index) {
         Some(wait) => *wait,
@@ -44,8 +44,8 @@ fn at(sorted: &Vec<u64>, index: usize) -> u64 {
     }
 }
 
-/// Copies the bytes of this many writes as often as a mirror must, into a frame, to the local disk and to the peer's, in
-/// one thread.
+/// Copies the bytes of this many writes as often as a mirror must, into a frame, to the local disk and to the peer's,
+/// in one thread.
 pub(crate) fn copied(host: &HostRuntime, writes: u32) -> anyhow::Result<()> {
     let alloc = host.alloc();
     let block = [0x5Au8; BLOCK_BYTES];

@@ -1,4 +1,4 @@
-//! A session that is measured, from its start to its end.
+//! A measured session, from its start to its end.
 ghost use Rattle.ruled_link.specs.Names as names;
 ghost use Rattle.volume.specs.Links.{AreEndsOf};
 
@@ -47,7 +47,7 @@ pub(crate) struct Plan {
     pub(crate) rest: Duration,
 }
 
-/// Runs a session over two disks filled with zeros, and returns what its writers had.
+/// Runs a session over two disks filled with zeros. Returns the report of its writers.
 pub(crate) fn run<R: Runtime + Net<Listener = TcpListener, Stream = TcpStream>>(
     rt: R,
     alloc: Global,
@@ -59,7 +59,7 @@ pub(crate) fn run<R: Runtime + Net<Listener = TcpListener, Stream = TcpStream>>(
     })
 }
 
-// What a session starts from, and its two disks.
+// Returns what a session starts from, and its two disks.
 fn parts(alloc: Global, plan: Plan) -> Result<(Parts, Disks), Refusal> {
     let settings = Settings {
         protocol: plan.protocol,
@@ -80,7 +80,7 @@ fn parts(alloc: Global, plan: Plan) -> Result<(Parts, Disks), Refusal> {
     Ok((parts, (local, peer)))
 }
 
-// A session over a link.
+// Runs a session over a link.
 fn run_linked<R: Runtime>(rt: R, alloc: Global, plan: Plan) -> Result<Report, Refusal> {
     let there = ruled(rt, alloc, Settings::STANDARD.link)?;
     let back = ruled(rt, alloc, Settings::STANDARD.link)?;
@@ -88,7 +88,7 @@ fn run_linked<R: Runtime>(rt: R, alloc: Global, plan: Plan) -> Result<Report, Re
     run_named::<Brand, R>(rt, alloc, plan, there, back, disks, parts)
 }
 
-// The same, in one function over the link's name, which the caller picks.
+// Runs it in one function over the link's name, which the caller picks.
 fn run_named<L: Linked + Send + Sync + 'static, R: Runtime>(
     rt: R,
     alloc: Global,
@@ -110,7 +110,7 @@ fn run_named<L: Linked + Send + Sync + 'static, R: Runtime>(
     report
 }
 
-// A session over sockets.
+// Runs a session over sockets.
 fn run_over<R: Runtime>(
     rt: R,
     alloc: Global,
@@ -124,7 +124,7 @@ fn run_over<R: Runtime>(
     report
 }
 
-// The end of a session, of whose nodes nothing is left.
+// Drops both nodes of an ended session.
 fn end<O: FrameOut + Drop, I: FrameIn + Drop, P: FrameOut + Drop, J: FrameIn + Drop>(
     ended: Result<(Primary<O, I, MemStore>, Secondary<P, J, MemStore>), Refusal>,
 ) -> Result<(), Refusal> {
@@ -133,7 +133,7 @@ fn end<O: FrameOut + Drop, I: FrameIn + Drop, P: FrameOut + Drop, J: FrameIn + D
     Ok(())
 }
 
-// Makes all writes of a session that runs, and leaves it alone after them.
+// Makes all writes of a session that runs, and then leaves it alone.
 fn measured<R: Runtime>(
     rt: &R,
     alloc: Global,

@@ -7,7 +7,7 @@ use std::net::{Net, TcpListener, TcpStream};
 use std::time::Duration;
 use volume::Runtime;
 
-/// Writers at a time.
+/// How many writers there are at a time.
 const WRITERS: [u32; 3] = [1, 4, 16];
 
 const PROTOCOLS: [Protocol; 3] = [Protocol::A, Protocol::B, Protocol::C];
@@ -37,7 +37,7 @@ pub(crate) fn measure_all<R: Runtime + Net<Listener = TcpListener, Stream = TcpS
     Ok(())
 }
 
-/// Starts a session, leaves it alone for this many seconds, and ends it: what it costs then is seen from outside.
+/// Starts a session, leaves it alone for this many seconds, and ends it: its cost then is seen from outside.
 pub(crate) fn idle<R: Runtime + Net<Listener = TcpListener, Stream = TcpStream>>(
     host: &HostRuntime,
     rt: R,
@@ -55,7 +55,7 @@ pub(crate) fn idle<R: Runtime + Net<Listener = TcpListener, Stream = TcpStream>>
     Ok(())
 }
 
-// A line of what was done, and one of how fast it was.
+// Prints what was done in one line, and how fast it was in another.
 fn tell(host: &HostRuntime, plan: Plan, report: &Report) -> anyhow::Result<()> {
     println!(host;
         "session over {}, protocol {:?}, {} writers: {} receipts",

@@ -1,4 +1,4 @@
-//! The writers of a session that is measured.
+//! The writers of a measured session.
 use crate::run::Plan;
 use blocks::{BLOCK_BYTES, Refusal};
 use bytes::Bytes;
@@ -32,7 +32,7 @@ pub(crate) fn write_all<R: Runtime>(
     Ok(all)
 }
 
-// The writes of one writer.
+// Makes the writes of one writer. Returns how long each write waited, in nanoseconds.
 fn write_some<R: Wait + Clock>(
     rt: &R,
     alloc: Global,
@@ -51,7 +51,7 @@ fn write_some<R: Wait + Clock>(
     Ok(waits)
 }
 
-// How long ago that was, in nanoseconds; 0 if the clock cannot be read.
+// Returns how long ago that was, in nanoseconds; 0 if the clock cannot be read.
 fn nanos_since<R: Clock>(rt: &R, start: std::io::Result<Instant>) -> u64 {
     let Ok(start) = start else {
         return 0;

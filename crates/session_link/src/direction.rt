@@ -1,4 +1,4 @@
-//! One direction of a session's link, both of whose ends are in one hand.
+//! One direction of a session's link, once one owner has both of its ends.
 ghost use Rattle.std.specs.Prelude.{ℕ, ◌≡◌};
 ghost use Rattle.endpoint.specs.Joined.{BeginsPushed, pushed_at, taken_at};
 
@@ -6,8 +6,8 @@ use endpoint::{PacketReceiver, PacketSender, joined};
 use ruled_link::{Named, NamedIn, NamedOut, join_ends};
 use std::sync::Wait;
 
-/// Both ends of a direction, as they were. On each connection, by its number, what was taken is packets, and they
-/// begin the packets that were pushed. It takes no memory.
+/// Returns both ends of a direction unchanged. On each connection, by its number, what was taken is packets, and they
+/// begin the packets that were pushed. Takes no memory.
 pub fn join_direction<R: Wait, N: Named>(
     outgoing: PacketSender<NamedOut<R, N>>,
     incoming: PacketReceiver<NamedIn<R, N>>,

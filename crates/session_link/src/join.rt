@@ -1,4 +1,4 @@
-//! Both nodes of a session, in one hand again.
+//! Both nodes of a session, once one owner has them again.
 ghost use Rattle.std.specs.Prelude.{◌≡◌};
 ghost use Rattle.model.specs.Headline.{IsJoined};
 ghost use Rattle.model.specs.Primary.{PrimaryHistory};
@@ -19,8 +19,8 @@ pub type SessionPrimary<R, L, S> = Primary<NamedOut<R, There<L>>, NamedIn<R, Bac
 /// The secondary of a session.
 pub type SessionSecondary<R, L, T> = Secondary<NamedOut<R, Back<L>>, NamedIn<R, There<L>>, T>;
 
-/// Both nodes of a session, as they were. Of any histories that they had over the session's link, what each took
-/// begins what the other pushed, on each connection, by its number. It takes no memory.
+/// Returns both nodes of a session unchanged. For any histories that they have over the session's link: on each
+/// connection, by its number, what each took begins what the other pushed. Takes no memory.
 pub fn join_nodes<R: Wait + Drop, L: Linked, S: Store + Drop, T: Store + Drop>(
     primary: SessionPrimary<R, L, S>,
     secondary: SessionSecondary<R, L, T>,

@@ -1,5 +1,5 @@
-//! The link of a session: its name, which both locked nodes share, and what is known of them once both are in
-//! one hand again.
+//! The link of a session: its name, which both locked nodes share, and what is known of them once one owner has both
+//! again.
 #![tactic(auto)]
 
 mod direction;

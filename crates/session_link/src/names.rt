@@ -8,7 +8,7 @@ use std::marker::{Brand, PhantomData};
 pub trait Linked {
     ghost use Rattle.ruled_link.specs.Names.{LinkName};
 
-    /// The link: the two rows in which its directions go.
+    /// The link: the rows of its two directions.
     ghost link: { LinkName };
 }
 

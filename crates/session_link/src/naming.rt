@@ -7,14 +7,13 @@ use crate::{Back, Linked, There};
 use ruled_link::{NamedIn, NamedOut, RuledIn, RuledOut};
 use std::sync::Wait;
 
-/// The ends of a session's primary: where it sends, and where acknowledgements come in.
+/// The ends of a session's primary: the one that it sends to, and the one that acknowledgements come from.
 pub type LocalEnds<R, L> = (NamedOut<R, There<L>>, NamedIn<R, Back<L>>);
 
 /// The ends of a session's secondary.
 pub type PeerEnds<R, L> = (NamedOut<R, Back<L>>, NamedIn<R, There<L>>);
 
-/// Puts the ends of both directions under the name of the session's link, and gives each node its own two. It takes no
-/// memory.
+/// Gives the ends of both directions the name of the session's link, and each node its own two. Takes no memory.
 pub fn named_ends<R: Wait, L: Linked>(
     there: (RuledOut<R>, RuledIn<R>),
     back: (RuledOut<R>, RuledIn<R>),

@@ -8,8 +8,8 @@ use link::{FrameIn, FrameOut};
 use primary::Primary;
 use secondary::Secondary;
 
-/// `NotDrained` (36) if a connection of the secondary has a number above the primary's last one, which no session brings
-/// about.
+/// Checks that no connection of the secondary has a number above the primary's last one. `NotDrained` (36) if one has,
+/// which no session brings about.
 pub fn check_numbers<
     O: FrameOut + Drop,
     I: FrameIn + Drop,

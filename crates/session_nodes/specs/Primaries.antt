@@ -13,32 +13,33 @@ use Rattle.primary_protocol.specs.Steps.{replied}
 use Rattle.primary.specs.State.{PrimaryView, node}
 use Rattle.session_nodes.specs.Traffic.{KnowTraffic}
 
--- what the history pushed on the connection of a number, the present one or an earlier one
+-- what the history pushed on the connection with this number, the present one or an earlier one
 abbrev pub sent : PrimaryHistory → ℕ → List Packet
 sent h number = take (primary_connection_at h number).pushed (frames_due h.settings (primary_connection_at h number))
 
--- and what it took
+-- what the history took on it
 abbrev pub came : PrimaryHistory → ℕ → List Received
 came h number = (primary_connection_at h number).taken
 
--- Every connection of the history went over the ends that the node has: of each number, what went out there is what the history
--- pushed, and what came in is what it took. The ends are on the last connection, and the earlier ones are closed.
+-- Every connection of the history went over the ends that the node has: for each number, what went out there is what
+-- the history pushed, and what came in is what it took. The ends are on the last connection, and the earlier ones are
+-- closed.
 pub record PrimaryOver (v : PrimaryView) (h : PrimaryHistory) : Type 0 where
   pub traffic : KnowTraffic v.outgoing v.incoming (length h.connections) (sent h) (came h)
   pub opened : 0 < length h.connections
   pub ended : (k : ℕ) (c : PrimaryConnection) → suc k < length h.connections → slice_get h.connections k ≡ Some c → c.closed ≡ true
 
--- the node has this history, and all of its connections went over the node's ends
+-- the node refines this history, and all of its connections went over the node's ends
 pub record PrimaryHas (v : PrimaryView) (h : PrimaryHistory) : Type 0 where
   pub has : NodeHas (node v) h
   pub over : PrimaryOver v h
 
--- Invariant of the locked primary: it has some such history.
+-- Invariant of the locked primary: it refines some such history.
 pub record PrimaryIsHad (v : PrimaryView) : Type 0 where
   pub history : PrimaryHistory
   pub has : PrimaryHas v history
 
--- The call was this step, on whichever such history the node had.
+-- The call was this step of the model, for every such history that the node refined.
 pub record IsPrimaryStep {Told : Type 0} (step : PrimaryHistory → Told × PrimaryHistory) (v : PrimaryView) (told : Told) (w : PrimaryView) : Type 0 where
   pub said : (h : PrimaryHistory) → PrimaryHas v h → told ≡ (step h).0
   pub after : (h : PrimaryHistory) → PrimaryHas v h → PrimaryHas w (step h).1
@@ -47,11 +48,11 @@ pub record IsPrimaryStep {Told : Type 0} (step : PrimaryHistory → Told × Prim
 abbrev pub PrimarySteps : PrimaryEvent → PrimaryView → Reply → PrimaryView → Type 0
 PrimarySteps event = IsPrimaryStep (primary_step event)
 
--- Whichever such history the node had, some events lead from it to one that it has then.
+-- From every such history that the node refined, some events lead to one that it refines now.
 abbrev pub PrimaryRuns : PrimaryView → PrimaryView → Type 0
 PrimaryRuns v w = (h : PrimaryHistory) → PrimaryHas v h → (events : List PrimaryEvent) × PrimaryHas w (primary_run events h)
 
--- A frame was taken, or none, and that was the step.
+-- The call was the step of taking some frame, or none.
 pub record PrimaryTakes (result : Result Done Refusal) (v w : PrimaryView) : Type 0 where
   pub frame : Option Received
   pub step : PrimarySteps (Takes frame (is_none frame && is_out_of_memory result)) v (replied reply.Ok result) w

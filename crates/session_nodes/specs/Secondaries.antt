@@ -12,32 +12,33 @@ use Rattle.secondary_protocol.specs.Steps.{replied}
 use Rattle.secondary.specs.State.{SecondaryView, node}
 use Rattle.session_nodes.specs.Traffic.{KnowTraffic}
 
--- what the history pushed on the connection of a number, the present one or an earlier one
+-- what the history pushed on the connection with this number, the present one or an earlier one
 abbrev pub sent : SecondaryHistory → ℕ → List Packet
 sent h number = take (secondary_connection_at h number).pushed (answers_due h.settings (secondary_connection_at h number))
 
--- and what it took
+-- what the history took on it
 abbrev pub came : SecondaryHistory → ℕ → List Received
 came h number = (secondary_connection_at h number).taken
 
--- Every connection of the history went over the ends that the node has: of each number, what went out there is what the history
--- pushed, and what came in is what it took. The ends are on the last connection, and the earlier ones are closed.
+-- Every connection of the history went over the ends that the node has: for each number, what went out there is what
+-- the history pushed, and what came in is what it took. The ends are on the last connection, and the earlier ones are
+-- closed.
 pub record SecondaryOver (v : SecondaryView) (h : SecondaryHistory) : Type 0 where
   pub traffic : KnowTraffic v.outgoing v.incoming (secondary_connection h).number (sent h) (came h)
   pub opened : 0 < length h.connections
   pub ended : (k : ℕ) (d : SecondaryConnection) → suc k < length h.connections → slice_get h.connections k ≡ Some d → d.closed ≡ true
 
--- the node has this history, and all of its connections went over the node's ends
+-- the node refines this history, and all of its connections went over the node's ends
 pub record SecondaryHas (v : SecondaryView) (h : SecondaryHistory) : Type 0 where
   pub has : NodeHas (node v) h
   pub over : SecondaryOver v h
 
--- Invariant of the locked secondary: it has some such history.
+-- Invariant of the locked secondary: it refines some such history.
 pub record SecondaryIsHad (v : SecondaryView) : Type 0 where
   pub history : SecondaryHistory
   pub has : SecondaryHas v history
 
--- The call was this step, on whichever such history the node had.
+-- The call was this step of the model, for every such history that the node refined.
 pub record IsSecondaryStep {Told : Type 0} (step : SecondaryHistory → Told × SecondaryHistory) (v : SecondaryView) (told : Told)
     (w : SecondaryView) : Type 0 where
   pub said : (h : SecondaryHistory) → SecondaryHas v h → told ≡ (step h).0
@@ -47,11 +48,11 @@ pub record IsSecondaryStep {Told : Type 0} (step : SecondaryHistory → Told × 
 abbrev pub SecondarySteps : SecondaryEvent → SecondaryView → Reply → SecondaryView → Type 0
 SecondarySteps event = IsSecondaryStep (secondary_step event)
 
--- Whichever such history the node had, some events lead from it to one that it has then.
+-- From every such history that the node refined, some events lead to one that it refines now.
 abbrev pub SecondaryRuns : SecondaryView → SecondaryView → Type 0
 SecondaryRuns v w = (h : SecondaryHistory) → SecondaryHas v h → (events : List SecondaryEvent) × SecondaryHas w (secondary_run events h)
 
--- A frame was taken, or none, and that was the step.
+-- The call was the step of taking some frame, or none.
 pub record SecondaryReceives (result : Result Done Refusal) (v w : SecondaryView) : Type 0 where
   pub frame : Option Received
   pub step : SecondarySteps (Receives frame (is_none frame && is_out_of_memory result)) v (replied (λ done. done) result) w

@@ -6,7 +6,8 @@ use Rattle.endpoint.specs.PacketReceiver.{PacketReceiverState}
 use Rattle.endpoint.specs.PacketSender.{PacketSenderState}
 use Rattle.endpoint.specs.Joined.{pushed_at, taken_at}
 
--- Both ends are on the last connection, those before it have lower numbers, and of each number this was pushed and this was taken.
+-- Both ends are on the last connection, those before it have lower numbers, and for each number these packets were
+-- pushed and these frames taken.
 pub record KnowTraffic (outgoing : Option PacketSenderState) (incoming : Option PacketReceiverState) (last : ℕ) (sent : ℕ → List Packet)
     (came : ℕ → List Received) : Type 0 where
   pub out : PacketSenderState

@@ -1,5 +1,5 @@
-//! The two nodes of a session, as they lie under their locks: a node whose connections all went over one link,
-//! and what its threads do in a turn.
+//! The two nodes of a session, each kept under a lock: a node whose connections all used one link, and what its threads
+//! do in a turn.
 #![tactic(auto)]
 
 mod local;

@@ -15,8 +15,8 @@ use primary::{Primary, Receipt};
 use std::alloc::Global;
 use std::marker::Model;
 
-/// The primary of a session, as it lies under its lock. Invariant: it was opened, and all of its connections
-/// went over the ends that it has (`PrimaryIsHad`).
+/// The primary of a session, kept under a lock. Invariant: it was opened, and all of its connections used the link ends
+/// that it has (`PrimaryIsHad`).
 #[derive(Drop)]
 pub struct Local<O: FrameOut + Drop, I: FrameIn + Drop, S: Store + Drop> {
     pub(crate) node: Primary<O, I, S>,
@@ -34,10 +34,9 @@ impl<O: FrameOut + Drop, I: FrameIn + Drop, S: Store + Drop> Model for Local<O, 
 }
 
 impl<O: FrameOut + Drop, I: FrameIn + Drop, S: Store + Drop> Local<O, I, S> {
-    /// A primary over its disk, opened over unused ends of a link.
+    /// Creates a primary over its disk, and opens it over unused ends of a link.
     ///
-    /// `BadSetting` (15) and `NoMemory` (7) come as for `Primary::new`, `UsedIdentifier` (33) as for
-    /// `Primary::open`.
+    /// `BadSetting` (15) and `NoMemory` (7) come as for `Primary::new`, `UsedIdentifier` (33) as for `Primary::open`.
     pub fn open(
         alloc: Global,
         settings: Settings,
@@ -68,7 +67,7 @@ impl<O: FrameOut + Drop, I: FrameIn + Drop, S: Store + Drop> Local<O, I, S> {
         self.node.submit(first, bytes)
     }
 
-    /// The receipt of a write, once. The refusals are those of `Primary::take_completed`.
+    /// Returns the receipt of a write, once. The refusals are those of `Primary::take_completed`.
     pub fn take_completed(&mut self, number: u64) -> Result<Receipt, Refusal>
         ensures step { IsPrimaryStep (take_receipt number) self.old result self.new }
     {
@@ -96,7 +95,7 @@ impl<O: FrameOut + Drop, I: FrameIn + Drop, S: Store + Drop> Local<O, I, S> {
         self.node.ack_in()
     }
 
-    /// Has the disk do the next write. `NothingThere` (13) if there is none, and then nothing has changed.
+    /// Performs the next write on the disk. `NothingThere` (13) if there is none; then nothing changes.
     pub fn write_next(&mut self) -> Result<Done, Refusal>
         ensures runs { PrimaryRuns self.old self.new }
     {
@@ -106,7 +105,7 @@ impl<O: FrameOut + Drop, I: FrameIn + Drop, S: Store + Drop> Local<O, I, S> {
         }
     }
 
-    // Has the disk do a write.
+    // Performs a write on the disk.
     fn write_at(&mut self, number: u64) -> Result<Done, Refusal>
         ensures runs { PrimaryRuns self.old self.new }
     {
@@ -128,21 +127,21 @@ impl<O: FrameOut + Drop, I: FrameIn + Drop, S: Store + Drop> Local<O, I, S> {
         self.node.close()
     }
 
-    /// Opens the end anew and returns the connection's number. The refusals are those of `Primary::reopen`.
+    /// Opens the end again and returns the connection's number. The refusals are those of `Primary::reopen`.
     pub fn reopen(&mut self, sync: u64, loss: u64) -> Result<u32, Refusal>
         ensures step { PrimarySteps (Opens sync loss (is_out_of_memory result)) self.old (replied (λ number. plainly tt) result) self.new }
     {
         self.node.reopen(sync, loss)
     }
 
-    /// The node, for reading.
+    /// Returns the node for reading.
     pub fn node(&self) -> &Primary<O, I, S>
         ensures { result.now ≡ self.now }
     {
         &self.node
     }
 
-    /// The node by itself.
+    /// Returns the node alone.
     pub fn into_node(self) -> Primary<O, I, S>
         ensures node { result ≡ self }
         ensures had { PrimaryIsHad result }

@@ -7,7 +7,7 @@ use link::{FrameIn, FrameOut};
 use turns::{LocalRole, STEPS, Turn};
 
 impl<O: FrameOut + Drop, I: FrameIn + Drop, S: Store + Drop> Local<O, I, S> {
-    /// Does up to `STEPS` steps of the node: those of the role first, and where there are none, any other.
+    /// Does up to `STEPS` steps of the node: each is of the role or, if the role has none, of any other role.
     pub fn turn(&mut self, role: LocalRole) -> Turn
         ensures runs { PrimaryRuns self.old self.new }
     {
@@ -26,12 +26,12 @@ impl<O: FrameOut + Drop, I: FrameIn + Drop, S: Store + Drop> Local<O, I, S> {
         turn
     }
 
-    /// Whether the disk has a write to do.
+    /// Returns whether the disk has a write to do.
     pub fn has_unfinished(&self) -> bool {
         self.node.next_local().is_some()
     }
 
-    // A step of the role, or of another one.
+    // Does a step of the role or, if it has none, of another one. Returns whether there was one.
     fn advance(&mut self, role: LocalRole, turn: &mut Turn) -> bool
         ensures runs { PrimaryRuns self.old self.new }
     {
@@ -41,7 +41,7 @@ impl<O: FrameOut + Drop, I: FrameIn + Drop, S: Store + Drop> Local<O, I, S> {
         self.help(turn)
     }
 
-    // A step of whichever role has one.
+    // Does a step of the first role that has one. Returns whether there was one.
     fn help(&mut self, turn: &mut Turn) -> bool
         ensures runs { PrimaryRuns self.old self.new }
     {
@@ -57,7 +57,7 @@ impl<O: FrameOut + Drop, I: FrameIn + Drop, S: Store + Drop> Local<O, I, S> {
         self.step(LocalRole::Resync, turn)
     }
 
-    // One step of a role, if it has one.
+    // Does a step of a role. Returns whether there was one.
     fn step(&mut self, role: LocalRole, turn: &mut Turn) -> bool
         ensures runs { PrimaryRuns self.old self.new }
     {

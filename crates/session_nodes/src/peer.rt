@@ -15,8 +15,8 @@ use secondary::Secondary;
 use std::alloc::Global;
 use std::marker::Model;
 
-/// The secondary of a session, as it lies under its lock. Invariant: it was opened, and all of its connections
-/// went over the ends that it has (`SecondaryIsHad`).
+/// The secondary of a session, kept under a lock. Invariant: it was opened, and all of its connections used the link
+/// ends that it has (`SecondaryIsHad`).
 #[derive(Drop)]
 pub struct Peer<O: FrameOut + Drop, I: FrameIn + Drop, S: Store + Drop> {
     pub(crate) node: Secondary<O, I, S>,
@@ -34,7 +34,7 @@ impl<O: FrameOut + Drop, I: FrameIn + Drop, S: Store + Drop> Model for Peer<O, I
 }
 
 impl<O: FrameOut + Drop, I: FrameIn + Drop, S: Store + Drop> Peer<O, I, S> {
-    /// A secondary over its disk, opened over unused ends of a link.
+    /// Creates a secondary over its disk, and opens it over unused ends of a link.
     ///
     /// `BadSetting` (15) and `NoMemory` (7) come as for `Secondary::new`.
     pub fn open(
@@ -74,7 +74,7 @@ impl<O: FrameOut + Drop, I: FrameIn + Drop, S: Store + Drop> Peer<O, I, S> {
         self.node.ack_out()
     }
 
-    /// Has the disk do the next item. `NothingThere` (13) if there is none, and then nothing has changed.
+    /// Performs the next item on the disk. `NothingThere` (13) if there is none; then nothing changes.
     pub fn apply_next(&mut self) -> Result<Done, Refusal>
         ensures runs { SecondaryRuns self.old self.new }
     {
@@ -84,7 +84,7 @@ impl<O: FrameOut + Drop, I: FrameIn + Drop, S: Store + Drop> Peer<O, I, S> {
         }
     }
 
-    // Has the disk do an item.
+    // Performs an item on the disk.
     fn apply_at(&mut self, place: u32) -> Result<Done, Refusal>
         ensures runs { SecondaryRuns self.old self.new }
     {
@@ -98,7 +98,7 @@ impl<O: FrameOut + Drop, I: FrameIn + Drop, S: Store + Drop> Peer<O, I, S> {
         self.node.close()
     }
 
-    /// Whether the end may open again: it is closed, and nothing is pending. `NotDrained` (36) if not.
+    /// Checks that the end may open again: it is closed, and nothing is pending. `NotDrained` (36) if not.
     pub fn may_reopen(&self) -> Result<(), Refusal>
         ensures may { (h : SecondaryHistory) → NodeHas (node self.now) h → OnOk result (((secondary_connection h).closed ≡ true) × (is_drained h ≡ true)) }
         ensures refused { (h : SecondaryHistory) → NodeHas (node self.now) h → IfErr result (λ e. (e ≡ NotDrained) × (((secondary_connection h).closed && is_drained h) ≡ false)) }
@@ -109,10 +109,10 @@ impl<O: FrameOut + Drop, I: FrameIn + Drop, S: Store + Drop> Peer<O, I, S> {
         Ok(())
     }
 
-    /// Opens the end anew under the connection's number.
+    /// Opens the end again under the connection's number.
     ///
-    /// `NotDrained` (36) if the end is open, if items are pending, and if the node had a connection of this
-    /// number or a higher one; then nothing has changed.
+    /// `NotDrained` (36) if the end is open, if items are pending, and if the node had a connection of this number or a
+    /// higher one; then nothing changes.
     pub fn reopen(&mut self, number: u32) -> Result<(), Refusal>
         ensures numbered { number ≤ self.old.core.number → result ≡ Err NotDrained }
         ensures step { self.old.core.number < number → SecondarySteps (OpensToo (number - (self.old.core.number + 1))) self.old (replied plainly result) self.new }
@@ -124,7 +124,7 @@ impl<O: FrameOut + Drop, I: FrameIn + Drop, S: Store + Drop> Peer<O, I, S> {
         self.open_again(number)
     }
 
-    // The same of a number that is above the last one.
+    // Like `reopen`, for a number above the last one.
     fn open_again(&mut self, number: u32) -> Result<(), Refusal>
         requires above { self.old.core.number < number }
         ensures step { SecondarySteps (OpensToo (number - (self.old.core.number + 1))) self.old (replied plainly result) self.new }
@@ -133,14 +133,14 @@ impl<O: FrameOut + Drop, I: FrameIn + Drop, S: Store + Drop> Peer<O, I, S> {
         self.node.reopen(number)
     }
 
-    /// The node, for reading.
+    /// Returns the node for reading.
     pub fn node(&self) -> &Secondary<O, I, S>
         ensures { result.now ≡ self.now }
     {
         &self.node
     }
 
-    /// The node by itself.
+    /// Returns the node alone.
     pub fn into_node(self) -> Secondary<O, I, S>
         ensures node { result ≡ self }
         ensures had { SecondaryIsHad result }

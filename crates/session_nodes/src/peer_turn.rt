@@ -7,7 +7,7 @@ use link::{FrameIn, FrameOut};
 use turns::{PeerRole, STEPS, Turn};
 
 impl<O: FrameOut + Drop, I: FrameIn + Drop, S: Store + Drop> Peer<O, I, S> {
-    /// Does up to `STEPS` steps of the node: those of the role first, and where there are none, any other.
+    /// Does up to `STEPS` steps of the node: each is of the role or, if the role has none, of any other role.
     pub fn turn(&mut self, role: PeerRole) -> Turn
         ensures runs { SecondaryRuns self.old self.new }
     {
@@ -25,12 +25,12 @@ impl<O: FrameOut + Drop, I: FrameIn + Drop, S: Store + Drop> Peer<O, I, S> {
         turn
     }
 
-    /// Whether the disk has an item to do.
+    /// Returns whether the disk has an item to do.
     pub fn has_unfinished(&self) -> bool {
         !self.node.is_drained()
     }
 
-    // A step of the role, or of another one.
+    // Does a step of the role or, if it has none, of another one. Returns whether there was one.
     fn advance(&mut self, role: PeerRole, turn: &mut Turn) -> bool
         ensures runs { SecondaryRuns self.old self.new }
     {
@@ -40,7 +40,7 @@ impl<O: FrameOut + Drop, I: FrameIn + Drop, S: Store + Drop> Peer<O, I, S> {
         self.help(turn)
     }
 
-    // A step of whichever role has one.
+    // Does a step of the first role that has one. Returns whether there was one.
     fn help(&mut self, turn: &mut Turn) -> bool
         ensures runs { SecondaryRuns self.old self.new }
     {
@@ -53,7 +53,7 @@ impl<O: FrameOut + Drop, I: FrameIn + Drop, S: Store + Drop> Peer<O, I, S> {
         self.step(PeerRole::Disk, turn)
     }
 
-    // One step of a role, if it has one.
+    // Does a step of a role. Returns whether there was one.
     fn step(&mut self, role: PeerRole, turn: &mut Turn) -> bool
         ensures runs { SecondaryRuns self.old self.new }
     {

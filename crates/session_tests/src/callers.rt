@@ -12,27 +12,28 @@ use std::thread;
 use std::time::Clock;
 use volume::{Device, Runtime};
 
-/// Writers of a session, and the writes of each.
+/// How many writers a session has, and how many writes each makes.
 pub(crate) const WRITERS: usize = 4;
 
 pub(crate) const WRITES: u64 = 50;
 
-/// How often a caller looks again at what it waits for.
+/// How often a caller that waits looks again.
 const LOOKS: u32 = 1_000_000;
 
 /// What the callers of a session do.
 #[derive(Clone, Copy, Debug, PartialEq, Eq)]
 pub(crate) enum Work {
-    /// Four writers write fifty times each, to two blocks of their own, while the link is cut and reconnected so often.
+    /// Four writers write fifty times each, to two blocks of their own, while the link is cut and reconnected `cuts`
+    /// times.
     Writers { cuts: u32 },
-    /// They all write to the same two blocks.
+    /// Four writers all write to the same two blocks.
     SharedBlocks,
     /// One caller writes a thousand times, and cuts and reconnects the link after every tenth write.
     CutEveryTenth,
-    /// One caller writes block 0 and, once the peer's disk has begun it, another one block 1. The second one's receipt
-    /// lets the first write end, if it is so told.
+    /// One caller writes block 0; once the peer's disk has begun that, another caller writes block 1. If
+    /// `receipt_opens`, the receipt of the second write lets the first one end.
     Gate { receipt_opens: bool },
-    /// Nothing is written, until the peer's disk was written so often.
+    /// Nothing is written until the peer's disk has done `writes` writes.
     Resync { writes: u64 },
     /// One caller writes until the link has answered, on a first connection and on a second.
     TwoConnections,
@@ -40,11 +41,11 @@ pub(crate) enum Work {
     OneWrite,
     /// One caller asks for a second connection, which is refused before and after a cut.
     OneConnection,
-    /// One caller asks for what a session refuses, and complains of every other answer.
+    /// One caller asks for what a session refuses, and complains of any other reply.
     Refused,
 }
 
-/// Does it, and returns what the callers have then.
+/// Does the work. Returns what the callers have then.
 pub(crate) fn carry_out<R: Abort + Runtime>(
     rt: &R,
     alloc: Global,
@@ -65,7 +66,7 @@ pub(crate) fn carry_out<R: Abort + Runtime>(
     }
 }
 
-// No answers yet.
+// Returns no answers.
 fn nothing(alloc: Global) -> Answers {
     Answers {
         receipts: Vec::new(alloc),
@@ -74,7 +75,7 @@ fn nothing(alloc: Global) -> Answers {
     }
 }
 
-// Notes the answer of a write.
+// Records the answer to a write.
 fn note(rt: &impl Abort, answers: &mut Answers, answer: Result<Receipt, Refusal>) {
     match answer {
         Ok(receipt) => answers.receipts.push(receipt).expect(rt, "memory"),
@@ -85,7 +86,7 @@ fn note(rt: &impl Abort, answers: &mut Answers, answer: Result<Receipt, Refusal>
     }
 }
 
-// Adds the answers that one caller has to those of all.
+// Adds the answers of one caller to those of all.
 fn add(rt: &impl Abort, all: &mut Answers, answers: &mut Answers) {
     all.receipts
         .append(&mut answers.receipts)
@@ -100,7 +101,7 @@ fn write(alloc: Global, mirror: &impl Device, block: u64, byte: u8) -> Result<Re
     mirror.write(block, &bytes)
 }
 
-// All writers, each in a thread of its own, and the one that cuts.
+// Runs all writers, each in a thread of its own, and the one that cuts.
 fn all_writers<R: Abort + Runtime>(
     rt: &R,
     alloc: Global,
@@ -129,7 +130,7 @@ fn all_writers<R: Abort + Runtime>(
     all
 }
 
-// The writes of one writer, which reads back the last of them if its blocks are its own.
+// Makes the writes of one writer, and reads back the last of them if its blocks are its own.
 fn write_some(
     rt: &impl Abort,
     alloc: Global,
@@ -151,7 +152,7 @@ fn write_some(
     answers
 }
 
-// Whether a block is read that this byte fills.
+// Returns whether a block is read that is filled with this byte.
 fn holds(mirror: &impl Device, block: u64, byte: u8) -> bool {
     match mirror.read(block, 1) {
         Ok(bytes) => bytes.as_slice() == [byte; BLOCK_BYTES].as_slice(),
@@ -159,7 +160,7 @@ fn holds(mirror: &impl Device, block: u64, byte: u8) -> bool {
     }
 }
 
-// Cuts the link and reconnects it, so often.
+// Cuts the link and reconnects it, `cuts` times.
 fn cut_some<R: Abort + Wait + Clock>(rt: &R, mirror: &impl Device, cuts: u32) {
     for round in 1..=cuts {
         mirror.cut();
@@ -167,7 +168,7 @@ fn cut_some<R: Abort + Wait + Clock>(rt: &R, mirror: &impl Device, cuts: u32) {
     }
 }
 
-// Reconnects under the words of this round, once the secondary's disk has done its items.
+// Reconnects under the words of this round, after the secondary's disk has done its items.
 fn reconnect<R: Abort + Wait + Clock>(rt: &R, mirror: &impl Device, round: u32) {
     let sync = 2 * u64::from(round) + 2;
     for _ in rt.forever() {
@@ -181,7 +182,7 @@ fn reconnect<R: Abort + Wait + Clock>(rt: &R, mirror: &impl Device, round: u32) 
     }
 }
 
-// A thousand writes of one caller, and a cut after every tenth.
+// Makes a thousand writes of one caller, with a cut after every tenth.
 fn cut_every_tenth<R: Abort + Wait + Clock>(
     rt: &R,
     alloc: Global,
@@ -199,7 +200,7 @@ fn cut_every_tenth<R: Abort + Wait + Clock>(
     answers
 }
 
-// Two callers, whose writes are under way at one time.
+// Runs two callers whose writes are under way at the same time.
 fn gate<R: Abort + Runtime>(
     rt: &R,
     alloc: Global,
@@ -234,7 +235,7 @@ fn gate<R: Abort + Runtime>(
     answers
 }
 
-// Looks until the peer's disk has begun the write of block 0.
+// Looks until the peer's disk has begun the write of block 0, or gives up.
 fn wait_until_begun(signals: &Signals) {
     for _ in 0..LOOKS {
         if signals.began.load(Ordering::SeqCst) {
@@ -244,7 +245,7 @@ fn wait_until_begun(signals: &Signals) {
     }
 }
 
-// Whether the peer's disk is written so often, within as many looks.
+// Returns whether the peer's disk does this many writes while the caller looks.
 fn is_copied(signals: &Signals, writes: u64) -> bool {
     for _ in 0..LOOKS {
         if signals.peer_writes.load(Ordering::SeqCst) >= writes {
@@ -255,7 +256,7 @@ fn is_copied(signals: &Signals, writes: u64) -> bool {
     false
 }
 
-// Waits until the peer's disk was written so often.
+// Waits until the peer's disk has done this many writes.
 fn resync(alloc: Global, signals: &Signals, writes: u64) -> Answers {
     let mut answers = nothing(alloc);
     if !is_copied(signals, writes) {
@@ -278,7 +279,7 @@ fn two_connections<R: Abort + Wait + Clock>(
     answers
 }
 
-// The first linked receipt of this connection.
+// Returns the first linked receipt of this connection.
 fn linked(alloc: Global, mirror: &impl Device, connection: u32) -> Result<Receipt, Refusal> {
     for _ in 0..100_000u32 {
         let receipt = write(alloc, mirror, 0, 0xAA)?;
@@ -291,14 +292,14 @@ fn linked(alloc: Global, mirror: &impl Device, connection: u32) -> Result<Receip
     Err(Refusal::NotCompleted)
 }
 
-// One write of block 2.
+// Writes block 2 once.
 fn one_write(rt: &impl Abort, alloc: Global, mirror: &impl Device) -> Answers {
     let mut answers = nothing(alloc);
     note(rt, &mut answers, write(alloc, mirror, 2, 0xAA));
     answers
 }
 
-// Whether a second connection is refused 12, whatever the words, before and after a cut.
+// Checks that a second connection is refused with 12, whatever the words, before and after a cut.
 fn one_connection(alloc: Global, mirror: &impl Device) -> Answers {
     let before = number(mirror.reconnect(90, 91));
     mirror.cut();
@@ -308,7 +309,7 @@ fn one_connection(alloc: Global, mirror: &impl Device) -> Answers {
     answers
 }
 
-// Whether a session refuses what it should.
+// Checks that a session refuses what it should.
 fn refused(rt: &impl Abort, alloc: Global, mirror: &impl Device) -> Answers {
     let mut answers = nothing(alloc);
     let part = Bytes::copy_from_slice(alloc, &[0u8; 100]).expect(rt, "memory");
@@ -318,7 +319,7 @@ fn refused(rt: &impl Abort, alloc: Global, mirror: &impl Device) -> Answers {
     answers
 }
 
-// Writes and reads past the device, a write of part of a block, and a reconnection over an open link: the number of
+// Writes and reads past the device, writes part of a block, and reconnects over an open link. Returns the number of
 // each refusal, and the wanted one.
 fn refused_while_open(alloc: Global, mirror: &impl Device, part: &Bytes) -> [(u8, u8); 5] {
     [
@@ -330,7 +331,7 @@ fn refused_while_open(alloc: Global, mirror: &impl Device, part: &Bytes) -> [(u8
     ]
 }
 
-// The same of words that are used, and of a reconnection that is not refused.
+// Reconnects with words that are used, and once with fresh ones. Returns the same.
 fn refused_after_a_cut(mirror: &impl Device) -> [(u8, u8); 4] {
     [
         (number(mirror.reconnect(90, 90)), 33),
@@ -340,7 +341,7 @@ fn refused_after_a_cut(mirror: &impl Device) -> [(u8, u8); 4] {
     ]
 }
 
-// Complains of each number of a refusal that is another one than the wanted.
+// Complains of each refusal whose number is not the wanted one.
 fn complain(answers: &mut Answers, refusals: &[(u8, u8)]) {
     for (found, wanted) in refusals {
         answers.complaints = answers
@@ -349,7 +350,7 @@ fn complain(answers: &mut Answers, refusals: &[(u8, u8)]) {
     }
 }
 
-// The number of a refusal, 0 if there is none.
+// Returns the number of a refusal, 0 if there is none.
 fn number<X: Drop>(answer: Result<X, Refusal>) -> u8 {
     match answer {
         Ok(_) => 0,

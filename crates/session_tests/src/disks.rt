@@ -1,4 +1,4 @@
-//! Disks of the tests' own, which threads of a test watch.
+//! Disks of the tests' own, which the threads of a test watch.
 ghost use Rattle.std.specs.Prelude.{◌+◌, if◌then◌else◌, is_some};
 
 use blocks::{BLOCK_BYTES, Block, MemStore, Range, Store, StoreFault};
@@ -11,12 +11,12 @@ use std::thread;
 /// How often a disk that waits looks again before it gives up.
 const TURNS: u32 = 100_000;
 
-/// What threads of a test know of its disks.
+/// What the threads of a test know of its disks.
 #[derive(Drop)]
 pub(crate) struct Signals {
     /// Whether the peer's disk has begun a write of block 0.
     pub(crate) began: AtomicBool,
-    /// Whether the write of block 0 may end that the peer's disk has begun.
+    /// Whether the peer's disk may end the write of block 0 that it has begun.
     pub(crate) may_end: AtomicBool,
     /// Whether the peer's disk gave up waiting.
     pub(crate) gave_up: AtomicBool,
@@ -25,7 +25,7 @@ pub(crate) struct Signals {
 }
 
 impl Signals {
-    /// Nothing has happened.
+    /// Makes signals of which none is set yet.
     pub(crate) fn new() -> Signals {
         Signals {
             began: AtomicBool::new(false),
@@ -35,25 +35,25 @@ impl Signals {
         }
     }
 
-    /// The same, for threads to share.
+    /// Makes the same for threads to share.
     pub(crate) fn shared(rt: &impl Abort, alloc: Global) -> Arc<Signals, Global> {
         Arc::new(alloc, Signals::new()).expect(rt, "memory")
     }
 }
 
-/// A disk in memory that fails one write and one read, where it is told to.
+/// A disk in memory that fails one write and one read, if it is made to.
 #[derive(Drop)]
 pub(crate) struct FailingDisk {
     memory: MemStore,
-    /// How many writes pass before the one that fails, and whether its blocks are new all the same; none if none fails
-    /// any more.
+    /// How many writes pass before the one that fails, and whether that one writes its blocks all the same; `None` if
+    /// no other write fails.
     failing_write: Option<(u64, bool)>,
-    /// How many reads pass before the one that fails; none if none fails any more.
+    /// How many reads pass before the one that fails; `None` if no other read fails.
     failing_read: Option<u64>,
 }
 
 impl FailingDisk {
-    /// A disk that fails these.
+    /// Makes a disk that fails these.
     pub(crate) fn new(
         memory: MemStore,
         failing_write: Option<(u64, bool)>,
@@ -104,7 +104,7 @@ impl Store for FailingDisk {
     }
 }
 
-/// A primary's disk in memory that tells when it has written block 1.
+/// A primary's disk in memory that signals when it has written block 1, if it `opens`.
 #[derive(Drop)]
 pub(crate) struct TellingDisk {
     memory: MemStore,
@@ -114,7 +114,7 @@ pub(crate) struct TellingDisk {
 }
 
 impl TellingDisk {
-    /// A disk over this memory.
+    /// Makes a disk over this memory.
     pub(crate) fn new(
         rt: &impl Abort,
         memory: MemStore,
@@ -151,18 +151,18 @@ impl Store for TellingDisk {
     }
 }
 
-/// A secondary's disk in memory whose write of block 0 ends only once it may. Where it waits in vain it gives up, once,
+/// A secondary's disk in memory whose write of block 0 ends only when it may. If it waits too long, it gives up, once,
 /// with a fault.
 #[derive(Drop)]
 pub(crate) struct GatedDisk {
     memory: MemStore,
     signals: Arc<Signals, Global>,
-    /// Set until it gave up, if it waits at all.
+    /// Set until it gives up, if it waits at all.
     waits: Option<()>,
 }
 
 impl GatedDisk {
-    /// A disk over this memory.
+    /// Makes a disk over this memory.
     pub(crate) fn new(
         rt: &impl Abort,
         memory: MemStore,
@@ -176,7 +176,7 @@ impl GatedDisk {
         }
     }
 
-    // Whether the write of block 0 may end in time.
+    // Returns whether the write of block 0 may end in time.
     fn may_end(&self) -> bool {
         self.signals.began.store(true, Ordering::SeqCst);
         for _ in 0..TURNS {
@@ -214,7 +214,8 @@ impl Store for GatedDisk {
     }
 }
 
-/// A disk in memory of eight blocks, block `n` filled with `n + 1` if it is numbered, else all zeros.
+/// Makes a disk in memory of eight blocks: if it is numbered, block `n` is filled with `n + 1`, otherwise all are
+/// zeros.
 pub(crate) fn memory(rt: &impl Abort, alloc: Global, is_numbered: bool) -> MemStore {
     let mut bytes = Vec::with_capacity(alloc, 8 * BLOCK_BYTES).expect(rt, "memory");
     for block in 0..8u8 {

@@ -1,4 +1,4 @@
-//! Disks that fail while a session runs.
+//! Tests of sessions in which a disk fails.
 use crate::callers::Work;
 use crate::disks::{FailingDisk, GatedDisk, Signals, memory};
 use crate::outcome::Outcome;
@@ -17,8 +17,8 @@ enum Fault {
     PeerWrite(u64),
 }
 
-// A session of four writers over disks one of which fails once. A write that fails is on the disk all the same, if its
-// number is odd.
+// Runs a session of four writers over two disks, one of which fails once. A write that fails is on the disk all the
+// same, if its number is odd.
 fn over_failing<R: Abort + Runtime>(
     rt: R,
     alloc: Global,
@@ -38,7 +38,8 @@ fn over_failing<R: Abort + Runtime>(
     run(rt, alloc, case, disks, &signals).expect(&rt, "a session")
 }
 
-// A session without writes that copies all eight blocks to its peer, over a local disk that fails one read of them.
+// Runs a session without writes that copies all eight blocks to its peer, over a local disk that fails one read of
+// them.
 fn over_failing_reads<R: Abort + Runtime>(rt: R, alloc: Global, passes: u64) -> Outcome {
     let signals = Signals::shared(&rt, alloc);
     let disks = (

@@ -1,4 +1,4 @@
-//! Both disks work at one time, and a resync goes on by itself.
+//! Tests that both disks work at the same time, and that a resync goes on by itself.
 use crate::callers::Work;
 use crate::disks::{GatedDisk, Signals, TellingDisk, memory};
 use crate::outcome::Outcome;
@@ -8,7 +8,7 @@ use std::alloc::Global;
 use std::process::Abort;
 use volume::Runtime;
 
-// A session over disks that tell of what they do. The peer's disk waits where the callers' work says so.
+// Runs a session over disks that signal what they do. The peer's disk waits if the work is a `Gate`.
 fn over_watched<R: Abort + Runtime>(rt: R, alloc: Global, case: Case) -> Outcome {
     let signals = Signals::shared(&rt, alloc);
     let (waits, opens) = match case.work {

@@ -1,4 +1,4 @@
-//! Tests of sessions by threads: what their callers get, and what their two disks come to, whatever the schedule.
+//! Tests of sessions by threads: what their callers get, and what their two disks hold, whatever the schedule.
 #![tactic(auto)]
 
 #[cfg(test)]

@@ -7,19 +7,19 @@ use settle::{Settled, settle};
 use std::fmt::Debug;
 use std::process::Abort;
 
-/// What the callers of a session have at its end.
+/// What the callers of a session have when it ends.
 #[derive(Drop)]
 pub(crate) struct Answers {
     /// The receipts of all writes that were completed.
     pub(crate) receipts: Vec<Receipt>,
-    /// How many writes were refused 8.
+    /// How many writes were refused with 8.
     pub(crate) local_faults: u32,
-    /// How many callers were refused otherwise, or read back other bytes than they wrote last.
+    /// How many callers were refused otherwise, or read back other bytes than they last wrote.
     pub(crate) complaints: u32,
 }
 
 impl Answers {
-    /// How many receipts say that the peer answered.
+    /// Returns how many receipts say that the peer answered.
     pub(crate) fn linked(&self) -> u32 {
         let mut linked = 0u32;
         for receipt in &self.receipts {
@@ -29,7 +29,7 @@ impl Answers {
     }
 }
 
-/// What a session came to.
+/// The outcome of a session.
 #[derive(Clone, Copy, Debug, PartialEq, Eq)]
 pub(crate) struct Outcome {
     pub(crate) receipts: usize,
@@ -44,7 +44,7 @@ pub(crate) struct Outcome {
 }
 
 impl Outcome {
-    /// The callers have this many receipts, and no complaint.
+    /// Checks that the callers have this many receipts, and no complaint.
     pub(crate) fn is_without_complaints(
         &self,
         rt: &impl Abort,
@@ -54,7 +54,7 @@ impl Outcome {
         assert_eq!(rt; (self.receipts, self.complaints), (receipts, 0), "{case:?}");
     }
 
-    /// The settlement confirmed this many receipts, and found no difference without a mark.
+    /// Checks that the settlement confirmed this many receipts, and found no difference without a mark.
     pub(crate) fn is_settled(&self, rt: &impl Abort, confirmed: u64, case: &impl Debug) {
         assert_eq!(rt;
             (self.settled.confirmed, self.settled.unmarked),
@@ -64,7 +64,7 @@ impl Outcome {
     }
 }
 
-/// Settles two nodes at rest with the receipts that callers have, and compares their disks.
+/// Settles two nodes at rest with the callers' receipts, and compares their disks.
 pub(crate) fn bring_together(
     rt: &impl Abort,
     nodes: (
@@ -97,7 +97,7 @@ fn compare(
     })
 }
 
-// Whether both disks have the same eight blocks, and the first byte of each of the peer's.
+// Returns whether both disks have the same eight blocks, and the first byte of each of the peer's.
 fn read_disks(
     primary: &mut Primary<impl FrameOut + Drop, impl FrameIn + Drop, impl Store + Drop>,
     secondary: &mut Secondary<impl FrameOut + Drop, impl FrameIn + Drop, impl Store + Drop>,

@@ -1,4 +1,4 @@
-//! Streams of bytes between two threads, which end or fail where a test wants them to.
+//! Streams of bytes between two threads, which end or fail where a test says.
 ghost use Rattle.std.specs.Prelude.{◌≤◌, vec_len};
 
 use crossbeam_channel::{Receiver, Sender, bounded};
@@ -19,7 +19,8 @@ pub(crate) struct PipeWriter<R: Wait + Drop> {
     left: u64,
 }
 
-/// The reading end of a pipe, which fails after a given number of bytes. The input ends once the writing end is dropped.
+/// The reading end of a pipe, which fails after a given number of bytes. The input ends when the writing end is
+/// dropped.
 #[derive(Drop)]
 pub(crate) struct PipeReader<R: Wait + Drop> {
     rt: R,
@@ -31,7 +32,7 @@ pub(crate) struct PipeReader<R: Wait + Drop> {
     ghost used_is_inside: { used ≤ vec_len last },
 }
 
-/// A pipe whose writer fails after `written` bytes, and its reader after `read`.
+/// Makes a pipe whose writer fails after `written` bytes, and its reader after `read`.
 pub(crate) fn pipe<R: Wait + Copy + Drop>(
     rt: R,
     alloc: Global,
@@ -56,7 +57,7 @@ pub(crate) fn pipe<R: Wait + Copy + Drop>(
     ))
 }
 
-// At most `left` bytes.
+// Returns `bytes`, but at most `left`.
 fn within(bytes: usize, left: u64) -> usize
     ensures { (result ≤ bytes) × (result ≤ left) }
 {

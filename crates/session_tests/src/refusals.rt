@@ -1,4 +1,4 @@
-//! Refusals of a session, at its start and while it runs.
+//! Tests of the refusals of a session, at its start and while it runs.
 use crate::callers::Work;
 use crate::disks::{GatedDisk, Signals, TellingDisk, memory};
 use crate::outcome::Outcome;
@@ -18,8 +18,8 @@ const fn tuple(current: u64, bitmap: u64, first_historical: u64, second_historic
     }
 }
 
-// What a session answers whose callers only ask for what it refuses, and whether its disks are gone then. The peer's
-// disk may be a block short.
+// Runs a session whose callers only ask for what it refuses. Returns its outcome or its refusal, and whether its disks
+// are gone then. The peer's disk may be a block short.
 fn answer<R: Abort + Runtime>(
     rt: R,
     alloc: Global,

@@ -1,4 +1,4 @@
-//! Running a session over two disks, from its start to its settlement.
+//! Runs a session over two disks, from its start to its settlement.
 ghost use Rattle.std.specs.Prelude.{◌<◌, IfOk};
 ghost use Rattle.ruled_link.specs.Names as names;
 ghost use Rattle.volume.specs.Links.{AreEndsOf};
@@ -14,7 +14,7 @@ use std::process::Abort;
 use std::sync::Arc;
 use volume::{Linked, Parts, Runtime, Session};
 
-/// The identifiers of disks that are alike.
+/// The identifiers of disks that are equal.
 pub(crate) const ALIKE: Tuple = Tuple {
     current: 1,
     bitmap: 0,
@@ -44,7 +44,7 @@ pub(crate) struct Case {
 }
 
 impl Case {
-    /// A session of the default settings, over disks that are alike.
+    /// Returns a session of the default settings, over disks that are equal.
     pub(crate) fn of(protocol: Protocol, work: Work) -> Case {
         Case {
             protocol,
@@ -56,12 +56,12 @@ impl Case {
         }
     }
 
-    /// The same over the smallest link.
+    /// Returns the same over the smallest link.
     pub(crate) fn over_one_frame(self) -> Case {
         Case { link: 1, ..self }
     }
 
-    /// What the session starts from. No block is marked.
+    /// Returns what the session starts from. No block is marked.
     pub(crate) fn parts(&self, alloc: Global) -> Result<Parts, Refusal>
         ensures { IfOk result (λ parts. 0 < parts.settings.link) }
     {
@@ -100,7 +100,7 @@ pub(crate) fn run<
     run_named::<Brand, _, _, _>(rt, alloc, case.work, there, back, disks, parts, signals)
 }
 
-// Everything that a session is used for stands in one function over its link's name, which the caller picks.
+// Runs it in one function over its link's name, which the caller picks.
 fn run_named<
     L: Linked + Send + Sync + 'static,
     R: Abort + Runtime,

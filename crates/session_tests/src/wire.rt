@@ -1,4 +1,4 @@
-//! Sessions over streams.
+//! Tests of sessions over streams.
 use crate::callers::{Work, carry_out};
 use crate::disks::{Signals, memory};
 use crate::outcome::{Outcome, bring_together};
@@ -12,7 +12,7 @@ use std::thread;
 use volume::Runtime;
 use wire_session::{Sink, Source, Way, WireSession};
 
-/// No bytes at which a stream fails.
+/// The number of bytes after which a stream that never fails would fail.
 const NEVER: u64 = u64::MAX;
 
 /// After how many bytes each end of the way to the secondary fails.
@@ -30,7 +30,7 @@ enum End {
 }
 
 impl End {
-    // This end fails after this number of bytes.
+    // Has this end fail after this number of bytes.
     fn after(self, bytes: u64) -> Failing {
         match self {
             End::Writer => Failing {
@@ -50,7 +50,7 @@ const WHOLE: Failing = Failing {
     reader: NEVER,
 };
 
-// A session over pipes.
+// Runs a session over pipes.
 fn over_pipes<R: Abort + Runtime>(
     rt: R,
     alloc: Global,
@@ -62,13 +62,13 @@ fn over_pipes<R: Abort + Runtime>(
     over_ways(rt, alloc, case, (there, whole_way(rt, alloc)))
 }
 
-// A way that does not fail.
+// Makes a way that does not fail.
 fn whole_way<R: Abort + Runtime>(rt: R, alloc: Global) -> Way<PipeWriter<R>, PipeReader<R>> {
     let (writer, reader) = pipe(rt, alloc, NEVER, NEVER).expect(&rt, "a pipe");
     Way { writer, reader }
 }
 
-// A session over two ways, whose start may be refused.
+// Runs a session over two ways. Its start may be refused.
 fn over_ways<R: Abort + Runtime, W: Sink, D: Source, V: Sink, E: Source>(
     rt: R,
     alloc: Global,
@@ -108,8 +108,9 @@ fn a_session_over_streams_has_one_connection(rt: HostRuntime) {
     assert_eq!(rt; (outcome.complaints, outcome.settled.unmarked), (0, 0));
 }
 
-// What a session comes to in which a stream fails: its hello ends with 12, or its one write has its receipt and no
-// difference is without a mark. There are thousands of them, so each is over the smallest link, which takes little memory.
+// Returns whether a session in which a stream fails is sound: its hello ends with 12, or its one write has its receipt
+// and no difference is without a mark. There are thousands of them, so each is over the smallest link, which takes
+// little memory.
 fn is_sound<R: Abort + Runtime>(rt: R, alloc: Global, failing: Failing) -> bool {
     let case = Case::of(Protocol::C, Work::OneWrite).over_one_frame();
     match over_pipes(rt, alloc, case, failing) {
@@ -126,7 +127,7 @@ fn is_sound<R: Abort + Runtime>(rt: R, alloc: Global, failing: Failing) -> bool 
 // How many sessions run at a time, each in a thread that does one after another.
 const LANES: usize = 16;
 
-// Counts the numbers of bytes after which a stream may fail and leave a session sound.
+// Counts the numbers of bytes after which a stream may fail with a session that is sound.
 fn count_sound<R: Abort + Runtime>(rt: R, alloc: Global, bytes: Range<u64>, end: End) -> u32 {
     let each = thread::map_indices(
         &rt,
@@ -150,7 +151,7 @@ fn count_sound<R: Abort + Runtime>(rt: R, alloc: Global, bytes: Range<u64>, end:
     all
 }
 
-// Each of these sessions is sound.
+// Checks that each of these sessions is sound.
 fn loses_nothing<R: Abort + Runtime>(
     rt: R,
     alloc: Global,
@@ -162,7 +163,8 @@ fn loses_nothing<R: Abort + Runtime>(
     assert_eq!(&rt; sound, wanted);
 }
 
-// The hello, the DATA frame of one block and a barrier are 4,212 bytes. A stream fails after each number of them, by quarters.
+// The hello, the DATA frame of one block and a barrier are 4,212 bytes. A stream fails after each number of them, in
+// quarters.
 
 #[test]
 fn a_reader_that_fails_in_the_first_quarter_loses_nothing(rt: HostRuntime) {
@@ -204,7 +206,7 @@ fn a_writer_that_fails_in_the_last_quarter_loses_nothing(rt: HostRuntime) {
     loses_nothing(rt, rt.alloc(), 3162..4213, End::Writer, 1051);
 }
 
-// The refusal of a start during whose hello these bytes come to the secondary.
+// Returns the refusal of a start, if these bytes come to the secondary during its hello.
 fn foreign<R: Abort + Runtime>(rt: R, alloc: Global, bytes: &'static [u8]) -> u8 {
     let (writer, _) = pipe(rt, alloc, NEVER, NEVER).expect(&rt, "a pipe");
     let there = Way {

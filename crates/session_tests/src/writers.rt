@@ -1,4 +1,4 @@
-//! Four writers, over whole and over cut links.
+//! Tests of four writers, over whole links and over links that are cut.
 use crate::callers::Work;
 use crate::disks::{Signals, memory};
 use crate::outcome::Outcome;
@@ -8,7 +8,7 @@ use std::alloc::Global;
 use std::process::Abort;
 use volume::Runtime;
 
-// A session over plain disks.
+// Runs a session over plain disks.
 fn over_memory<R: Abort + Runtime>(rt: R, alloc: Global, case: Case) -> Outcome {
     let signals = Signals::shared(&rt, alloc);
     let disks = (memory(&rt, alloc, false), memory(&rt, alloc, false));

@@ -1,4 +1,5 @@
-//! The pumps of a session over streams, each in a thread of its own, and the thread that hears of their ends.
+//! The pumps of a session over streams, each in a thread of its own, and the thread that receives the reports of their
+//! ends.
 ghost use Rattle.std.specs.Prelude.{◌<◌, IfOk};
 ghost use Rattle.endpoint.specs.Calls.{IsNewIn, IsNewOut};
 ghost use Rattle.ruled_link.specs.Inward.{taking};
@@ -30,12 +31,12 @@ const PUMPS: usize = 4;
 pub struct PumpEnds<R: Wait + Drop> {
     // The pieces that the node sends leave here.
     pub(crate) leaving: PieceIn<R>,
-    // The pieces that it takes come in here.
+    // The pieces that the node takes come in here.
     pub(crate) coming: PieceOut<R>,
 }
 
-/// The two rows of a half: the node's ends, and the pumps'. Each row has room for `link` of the longest frames.
-/// `NoMemory` (7) if there is no room for them.
+/// Creates the two rows of a half, and returns the node's ends and the pumps'. Each row has room for `link` of the
+/// longest frames. `NoMemory` (7) if there is no memory for them.
 pub fn half_rows<R: Wait + Copy + Drop>(
     rt: R,
     alloc: Global,
@@ -62,12 +63,12 @@ pub(crate) enum Side {
     Peer,
 }
 
-/// From which half to which one a way goes.
+/// The half that a way starts at, and the half that it leads to.
 pub(crate) const LOCAL_TO_PEER: (Side, Side) = (Side::Local, Side::Peer);
 
 pub(crate) const PEER_TO_LOCAL: (Side, Side) = (Side::Peer, Side::Local);
 
-/// Starts pumps, and gives each the means to tell of its end.
+/// Starts pumps, and gives each a channel on which it reports its end.
 #[derive(Drop)]
 pub(crate) struct Carrier {
     alloc: Global,
@@ -75,8 +76,8 @@ pub(crate) struct Carrier {
 }
 
 impl Carrier {
-    /// A carrier, and a thread that closes both ends of the link whenever a pump has ended, until none is left.
-    /// `NoMemory` (7) if there is no memory, and if the thread cannot be started.
+    /// Creates a carrier, and starts a thread that closes both ends of the link each time a pump ends, until no pump
+    /// remains. `NoMemory` (7) if there is no memory, and if the thread cannot be started.
     pub(crate) fn start<
         R: Threads + Wait + Clock + Drop + Send + Sync + 'static,
         A: PrimaryHalf + Drop + Send + Sync + 'static,
@@ -96,7 +97,7 @@ impl Carrier {
         Ok(Carrier { alloc, told })
     }
 
-    /// Starts both pumps of a way, at the rows of the half that sends and of the one that takes.
+    /// Starts both pumps of a way: one at the row of the half that sends, and one at the row of the half that takes.
     pub(crate) fn start_way<
         R: Threads + Wait + Clock + Drop + Send + Sync + 'static,
         A: PrimaryHalf + Drop + Send + Sync + 'static,
@@ -173,14 +174,14 @@ impl Carrier {
 }
 
 impl<R: Wait + Clock + Drop, A: PrimaryHalf, B: SecondaryHalf> Shared<R, A, B> {
-    // Closes both ends whenever a pump has ended, until none is left.
+    // Closes both ends each time a pump ends, until no pump remains.
     fn listen(&self, notices: &Receiver<PumpEnd, Global>) {
         for _ in notices.iter(&self.rt) {
             self.cut();
         }
     }
 
-    // Runs the pump that writes what a node sends, drops its writer, and tells of its end.
+    // Runs the pump that writes what a node sends, drops its writer, and reports its end.
     fn carry_out<W: Write + Drop>(
         &self,
         side: Side,
@@ -206,7 +207,7 @@ impl<R: Wait + Clock + Drop, A: PrimaryHalf, B: SecondaryHalf> Shared<R, A, B> {
         self.tell(&told, end);
     }
 
-    // Runs the pump that reads what a node takes, drops its reader, and tells of its end.
+    // Runs the pump that reads what a node takes, drops its reader, and reports its end.
     fn carry_in<D: Read + Drop>(
         &self,
         side: Side,
@@ -232,7 +233,7 @@ impl<R: Wait + Clock + Drop, A: PrimaryHalf, B: SecondaryHalf> Shared<R, A, B> {
         self.tell(&told, end);
     }
 
-    // Tells that a pump has ended. If nobody hears it, both ends close here.
+    // Reports that a pump has ended. If no thread receives the report, closes both ends here.
     fn tell(&self, told: &Sender<PumpEnd, Global>, end: PumpEnd) {
         if told.send(&self.rt, end).is_err() {
             self.cut();

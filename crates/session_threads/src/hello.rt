@@ -1,11 +1,11 @@
-//! The hello of a session.
+//! The hello exchange of a session.
 use crate::shared::Shared;
 use blocks::{Done, Refusal};
 use halves::{PrimaryHalf, SecondaryHalf};
 use std::sync::Wait;
 use std::time::Clock;
 
-/// The steps that a frame each way takes, in order.
+/// The steps that carry one frame in each direction, in order.
 #[derive(Clone, Copy, Debug, PartialEq, Eq)]
 enum Step {
     Send,
@@ -16,7 +16,7 @@ enum Step {
 
 const STEPS: [Step; 4] = [Step::Send, Step::Receive, Step::AckOut, Step::AckIn];
 
-/// Frames of the hello each way.
+/// Frames of the hello in each direction.
 const FRAMES: u32 = 3;
 
 impl<R: Wait, A: PrimaryHalf, B: SecondaryHalf> Shared<R, A, B> {
@@ -30,7 +30,7 @@ impl<R: Wait, A: PrimaryHalf, B: SecondaryHalf> Shared<R, A, B> {
         Ok(())
     }
 
-    // A step of the hello.
+    // Does a step of the hello.
     fn step(&self, step: Step) -> Result<Done, Refusal> {
         match step {
             Step::Send => self.local.send(),
@@ -42,8 +42,8 @@ impl<R: Wait, A: PrimaryHalf, B: SecondaryHalf> Shared<R, A, B> {
 }
 
 impl<R: Wait + Clock, A: PrimaryHalf, B: SecondaryHalf> Shared<R, A, B> {
-    /// Exchanges the hellos of both ends while pumps carry their frames: waits for each. Stops at the first refusal
-    /// other than `LinkFull` (11) and `NothingThere` (13).
+    /// Exchanges the hellos of both ends while pumps carry their frames: waits until each step can be done. Stops at
+    /// the first refusal other than `LinkFull` (11) and `NothingThere` (13).
     pub(crate) fn greet_over_ways(&self) -> Result<(), Refusal> {
         for _ in 0..FRAMES {
             for step in STEPS {
@@ -53,7 +53,7 @@ impl<R: Wait + Clock, A: PrimaryHalf, B: SecondaryHalf> Shared<R, A, B> {
         Ok(())
     }
 
-    // A step of the hello, once it can be done.
+    // Does a step of the hello, once it can be done.
     fn await_step(&self, step: Step) -> Result<(), Refusal> {
         let (bell, sent) = match step {
             Step::Send => (self.local.work(), Some(self.local.sent())),

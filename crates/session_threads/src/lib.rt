@@ -1,5 +1,5 @@
-//! The threads of a session, whatever its halves are: what callers share, the loop of each thread, the hello, and the
-//! pumps of a session over streams.
+//! The threads of a session over any two halves: what callers share, the loop of each thread, the hello, and the pumps
+//! of a session over streams.
 #![tactic(auto)]
 
 mod carriers;

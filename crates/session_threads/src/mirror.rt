@@ -9,7 +9,7 @@ use std::sync::{Arc, Wait};
 use std::time::Clock;
 use turns::LocalRole;
 
-/// A running session over these two halves, as any number of threads may share it.
+/// A running session over two halves. Any number of threads may share it.
 #[derive(Drop)]
 pub struct Mirror<R: Wait, A: PrimaryHalf, B: SecondaryHalf> {
     pub(crate) alloc: Global,
@@ -80,7 +80,8 @@ impl<R: Wait + Clock, A: PrimaryHalf, B: SecondaryHalf> Device for Mirror<R, A, 
 }
 
 impl<R: Wait + Clock, A: PrimaryHalf, B: SecondaryHalf> Mirror<R, A, B> {
-    // Has the write accepted, and does a turn at once.
+    // Submits a write. If it conflicts or a log is full, does a turn, or waits if the turn did nothing, and submits it
+    // again.
     fn submit(&self, first: u64, bytes: &Bytes) -> Result<u64, Refusal> {
         let shared = &self.shared;
         let mut looks = 0u32;
@@ -99,7 +100,8 @@ impl<R: Wait + Clock, A: PrimaryHalf, B: SecondaryHalf> Mirror<R, A, B> {
         unreachable!()
     }
 
-    // Waits until a write is completed or failed. Whoever was woken does a turn first: it may have been woken for that.
+    // Waits until a write is completed or failed. A thread that was woken does a turn first: it may have been woken for
+    // that.
     fn completed(&self, number: u64) -> Result<Receipt, Refusal> {
         let shared = &self.shared;
         let taken = shared.local.take_completed(number);

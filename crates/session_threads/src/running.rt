@@ -23,10 +23,11 @@ impl<
     A: PrimaryHalf + Drop + Send + Sync + 'static,
     B: SecondaryHalf + Drop + Send + Sync + 'static,
 > Running<R, A, B> {
-    /// Starts a session of two halves over one link that have said nothing yet: does the hello, and starts the threads.
+    /// Starts a session of two halves over one link that have sent nothing yet: exchanges the hellos, and starts the
+    /// threads.
     ///
-    /// The refusals are those of the hello (30 to 33), and `NoMemory` (7) if there is no memory, or if a thread cannot be
-    /// started. Then nothing runs, and both halves are dropped.
+    /// The refusals are those of the hello (30 to 33), and `NoMemory` (7) if there is no memory, or if a thread cannot
+    /// be started. Then nothing runs, and both halves are dropped.
     pub fn start(rt: R, alloc: Global, local: A, peer: B) -> Result<Running<R, A, B>, Refusal> {
         let mut running = Running::idle(rt, alloc, local, peer, Path::Link)?;
         match running.begin() {
@@ -38,12 +39,12 @@ impl<
         }
     }
 
-    /// Starts a session of two halves whose rows these pumps' ends carry over two ways: starts a pump at each end of a way,
-    /// does the hello, and starts the threads. A pump that ends drops its writer or reader, and then both ends of the
-    /// link close.
+    /// Starts a session of two halves whose rows are carried over two ways by pumps at these ends: starts a pump at
+    /// each end of a way, exchanges the hellos, and starts the threads. A pump that ends drops its writer or reader,
+    /// and then both ends of the link close.
     ///
     /// The refusals are those of `start`, `NotConnected` (12) if a way ends during the hello, and 20 to 25, 34 or 35 if
-    /// foreign bytes come in it. Then nothing runs, and all that was handed over is dropped.
+    /// foreign bytes arrive over it. Then nothing runs, and all that was handed over is dropped.
     pub fn start_over<W: Sink, D: Source, V: Sink, E: Source>(
         rt: R,
         alloc: Global,
@@ -62,7 +63,7 @@ impl<
         }
     }
 
-    // Both halves, without a thread.
+    // Creates a session of both halves that has no thread yet.
     fn idle(
         rt: R,
         alloc: Global,
@@ -77,13 +78,13 @@ impl<
         })
     }
 
-    // Does the hello, and starts the threads.
+    // Exchanges the hellos, and starts the threads.
     fn begin(&mut self) -> Result<(), Refusal> {
         self.mirror.shared.greet()?;
         self.workers.start(&self.mirror.shared)
     }
 
-    // Starts the pumps, does the hello, and starts the threads of both nodes.
+    // Starts the pumps, exchanges the hellos, and starts the threads of both nodes.
     fn begin_over<W: Sink, D: Source, V: Sink, E: Source>(
         &mut self,
         rows: (PumpEnds<R>, PumpEnds<R>),
@@ -109,13 +110,13 @@ impl<R: Threads + Wait + Clock + Drop, A: PrimaryHalf + Drop, B: SecondaryHalf +
     A,
     B,
 > {
-    /// What any number of threads may share.
+    /// Returns the mirror, which any number of threads may share.
     pub fn mirror(&self) -> &Mirror<R, A, B> {
         &self.mirror
     }
 
-    /// Ends the session: closes both ends, lets the disks end all that is unfinished, stops the threads, and gives both
-    /// halves back. `NotDrained` (36) if they cannot be had back, which needs a thread that still shares them.
+    /// Ends the session: closes both ends, lets the disks finish all pending work, stops the threads, and returns both
+    /// halves. `NotDrained` (36) if a thread still shares them.
     pub fn finish(self) -> Result<(A, B), Refusal> {
         let mut running = self;
         running.mirror.shared.cut();
@@ -128,7 +129,7 @@ impl<R: Threads + Wait + Clock + Drop, A: PrimaryHalf + Drop, B: SecondaryHalf +
         Ok((local, peer))
     }
 
-    // Stops the threads that run, and waits for their ends.
+    // Stops the threads that run, and waits until they end.
     fn stop(&mut self) {
         self.workers.stop(&self.mirror.shared);
     }

@@ -5,7 +5,7 @@ use std::sync::{Mutex, Wait};
 use std::time::Clock;
 use turns::{LocalRole, PeerRole, Turn};
 
-/// How the frames of a session go from one half to the other.
+/// How the frames of a session get from one half to the other.
 #[derive(Clone, Copy, Debug, PartialEq, Eq)]
 pub(crate) enum Path {
     /// Through the rows of one link, over any number of connections.
@@ -14,8 +14,8 @@ pub(crate) enum Path {
     Wire,
 }
 
-/// Both halves. No thread holds the locks of both nodes. Whoever opens or closes a connection takes the door
-/// before any node's lock.
+/// Both halves. No thread holds the locks of both nodes at once. A thread that opens or closes a connection locks the
+/// door before any node; only a node that closes by itself in a turn does so without the door.
 #[derive(Drop)]
 pub(crate) struct Shared<R: Wait, A: PrimaryHalf, B: SecondaryHalf> {
     pub(crate) rt: R,
@@ -27,7 +27,7 @@ pub(crate) struct Shared<R: Wait, A: PrimaryHalf, B: SecondaryHalf> {
 }
 
 impl<R: Wait, A: PrimaryHalf, B: SecondaryHalf> Shared<R, A, B> {
-    /// Two halves whose threads do not run yet.
+    /// Creates the shared state of two halves whose threads do not run yet.
     pub(crate) fn new(rt: R, local: A, peer: B, path: Path) -> Shared<R, A, B> {
         Shared {
             rt,
@@ -39,7 +39,7 @@ impl<R: Wait, A: PrimaryHalf, B: SecondaryHalf> Shared<R, A, B> {
         }
     }
 
-    /// Whether the threads are to stop.
+    /// Returns whether the threads are to stop.
     pub(crate) fn is_over(&self) -> bool {
         self.stop.load(Ordering::SeqCst)
     }
@@ -71,7 +71,7 @@ impl<R: Wait, A: PrimaryHalf, B: SecondaryHalf> Shared<R, A, B> {
         }
     }
 
-    // Rings for whoever takes what the primary pushed.
+    // Wakes a thread that takes what the primary pushed.
     fn ring_for_push(&self) {
         match self.path {
             Path::Link => self.peer.work().ring_one(&self.rt),
@@ -79,7 +79,8 @@ impl<R: Wait, A: PrimaryHalf, B: SecondaryHalf> Shared<R, A, B> {
         }
     }
 
-    /// Does a turn at the primary, and tells the secondary's half of it.
+    /// Does a turn at the primary. Wakes a thread for the frames that it pushed, and closes the secondary's end if the
+    /// connection closed.
     pub(crate) fn turn_local(&self, role: LocalRole) -> Turn {
         let turn = self.local.turn(role);
         if turn.pushed {
@@ -92,7 +93,8 @@ impl<R: Wait, A: PrimaryHalf, B: SecondaryHalf> Shared<R, A, B> {
         turn
     }
 
-    /// Does a turn at the secondary, and tells the primary's half of it.
+    /// Does a turn at the secondary. Wakes a thread for the frames that it pushed, and closes the primary's end if the
+    /// connection closed.
     pub(crate) fn turn_peer(&self, role: PeerRole) -> Turn {
         let turn = self.peer.turn(role);
         if turn.pushed {
@@ -113,7 +115,7 @@ impl<R: Wait, A: PrimaryHalf, B: SecondaryHalf> Shared<R, A, B> {
 }
 
 impl<R: Wait + Clock, A: PrimaryHalf, B: SecondaryHalf> Shared<R, A, B> {
-    /// The loop of a thread of the primary's half.
+    /// Runs the loop of a thread of the primary's half.
     pub(crate) fn work_local(&self, role: LocalRole) {
         self.local.work().watch();
         let mut looks = 0u32;
@@ -131,7 +133,7 @@ impl<R: Wait + Clock, A: PrimaryHalf, B: SecondaryHalf> Shared<R, A, B> {
         }
     }
 
-    /// The loop of a thread of the secondary's half.
+    /// Runs the loop of a thread of the secondary's half.
     pub(crate) fn work_peer(&self, role: PeerRole) {
         self.peer.work().watch();
         let mut looks = 0u32;
@@ -149,7 +151,7 @@ impl<R: Wait + Clock, A: PrimaryHalf, B: SecondaryHalf> Shared<R, A, B> {
         }
     }
 
-    /// Lets both disks end all that is unfinished, at closed ends.
+    /// Lets both disks finish all pending work, while both ends are closed.
     pub(crate) fn drain(&self) {
         for _ in self.rt.forever() {
             if !self.local.has_unfinished() {

@@ -1,17 +1,18 @@
-//! A way for the frames of one direction.
+//! Byte streams for the frames of one direction.
 use std::io::{Read, Write};
 
-/// What a pump may write into. Every writer that may go from thread to thread is one.
+/// A writer for a pump: every writer that may go from thread to thread is one.
 pub trait Sink: Write + Drop + Send + 'static {}
 
 impl<W: Write + Drop + Send + 'static> Sink for W {}
 
-/// What a pump may read from. Every reader that may go from thread to thread is one.
+/// A reader for a pump: every reader that may go from thread to thread is one.
 pub trait Source: Read + Drop + Send + 'static {}
 
 impl<D: Read + Drop + Send + 'static> Source for D {}
 
-/// One direction of a session's link: what the writer is given comes out of the reader.
+/// One direction of a session's link: what is written to the writer comes out of the reader. The writer keeps nothing back,
+/// as a `BufWriter` would. Dropping it ends the reader's input, whatever else is open: the end of a session waits for that.
 #[derive(Drop)]
 pub struct Way<W: Write + Drop, D: Read + Drop> {
     pub writer: W,

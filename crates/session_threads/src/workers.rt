@@ -19,14 +19,14 @@ const LOCAL_ROLES: [LocalRole; 4] = [
 
 const PEER_ROLES: [PeerRole; 3] = [PeerRole::Receiver, PeerRole::Sender, PeerRole::Disk];
 
-/// The threads of a session that run. A thread's handle cannot be shared, so these stand apart from what is.
+/// The running threads of a session. A thread's handle cannot be shared, so they are kept apart from the shared state.
 #[derive(Drop)]
 pub(crate) struct Workers {
     pub(crate) handles: Vec<JoinHandle<()>>,
 }
 
 impl Workers {
-    /// No threads yet.
+    /// Creates the list without threads.
     pub(crate) fn new(alloc: Global) -> Workers {
         Workers {
             handles: Vec::new(alloc),
@@ -34,7 +34,7 @@ impl Workers {
     }
 
     /// Starts a thread for each role of both nodes. `NoMemory` (7) if there is no memory, and if a thread cannot be
-    /// started; those that were started run then.
+    /// started; the threads that were started then go on.
     pub(crate) fn start<
         R: Threads + Wait + Clock + Drop + Send + Sync + 'static,
         A: PrimaryHalf + Drop + Send + Sync + 'static,
@@ -59,7 +59,7 @@ impl Workers {
         Ok(())
     }
 
-    /// Stops the threads that run, and waits for their ends.
+    /// Stops the threads that run, and waits until they end.
     pub(crate) fn stop<R: Threads + Wait, A: PrimaryHalf, B: SecondaryHalf>(
         &mut self,
         shared: &Shared<R, A, B>,

@@ -17,7 +17,7 @@ use link::{FrameIn, FrameOut};
 use primary::Primary;
 use secondary::Secondary;
 
-/// On how many unmarked blocks the disks differ. `ReadFault` (14) comes if a disk fails a read.
+/// Returns on how many unmarked blocks the disks differ. `ReadFault` (14) if a disk fails a read.
 pub(crate) fn unmarked<
     O: FrameOut + Drop,
     I: FrameIn + Drop,
@@ -47,7 +47,8 @@ pub(crate) fn unmarked<
     Ok(count)
 }
 
-// Whether the disks differ in a block, by two buffers of a block each. A block that only one of them has differs.
+// Returns whether the disks differ in a block; each buffer has room for one block. A block that only one of them
+// has differs.
 fn differs<
     O: FrameOut + Drop,
     I: FrameIn + Drop,
@@ -80,7 +81,7 @@ fn differs<
     Ok(has_local || has_peer)
 }
 
-// Whether a disk has the block that was read. `ReadFault` (14) comes if it failed.
+// Returns whether a disk has the block that was read. `ReadFault` (14) if the read failed.
 fn is_there(read: Result<(), Refusal>) -> Result<bool, Refusal>
     ensures { result ≡ is_there read }
 {

@@ -1,5 +1,5 @@
 //! The settlement of two nodes at rest: how many items of the last connection were sent, taken and applied, whether
-//! the receipts that callers have are those of the journal, and on how many unmarked blocks the disks differ.
+//! the callers' receipts are those of the journal, and on how many unmarked blocks the disks differ.
 #![tactic(auto)]
 
 mod compare;

@@ -23,24 +23,24 @@ use secondary::Secondary;
 pub struct Settled {
     /// How many items of the primary's last connection were sent.
     pub sent: u32,
-    /// How many items the secondary took on that connection: 0 where it never opened it.
+    /// How many items the secondary took on that connection: 0 if it never opened it.
     pub taken: u32,
-    /// How many writes and resync items of those are applied.
+    /// How many writes and resync items among those are applied.
     pub applied: u32,
     /// How many receipts are confirmed: all that were given.
     pub confirmed: u64,
-    /// On how many blocks that are not marked the disks differ. A block that only one of them has counts.
+    /// On how many unmarked blocks the disks differ. A block that only one of them has counts.
     pub unmarked: u32,
 }
 
-/// Compares two nodes at rest, and the receipts that callers have with the journal.
+/// Compares two nodes at rest, and the callers' receipts with the journal.
 ///
-/// Returns `NotDrained` (36) unless both ends are closed, nothing is pending at the secondary, and the primary's disk
-/// has done or failed every write; else `StrangeReceipt` (19) if a receipt is of no entry of the journal, or is
-/// given twice; else `ReadFault` (14) if a disk fails a read. It changes neither node but for the disks' counts of
-/// faults, and takes no memory; it takes time for each receipt, each accepted write and each block.
+/// Returns `NotDrained` (36) unless both ends are closed, nothing is pending at the secondary, and the primary's
+/// disk has done or failed every write; else `StrangeReceipt` (19) if a receipt matches no entry of the journal, or
+/// is given twice; else `ReadFault` (14) if a disk fails a read. It changes neither node but for the disks' counts
+/// of faults, and takes no memory; it takes time for each receipt, each accepted write and each block.
 ///
-/// The secondary knows `taken` and `applied` of its own last connection alone. Where that is numbered above the
+/// The secondary knows `taken` and `applied` of its own last connection alone. If that is numbered above the
 /// primary's last one, which no session brings about, both are 0.
 pub fn settle<
     O: FrameOut + Drop,
@@ -89,7 +89,7 @@ pub fn settle<
     })
 }
 
-// Whether both ends are closed, nothing is pending, and the primary's disk has done or failed every write.
+// Returns whether both ends are closed, nothing is pending, and the primary's disk has done or failed every write.
 fn is_at_rest<
     O: FrameOut + Drop,
     I: FrameIn + Drop,
@@ -107,7 +107,7 @@ fn is_at_rest<
         && primary.next_local().is_none()
 }
 
-// How many items were taken on the connection of this number, and how many of them are applied; 0 where it is not the
+// Returns how many items were taken on connection `number`, and how many of them are applied; 0 if it is not the
 // secondary's last one.
 fn items_at<P: FrameOut + Drop, J: FrameIn + Drop, T: Store + Drop>(
     secondary: &Secondary<P, J, T>,

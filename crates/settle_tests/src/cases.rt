@@ -1,4 +1,4 @@
-//! Cases: the steps of two nodes before they settle.
+//! Cases of two nodes before they settle.
 
 use crate::nodes::{Local, Peer, close, connect, open_alone, submit, write};
 use blocks::Refusal;
@@ -8,18 +8,18 @@ use std::alloc::Global;
 use std::process::Abort;
 use std::sync::Wait;
 
-/// What is done to them.
+/// What the nodes do.
 #[derive(Clone, Copy, Debug)]
 pub(super) enum Case {
     /// They are never opened, and settle to this.
     Unopened(u32),
-    /// They are never opened, and a disk fails a read of the first settlement alone.
+    /// They are never opened, and a disk fails a read of the first settlement only.
     Failing,
     /// One write of this block.
     Write(u64),
     /// Four writes, one after the other.
     Writes,
-    /// Two writes; the link is lost once the peer has taken one of them.
+    /// Two writes; the link is lost after the peer has taken one of them.
     Unfinished,
     /// A write on each of two connections.
     Connections,
@@ -46,7 +46,7 @@ fn is<R: Wait + Drop>(
     assert_eq!(rt; settle(local, peer, receipts), wanted);
 }
 
-/// It changes nothing, so the next one says the same.
+/// Checks that the nodes settle to this, and again: a settlement changes nothing.
 fn is_twice<R: Wait + Drop>(
     rt: &impl Abort,
     local: &mut Local<R>,
@@ -58,7 +58,7 @@ fn is_twice<R: Wait + Drop>(
     is(rt, local, peer, receipts, Ok(wanted));
 }
 
-/// Each write is an item of the stream, and ends its epoch with a barrier.
+/// Settles four writes. Each write is an item of the stream, and ends its epoch with a barrier.
 fn writes<R: Wait + Drop>(
     rt: &impl Abort,
     alloc: Global,
@@ -81,7 +81,7 @@ fn writes<R: Wait + Drop>(
     is_twice(rt, local, peer, receipts, wanted);
 }
 
-/// Two writes are sent; the peer takes one of them.
+/// Sends two writes, and has the peer take one of them.
 fn takes_one<R: Wait + Drop>(
     rt: &impl Abort,
     alloc: Global,
@@ -95,12 +95,12 @@ fn takes_one<R: Wait + Drop>(
     peer.receive().expect(rt, "a frame");
 }
 
-/// There is something in the way.
+/// Checks that something is in the way of a settlement.
 fn is_not_drained<R: Wait + Drop>(rt: &impl Abort, local: &mut Local<R>, peer: &mut Peer<R>) {
     is(rt, local, peer, &[], Err(Refusal::NotDrained));
 }
 
-/// Each of the items is in the way until it is done. What the peer did not take is marked.
+/// Checks that each of the items is in the way until it is done. What the peer did not take is marked.
 fn unfinished<R: Wait + Drop>(
     rt: &impl Abort,
     alloc: Global,
@@ -126,7 +126,7 @@ fn unfinished<R: Wait + Drop>(
     is_twice(rt, local, peer, &[], wanted);
 }
 
-/// The second connection begins with a resync of nothing, which is two items.
+/// Settles after each of two connections. The second one begins with a resync of nothing, which is two items.
 fn connections<R: Wait + Copy + Drop>(
     (rt, out, alloc): (R, &impl Abort, Global),
     local: &mut Local<R>,
@@ -156,7 +156,7 @@ fn connections<R: Wait + Copy + Drop>(
     is_twice(out, local, peer, receipts, wanted);
 }
 
-/// The receipts are refused after a write.
+/// Checks that receipts of other nodes are refused after a write.
 fn strange<R: Wait + Drop>(
     rt: &impl Abort,
     alloc: Global,
@@ -169,7 +169,7 @@ fn strange<R: Wait + Drop>(
     is(rt, local, peer, receipts, Err(Refusal::StrangeReceipt));
 }
 
-/// Has nodes that are connected settle.
+/// Connects the nodes, and has them settle.
 fn goes_connected<R: Wait + Copy + Drop>(
     (rt, out, alloc): (R, &impl Abort, Global),
     local: &mut Local<R>,
@@ -187,7 +187,7 @@ fn goes_connected<R: Wait + Copy + Drop>(
     }
 }
 
-/// Has the nodes settle. Receipts come to those that are given.
+/// Has the nodes settle. Appends the receipts of their writes to `receipts`.
 pub(super) fn goes<R: Wait + Copy + Drop>(
     (rt, out, alloc): (R, &impl Abort, Global),
     local: &mut Local<R>,

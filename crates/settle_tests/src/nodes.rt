@@ -1,4 +1,4 @@
-//! Two nodes with disks in memory, and what drives them.
+//! Two nodes with disks in memory, and functions that drive them.
 use blocks::{FaultStore, MemStore, Settings, Tuple};
 use bytes::Bytes;
 use primary::{Primary, Receipt};
@@ -14,21 +14,21 @@ pub(super) type Local<R> = Primary<RuledOut<R>, RuledIn<R>, FaultStore>;
 /// A secondary over one.
 pub(super) type Peer<R> = Secondary<RuledOut<R>, RuledIn<R>, FaultStore>;
 
-/// The most turns until both nodes are idle.
+/// How many turns it takes at most until both nodes are idle.
 const TURNS: u32 = 100;
 
-/// A zero-filled disk of 8 blocks.
+/// Makes a zero-filled disk of 8 blocks.
 pub(super) fn disk(out: &impl Abort, alloc: Global) -> FaultStore {
     FaultStore::new(MemStore::zeroed(alloc, 8).expect(out, "memory"))
 }
 
-/// A disk of 10 blocks, which 01 fills.
+/// Makes a disk of 10 blocks, filled with 01.
 pub(super) fn larger_disk(out: &impl Abort, alloc: Global) -> FaultStore {
     let image = Vec::from_elem(alloc, 1u8, 40960).expect(out, "memory");
     FaultStore::new(MemStore::from_image(image).expect(out, "a disk"))
 }
 
-/// A primary of 8 blocks, whose first block is marked or not.
+/// Makes a primary of 8 blocks, whose first block is marked or not.
 pub(super) fn local<R: Wait + Drop>(
     out: &impl Abort,
     alloc: Global,
@@ -41,7 +41,7 @@ pub(super) fn local<R: Wait + Drop>(
     Primary::new(alloc, Settings::STANDARD, disk, tuple, marks).expect(out, "a primary")
 }
 
-/// A secondary of this many blocks.
+/// Makes a secondary of this many blocks.
 pub(super) fn peer<R: Wait + Drop>(
     out: &impl Abort,
     alloc: Global,
@@ -56,7 +56,7 @@ pub(super) fn peer<R: Wait + Drop>(
     Secondary::new(alloc, settings, disk, tuple).expect(out, "a secondary")
 }
 
-/// Both nodes open over a new link, with two fresh words, and do what there is to do.
+/// Opens both nodes over a new link, with two fresh words, and has them do what there is to do.
 pub(super) fn connect<R: Wait + Copy + Drop>(
     (rt, out, alloc): (R, &impl Abort, Global),
     local: &mut Local<R>,
@@ -74,7 +74,7 @@ pub(super) fn connect<R: Wait + Copy + Drop>(
     work(local, peer);
 }
 
-/// The primary alone opens, over a new link.
+/// Opens the primary alone, over a new link.
 pub(super) fn open_alone<R: Wait + Copy + Drop>(
     (rt, out, alloc): (R, &impl Abort, Global),
     local: &mut Local<R>,
@@ -86,7 +86,7 @@ pub(super) fn open_alone<R: Wait + Copy + Drop>(
     opened.expect(out, "an open primary");
 }
 
-/// Both nodes and their disks do what they can. A step that is refused has nothing to do now.
+/// Has both nodes and their disks do what they can. A step that is refused has nothing to do now.
 pub(super) fn work<R: Wait + Drop>(local: &mut Local<R>, peer: &mut Peer<R>) {
     for _ in 0..TURNS {
         if let Some(number) = local.next_local() {
@@ -103,7 +103,7 @@ pub(super) fn work<R: Wait + Drop>(local: &mut Local<R>, peer: &mut Peer<R>) {
     }
 }
 
-/// A write of this block, which AA fills, and its number.
+/// Submits a write of this block, filled with AA. Returns its number.
 pub(super) fn submit<R: Wait + Drop>(
     out: &impl Abort,
     alloc: Global,
@@ -114,7 +114,7 @@ pub(super) fn submit<R: Wait + Drop>(
     local.submit(block, &bytes).expect(out, "a write").0
 }
 
-/// The same, once both nodes have done what they can: its receipt comes to the others.
+/// Submits the same, has both nodes do what they can, and appends its receipt to the others.
 pub(super) fn write<R: Wait + Drop>(
     out: &impl Abort,
     alloc: Global,
@@ -129,7 +129,7 @@ pub(super) fn write<R: Wait + Drop>(
     receipts.push(receipt).expect(out, "memory");
 }
 
-/// Both ends close.
+/// Closes both ends.
 pub(super) fn close<R: Wait + Drop>(out: &impl Abort, local: &mut Local<R>, peer: &mut Peer<R>) {
     local.close().expect(out, "a primary that was open");
     peer.close().expect(out, "a secondary that was open");

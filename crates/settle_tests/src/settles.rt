@@ -1,4 +1,4 @@
-//! Two nodes settle to what was sent, taken, applied and confirmed, and are refused.
+//! Tests that two nodes settle to what was sent, taken, applied and confirmed, or are refused.
 
 use crate::cases::{Case, goes};
 use crate::nodes::{Local, disk, larger_disk, local, peer};
@@ -8,7 +8,7 @@ use std::alloc::Global;
 use std::process::Abort;
 use std::sync::Wait;
 
-/// A secondary beside a primary goes through a case.
+/// Takes a primary, and a secondary that it makes, through a case.
 fn goes_beside<R: Wait + Copy + Drop>(
     (rt, out, alloc): (R, &impl Abort, Global),
     local: &mut Local<R>,
@@ -20,7 +20,7 @@ fn goes_beside<R: Wait + Copy + Drop>(
     goes((rt, out, alloc), local, &mut peer, receipts, case);
 }
 
-/// Two nodes with these disks, whose first block is marked or not.
+/// Takes two nodes with these disks through a case; the primary's first block is marked or not.
 fn settles<R: Wait + Copy + Drop>(
     (rt, out, alloc): (R, &impl Abort, Global),
     (here, is_marked): (FaultStore, bool),
@@ -32,7 +32,7 @@ fn settles<R: Wait + Copy + Drop>(
     goes_beside((rt, out, alloc), &mut local, there, receipts, case);
 }
 
-/// Two nodes with zero-filled disks.
+/// Takes two nodes with zero-filled disks through a case.
 fn alike<R: Wait + Copy + Drop>(
     (rt, out, alloc): (R, &impl Abort, Global),
     receipts: &mut Vec<Receipt>,
@@ -63,7 +63,7 @@ fn unmarked_blocks_are_counted(rt: HostRuntime) {
     }
 }
 
-/// A receipt of other nodes is strange, and so is one that is given twice, as nodes that did the same have it.
+/// A receipt of other nodes is refused, and so is one that is given twice because nodes that did the same have it too.
 #[test]
 fn strange_receipts_are_refused(rt: HostRuntime) {
     for block in [3, 2] {
@@ -74,7 +74,7 @@ fn strange_receipts_are_refused(rt: HostRuntime) {
     }
 }
 
-/// A zero-filled disk that fails its fourth read, or none.
+/// Makes a zero-filled disk that fails its fourth read, or none.
 fn failing(out: &impl Abort, alloc: Global, fails: bool) -> FaultStore {
     let mut disk = disk(out, alloc);
     if fails {
@@ -83,7 +83,7 @@ fn failing(out: &impl Abort, alloc: Global, fails: bool) -> FaultStore {
     disk
 }
 
-/// The disk of one of the nodes fails a read.
+/// A settlement is refused if the disk of either node fails a read, and the next one is not.
 #[test]
 fn failing_disks_are_refused(rt: HostRuntime) {
     let alloc = rt.alloc();

@@ -1,4 +1,4 @@
-//! The status lines of a pair, over those of its nodes.
+//! The status lines of a pair, made of those of its nodes.
 #![tactic(auto)]
 
 mod lines;

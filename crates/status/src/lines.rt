@@ -13,8 +13,8 @@ use node_lines::{primary_line, secondary_line};
 use pair::Pair;
 use std::alloc::Global;
 
-/// Both lines of a pair, the primary's first, each ended by a newline. `NoMemory` (7) if there is no room for
-/// them.
+/// Returns both lines of a pair, the primary's first, each ended by a newline. `NoMemory` (7) if there is no room
+/// for them.
 pub fn line(alloc: Global, pair: &Pair) -> Result<String, Refusal>
     ensures lines { IfOk result (λ lines. (h : PairHistory) → PairHas (state pair.now) h → string_bytes lines ≡ primary_text (primary_line h.primary) ++ 10 ∷ (secondary_text (secondary_line h.secondary) ++ 10 ∷ [])) }
     ensures refused { IfErr result (λ e. e ≡ NoMemory) }

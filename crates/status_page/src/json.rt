@@ -7,8 +7,8 @@ use std::alloc::{AllocError, Global};
 const BLOCK_KIB: u64 = 4;
 
 impl Report {
-    /// The report as a JSON text: an object for each node, with a member for each word of its status line, and `resync`, which
-    /// is null if no resync goes on.
+    /// Returns the report as a JSON text: an object for each node, with a member for each word of its status line, and
+    /// `resync`, which is null if no resync goes on.
     pub fn json(&self, alloc: Global) -> Result<String, AllocError> {
         let primary = node(alloc, self.primary.as_str())?;
         let secondary = node(alloc, self.secondary.as_str())?;
@@ -19,7 +19,7 @@ impl Report {
     }
 }
 
-// A node's status line as an object.
+// Returns a node's status line as an object.
 fn node(alloc: Global, line: &str) -> Result<Value, AllocError> {
     let mut members = Map::new(alloc);
     for word in line.split(' ') {
@@ -30,7 +30,7 @@ fn node(alloc: Global, line: &str) -> Result<Value, AllocError> {
     Ok(Value::Object(members))
 }
 
-// A word of a line as one member, or as two: of this node and of the other one.
+// Puts a word of a line as one member, or as two: this node's and the other node's.
 fn put_word(
     alloc: Global,
     members: &mut Map<String, Value>,
@@ -47,7 +47,7 @@ fn put_word(
     }
 }
 
-// A member: a number, true or false, or else a text.
+// Puts a member: a number, true or false, or else a text.
 fn put(
     alloc: Global,
     members: &mut Map<String, Value>,
@@ -64,7 +64,7 @@ fn put(
     Ok(())
 }
 
-// What a word of a status line is called.
+// Returns the member's name for a word of a status line.
 fn key_of(name: &str) -> &str {
     match name {
         "cs" => "connection",
@@ -82,7 +82,7 @@ fn key_of(name: &str) -> &str {
     }
 }
 
-// What the part of a word is called that is of the other node.
+// Returns the member's name for the other node's part of a word.
 fn other_key_of(name: &str) -> &str {
     match name {
         "ro" => "peer_role",
@@ -91,7 +91,7 @@ fn other_key_of(name: &str) -> &str {
     }
 }
 
-// How far a resync is.
+// Returns the progress of a resync.
 fn progress(alloc: Global, resync: Option<Resync>) -> Result<Value, AllocError> {
     match resync {
         None => Ok(Value::Null),

@@ -8,7 +8,7 @@ use std::hash::RandomState;
 use std::io;
 use std::io::{Read, Write};
 
-/// What a client of the page is told: a report, or none if there is none now.
+/// The page that a client gets, with a report, or none if there is none now.
 #[derive(Drop)]
 struct Page<'a> {
     alloc: Global,
@@ -72,8 +72,8 @@ fn fill(response: &mut Response, kind: HeaderValue, body: &[u8]) -> Result<(), A
     Ok(())
 }
 
-/// Answers one request of a client with this report: the status lines at `/`, the same as JSON at `/status.json`. Then the
-/// connection is to be closed. With no report it is told that there is none now (503).
+/// Answers one request of a client with this report: the status lines at `/`, the same as JSON at `/status.json`. Then
+/// the connection is to be closed. Without a report, the answer says that there is none now (503).
 pub fn answer_one<R: Read, W: Write>(
     alloc: Global,
     keys: RandomState,

@@ -1,4 +1,4 @@
--- What the fields of a transfer log stand for, and what is kept about them.
+-- The fields of a transfer log as plain values, and their invariant.
 use Rattle.std.specs.Prelude.{ℕ, ◌≡◌, ◌+◌, ◌-◌, ◌<◌, ◌≤◌, false, length, min, sum, vec_capacity, Option, None, IfSome, option_map}
 use Rattle.transferlog.specs.Writes.{LogWrite, is_released}
 use Rattle.transferlog.specs.Ring.{Each}
@@ -24,7 +24,7 @@ log_of l = record {
   completed = l.completed.items;
 }
 
--- the fields, with the room for more
+-- the fields as plain values, with the room for more
 abbrev pub value_of : Inside → LogValue
 value_of l = record { state = log_of l; spare = min l.ring.spare l.epochs.spare }
 
@@ -36,9 +36,9 @@ IsKept confirmed w = is_released confirmed w ≡ false
 abbrev pub IsAlone : LogWrite → Type 0
 IsAlone w = w.linked ≡ false
 
--- No write is released, the connection is counted from 1, no write has one where no stream stands, there are no more than may be, and what a call reports
--- has room; the epochs' writes were accepted after
--- those confirmed.
+-- Invariant: no write in the ring is released, the connection is counted from 1, no write has one while none is
+-- established, there are at most `backlog` writes, and there is room for what a call reports; the epochs' writes were
+-- accepted after those confirmed.
 pub record IsLog (l : Inside) : Type 0 where
   pub next : l.ring.next ≡ l.accepted + 1
   pub few_accepted : l.accepted ≤ 1048576

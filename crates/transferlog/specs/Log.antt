@@ -1,5 +1,5 @@
--- The transfer log in plain values, and how each call changes it. The rules are this project's, after the DRBD User's Guide,
--- "Replication modes", and DRBD's transfer log.
+-- The transfer log in plain values, and how each call changes it. The rules are this project's, after the DRBD User's
+-- Guide, "Replication modes", and DRBD's transfer log.
 use Rattle.std.specs.Prelude.{ℕ, ◌+◌, ◌==◌, Bool, true, false, ◌&&◌, not, if◌then◌else◌, List, [], ◌∷◌, ◌++◌, length, take, drop, map, filter, replicate}
 use Rattle.std.specs.Prelude.{slice_get, Option, Some, None, is_some, Result, Ok, Err}
 use Rattle.std.specs.List.{list_any}
@@ -23,10 +23,11 @@ use Rattle.transferlog.specs.declared.report.Completed.{Completed}
 use Rattle.transferlog.specs.declared.report.Named.{Named}
 use Rattle.transferlog.specs.declared.report.Released.{Released}
 
--- The protocol and the most unreleased writes; how many writes were accepted, which is the last number; the index of the
--- connection whose stream stands; the number up to which every write with a connection has its epoch's acknowledgement; of each block of the
--- device, the number of the last accepted write that has it, or 0; the unreleased writes by rising number; the epochs of the
--- stream; and what the last call released and completed, by rising number.
+-- The state of the log: the protocol and the most unreleased writes; how many writes were accepted, which is also the
+-- last number; the index of the established connection; the number up to which every write with a connection has its
+-- epoch's acknowledgement; for each block of the device, the number of the last accepted write that covers it, or 0;
+-- the unreleased writes by rising number; the epochs of the stream; and what the last call released and completed, by
+-- rising number.
 pub record LogState : Type 0 where
   pub protocol : Protocol
   pub backlog : ℕ
@@ -59,12 +60,12 @@ empty_log protocol blocks max_epoch backlog = record {
   completed = [];
 }
 
--- a stream begins, on the connection of this index: no item is in it, and no write has that connection yet
+-- begins the stream of the connection with this index: it has no item, and no write has that connection yet
 abbrev pub connecting : ℕ → LogState → LogState
 connecting index s = record s { connection = Some index; confirmed = s.accepted; epochs = empty s.epochs.max_epoch; released = []; completed = [] }
 
--- Something happens to each write, and all with a connection and a number up to this one have their acknowledgement: those that
--- were open and are completed now, those that are released now, and those that are left.
+-- Changes each write by `f`, with every write with a connection and a number up to `confirmed` acknowledged: reports
+-- the open writes that are completed by it and the writes that are released by it, and keeps the others.
 abbrev pub moved : (LogWrite → LogWrite) → ℕ → LogState → LogState
 moved f confirmed s = record {
   protocol = s.protocol;
@@ -79,41 +80,41 @@ moved f confirmed s = record {
   completed = map completed_of (filter is_completed (map f (filter is_open s.writes)));
 }
 
--- whether a write that was open is no more, as something happens to each
+-- whether the change takes some write out of the open state
 abbrev pub closes_any : (LogWrite → LogWrite) → LogState → Bool
 closes_any f s = list_any (λ w. is_open w && not (is_open (f w))) s.writes
 
--- what the stream's epochs become where a write is completed or failed: the barrier that is appended, and what is left
+-- the barrier that is appended if a write was completed or failed, and the stream's epochs afterwards
 abbrev pub ended_by : Bool → ℕ → EpochsState → Option ℕ × EpochsState
 ended_by closed number e = if closed then completing number e else (None, e)
 
--- Something happens to one write: the barrier that is appended, where that ends the last epoch, and the log after it.
+-- Changes one write by `f`: the barrier that is appended if that ends the last epoch, and the log afterwards.
 abbrev pub changing : ℕ → (LogWrite → LogWrite) → LogState → Option ℕ × LogState
 changing number f s =
     let ended = ended_by (closes_any (on number f) s) number s.epochs in
     (ended.0, record (moved (on number f) s.confirmed s) { epochs = ended.1 })
 
--- whether a write is answered by standing in the link's queue
+-- whether a write is answered once its frame is in the link's queue
 abbrev pub answers_sent : Protocol → Bool
 answers_sent protocol.A = true
 answers_sent protocol.B = false
 answers_sent protocol.C = false
 
--- a write's frame stands in the link's queue
+-- records that a write's frame is in the link's queue
 abbrev pub sent : ℕ → LogState → Option ℕ × LogState
 sent number s = changing number (sending (answers_sent s.protocol)) s
 
--- a write is on the local disk
+-- records that a write is on the local disk
 abbrev pub local_done : ℕ → LogState → Option ℕ × LogState
 local_done number s = changing number storing s
 
--- the local disk failed a write
+-- records that the local disk failed a write
 abbrev pub local_fault : ℕ → LogState → Option ℕ × LogState
 local_fault number s = changing number failing s
 
--- A write is accepted where a stream stands or not.
+-- Accepting a write, with a connection or without one.
 
--- the blocks of a range with the number of the write that has them last
+-- the last write of each block, after this one covers the blocks of a range
 abbrev pub with_latest : ℕ → ℕ → ℕ → List ℕ → List ℕ
 with_latest number first count latest = take first latest ++ replicate count number ++ drop (first + count) latest
 
@@ -132,7 +133,7 @@ accepted_write first count contents home s = record {
   local = Waiting;
 }
 
--- a write is accepted: what is left
+-- the log with an accepted write
 abbrev pub with_write : LogWrite → EpochsState → LogState → LogState
 with_write w e s = record s {
   accepted = w.number;
@@ -143,13 +144,13 @@ with_write w e s = record s {
   completed = [];
 }
 
--- The home of the next write: where a stream stands, it is the next place there. Its home, the barrier that follows it, and the
--- epochs then.
+-- The home of the next write: the next place of the stream, if a connection is established. It comes with the barrier
+-- that follows it, and the epochs afterwards.
 abbrev pub home_in : Option ℕ → ℕ → EpochsState → Option StreamPosition × (Option ℕ × EpochsState)
 home_in None number e = (None, (None, e))
 home_in (Some index) number e = let answer = placed number e in (Some (record { index = index; place = answer.0 }), answer.1)
 
--- A write is accepted: its number, place and barrier, and what is left.
+-- Accepts a write: its number, place and barrier, and the log afterwards.
 abbrev pub accepting : ℕ → ℕ → List ℕ → LogState → Accepted × LogState
 accepting first count contents s =
     let home = home_in s.connection (s.accepted + 1) s.epochs in (
@@ -159,19 +160,19 @@ accepting first count contents s =
 
 -- The stream's other items.
 
--- nothing was released or completed
+-- the log with these epochs, and nothing released or completed
 abbrev pub quiet : EpochsState → LogState → LogState
 quiet e s = record s { epochs = e; released = []; completed = [] }
 
--- a resync item takes the next place
+-- gives a resync item the next place
 abbrev pub resync_placed : LogState → ℕ × LogState
 resync_placed s = let answer = placed 0 s.epochs in (answer.0, quiet answer.1.1 s)
 
--- a resync item is acknowledged: the barrier that is appended, and what is left
+-- records a resync item's acknowledgement: the barrier that is appended, and the log afterwards
 abbrev pub resync_acked : LogState → Option ℕ × LogState
 resync_acked s = let ended = completing 0 s.epochs in (ended.0, quiet ended.1 s)
 
--- an item that no epoch counts takes the next place
+-- gives an item that no epoch counts the next place
 abbrev pub uuids_placed : LogState → ℕ × LogState
 uuids_placed s = let answer = uncounted s.epochs in (answer.0, quiet answer.1 s)
 
@@ -185,12 +186,13 @@ is_asked protocol.B Written = false
 is_asked protocol.C Received = false
 is_asked protocol.C Written = true
 
--- whether the write with the number that an answer names is one that awaits this answer
+-- whether there is a write, and it awaits this answer
 abbrev pub awaits_in : Option LogWrite → Named → Bool
 awaits_in None of = false
 awaits_in (Some w) of = awaits of w
 
--- The peer answers a write: the barrier that is appended, and what is left. An answer that is not awaited is refused.
+-- The peer answers a write: the barrier that is appended, and the log afterwards. An answer that no write awaits is
+-- refused.
 abbrev pub acked : Answer → Named → LogState → Result (Option ℕ) Refusal × LogState
 acked kind of s =
     let answer = changing of.number answering s in
@@ -198,7 +200,7 @@ acked kind of s =
 
 -- The peer acknowledges an epoch.
 
--- whether a write of the epoch that is acknowledged next, of this size, is not answered
+-- whether some write of the next epoch to be acknowledged, which has this size, is not answered
 abbrev pub lacks_answer : ℕ → LogState → Bool
 lacks_answer size s = list_any (λ w. is_between (s.confirmed + 1) size w.number && not w.answered) s.writes
 
@@ -208,11 +210,12 @@ asks_answers protocol.A = false
 asks_answers protocol.B = true
 asks_answers protocol.C = true
 
--- whether a barrier may be acknowledged: it is the oldest, with its epoch's size, and every write of the epoch has its answer
+-- whether a barrier may be acknowledged: it is the oldest, with its epoch's size, and every write of the epoch has the
+-- answer that the protocol asks for
 abbrev pub may_confirm : ℕ → ℕ → LogState → Bool
 may_confirm number size s = is_awaited number size s.epochs && not (asks_answers s.protocol && lacks_answer size s)
 
--- what is left where an epoch of this size is acknowledged: what is settled of it is released, and nothing is completed
+-- the log after an epoch of this size is acknowledged: its settled writes are released, and nothing is completed
 abbrev pub confirming : ℕ → ℕ → LogState → LogState
 confirming number size s = record s {
   confirmed = s.confirmed + size;
@@ -222,28 +225,28 @@ confirming number size s = record s {
   completed = [];
 }
 
--- A barrier is acknowledged by its number and the size of its epoch.
+-- The peer acknowledges a barrier by its number and the size of its epoch.
 abbrev pub barrier_acked : ℕ → ℕ → LogState → Result (Unit {0}) Refusal × LogState
 barrier_acked number size s =
     if may_confirm number size s then (Ok tt, confirming number size s) else (Err BadBarrierAck, s)
 
 -- The connection is closed.
 
--- no stream stands any more, and no write has a connection
+-- the log after its connection is closed: no stream is open, and no write has a connection
 abbrev pub draining : LogState → LogState
 draining s = record (moved unlinking s.confirmed s) { connection = None; epochs = empty s.epochs.max_epoch }
 
--- The connection is closed: how many writes that completed, and what is left.
+-- Closes the connection: how many writes that completed, and the log afterwards.
 abbrev pub drained : LogState → ℕ × LogState
 drained s = (length (draining s).completed, draining s)
 
 -- Marks.
 
--- whether this is the number
+-- whether there is a number, and it is this one
 abbrev pub is_number : ℕ → Option ℕ → Bool
 is_number number None = false
 is_number number (Some latest) = latest == number
 
--- Whether a release clears the mark of a block: the write clears marks, the block is one of its, and no later write has it.
+-- Whether a release clears the mark of a block: the write clears marks, it covers the block, and no later write does.
 abbrev pub clears : Released → ℕ → List ℕ → Bool
 clears r block latest = (r.clears && is_between r.first r.count block) && is_number r.number (slice_get latest block)

@@ -1,4 +1,4 @@
--- A row of writes by rising number, and what happens to one of them.
+-- Writes by rising number, and a change of one of them.
 use Rattle.std.specs.Prelude.{ℕ, ◌≡◌, ◌<◌, true, suc, ◌≤◌, ◌==◌, Bool, not, if◌then◌else◌, List, [], ◌∷◌, filter, find, map, Option, Some, None, false}
 use Rattle.transferlog.specs.Writes.{LogWrite, is_released, is_waiting, sending, answering, storing, failing, unlinking}
 use Rattle.transferlog.specs.declared.write.Change.{Change}
@@ -18,7 +18,7 @@ has_number number w = w.number == number
 abbrev pub write_at : ℕ → List LogWrite → Option LogWrite
 write_at number writes = find (has_number number) writes
 
--- what happens to the write with this number, and to no other
+-- changes the write with this number, and no other
 abbrev pub on : ℕ → (LogWrite → LogWrite) → LogWrite → LogWrite
 on number f w = if has_number number w then f w else w
 
@@ -30,7 +30,7 @@ with_change number f writes = map (on number f) writes
 abbrev pub without : ℕ → List LogWrite → List LogWrite
 without number writes = filter (λ w. not (has_number number w)) writes
 
--- what a change makes of a write
+-- a write after a change
 abbrev pub changed : Change → LogWrite → LogWrite
 changed (change.Sent answers) = sending answers
 changed change.Answered = answering
@@ -43,16 +43,16 @@ abbrev pub Rises : ℕ → List LogWrite → Type 0
 Rises low [] = Unit {0}
 Rises low (w ∷ ws) = (low ≤ w.number) × Rises (suc w.number) ws
 
--- each of these writes is as the first argument says
+-- each of these writes satisfies `P`
 abbrev pub Each : (LogWrite → Type 0) → List LogWrite → Type 0
 Each P [] = Unit {0}
 Each P (w ∷ ws) = P w × Each P ws
 
--- what is released, where all up to the first number are confirmed, has at least the second number
+-- given that all up to `confirmed` are acknowledged: if the write is released, its number is at least `number`
 abbrev pub ReleasedFrom : ℕ → ℕ → LogWrite → Type 0
 ReleasedFrom confirmed number w = is_released confirmed w ≡ true → number ≤ w.number
 
--- what is released, where all up to the first number are confirmed, has a number below the second
+-- given that all up to `confirmed` are acknowledged: if the write is released, its number is below `number`
 abbrev pub ReleasedBelow : ℕ → ℕ → LogWrite → Type 0
 ReleasedBelow confirmed number w = is_released confirmed w ≡ true → w.number < number
 
@@ -61,11 +61,11 @@ abbrev pub is_unanswered : Option LogWrite → Bool
 is_unanswered None = false
 is_unanswered (Some w) = not w.answered
 
--- whether there is a write, and the local disk has it to do
+-- whether there is a write, and it waits for the local disk
 abbrev pub is_waiting_at : Option LogWrite → Bool
 is_waiting_at None = false
 is_waiting_at (Some w) = is_waiting w
 
--- the local disk has no write below this number to do
+-- if the write waits for the local disk, its number is at least this one
 abbrev pub WaitsFrom : ℕ → LogWrite → Type 0
 WaitsFrom number w = is_waiting w ≡ true → number ≤ w.number

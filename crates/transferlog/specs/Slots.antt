@@ -1,4 +1,4 @@
--- What the slots of a ring stand for: the write with the number of each slot, or a hole.
+-- The slots of a ring as plain values: each has the write with its number, or none.
 use Rattle.std.specs.Prelude.{ℕ, suc, ◌≡◌, ◌+◌, ◌-◌, ◌^◌, ◌<◌, ◌≤◌, List, [], ◌∷◌, length, Option, None, Some}
 use Rattle.std.specs.VecDeque.{deque_len, deque_capacity}
 use Rattle.transferlog.specs.Writes.{LogWrite}
@@ -11,7 +11,7 @@ writes_in [] = []
 writes_in (None ∷ slots) = writes_in slots
 writes_in (Some w ∷ slots) = w ∷ writes_in slots
 
--- each write has the number of its slot, the first of which has this one
+-- each write has the number of its slot; the first slot has this one
 abbrev pub AreNumbered : ℕ → List (Option LogWrite) → Type 0
 AreNumbered first [] = Unit {0}
 AreNumbered first (None ∷ slots) = AreNumbered (suc first) slots

@@ -8,9 +8,9 @@ use Rattle.transferlog.specs.declared.report.Released.{Released}
 use Rattle.transferlog.specs.declared.report.Turn.{Turn}
 use Rattle.transferlog.specs.declared.local.Local.TheVariants.{Waiting, OnDisk, Failed}
 
--- An accepted write: its number, its range, its bytes, and the blocks that these are; its home, which is where it stands in a
--- stream, where it does; whether its connection stands; whether it was sent, and answered as the protocol asks;
--- and what the local disk did with it.
+-- An accepted write: its number, its range, its bytes, and these as blocks; its home, which is its place in a stream,
+-- if it has one; whether its connection is open; whether it was sent, and answered as the protocol asks; and what the
+-- local disk did with it.
 pub record LogWrite : Type 0 where
   pub number : ℕ
   pub first : ℕ
@@ -35,7 +35,7 @@ has_failed Waiting = false
 has_failed OnDisk = false
 has_failed Failed = true
 
--- the local disk is done with it
+-- the local disk has written or failed it
 abbrev pub is_settled : LogWrite → Bool
 is_settled w = is_on_disk w.local || has_failed w.local
 
@@ -47,39 +47,40 @@ is_completed w = is_on_disk w.local && (w.answered || not w.linked)
 abbrev pub is_open : LogWrite → Bool
 is_open w = not (is_completed w) && not (has_failed w.local)
 
--- released, where every write with a connection and a number up to this one has its epoch's acknowledgement
+-- the write is released, given that every write with a connection and a number up to `confirmed` has its epoch's
+-- acknowledgement
 abbrev pub is_released : ℕ → LogWrite → Bool
 is_released confirmed w = is_settled w && (not w.linked || nat_le w.number confirmed)
 
--- the write was sent, and is answered by that where the protocol asks no more
+-- records the write as sent, and as answered if the protocol asks for no more
 abbrev pub sending : Bool → LogWrite → LogWrite
 sending answers w = record w { sent = true; answered = w.answered || answers }
 
--- the write was answered
+-- records the write as answered
 abbrev pub answering : LogWrite → LogWrite
 answering w = record w { answered = true }
 
--- the write is on the local disk
+-- records the write as on the local disk
 abbrev pub storing : LogWrite → LogWrite
 storing w = record w { local = OnDisk }
 
--- the local disk failed the write
+-- records the write as failed on the local disk
 abbrev pub failing : LogWrite → LogWrite
 failing w = record w { local = Failed }
 
--- the write's connection is gone
+-- records that the write's connection is closed
 abbrev pub unlinking : LogWrite → LogWrite
 unlinking w = record w { linked = false }
 
--- what a write's completion says
+-- the report of a write's completion
 abbrev pub completed_of : LogWrite → Completed
 completed_of w = record { number = w.number; first = w.first; count = w.count; linked = w.answered; home = w.home }
 
--- what a write's release says: a write with a connection that is on both disks clears marks
+-- the report of a write's release: a write with a connection that is on both disks clears marks
 abbrev pub released_of : LogWrite → Released
 released_of w = record { number = w.number; first = w.first; count = w.count; clears = w.linked && is_on_disk w.local }
 
--- what a change does to a write: whether it was open and is no more, and whether it was open and is completed now
+-- what a change does to a write: whether it takes it out of the open state, and its completion if it completes it
 abbrev pub turn_of : (LogWrite → LogWrite) → LogWrite → Turn
 turn_of f w = record {
   closes = is_open w && not (is_open (f w));
@@ -95,15 +96,15 @@ abbrev pub is_at : ℕ → Option StreamPosition → Bool
 is_at place None = false
 is_at place (Some home) = home.place == place
 
--- whether a write is the one that an answer names: its place, first block and count are those, and it was sent on the connection
--- that stands and is not answered
+-- whether an answer names this write: place, first block and count are the write's, and it was sent on the established
+-- connection and is not answered
 abbrev pub awaits : Named → LogWrite → Bool
 awaits of w = (is_at of.place w.home && ((w.first == of.first) && (w.count == of.count))) && (w.linked && (w.sent && not w.answered))
 
--- it was sent on the connection that stands, and is not answered
+-- the write was sent on the established connection, and is not answered
 abbrev pub is_unanswered : LogWrite → Bool
 is_unanswered w = w.linked && (w.sent && not w.answered)
 
--- the local disk has it to do
+-- the write waits for the local disk
 abbrev pub is_waiting : LogWrite → Bool
 is_waiting w = not (is_settled w)

@@ -18,24 +18,24 @@ use epochs::Epochs;
 use std::alloc::Global;
 use std::marker::Model;
 
-/// The unreleased writes of a primary under protocols A, B and C (DRBD's transfer log): which are completed
-/// and which released, the epochs of the connection's stream, and which marks a release clears.
+/// A primary's unreleased writes under protocols A, B and C (DRBD's transfer log). It decides which of them are
+/// completed and which released, keeps the epochs of the connection's stream, and says which marks a release clears.
 ///
-/// Numbers are consecutive, so a write is found by subtraction, and a call takes constant time, but for these.
-/// `new` takes time for each block of the device. `open`, `unanswered` and `drain` take time for each number
-/// from the first unreleased one on, `unreleased_from` for each number from the one asked for to the answer, and
-/// `barrier_acked` for each write of the epoch. A release takes time for each number that leaves the log by it,
-/// and `local_done` and `local_fault` for each number up to the next write for the local disk, so both pass
-/// each number once in all.
+/// Numbers are consecutive, so a write is found by subtraction, and a call takes constant time, except these. `new`
+/// takes time for each block of the device. `open`, `unanswered` and `drain` take time for each number from the first
+/// unreleased one on, `unreleased_from` for each number from `from` to the one that it returns, and `barrier_acked`
+/// for each write of the epoch. A release takes time for each number that it takes out of the log, and `local_done`
+/// and `local_fault` for each number up to the next write that waits for the local disk; both pass each number once
+/// over all calls.
 ///
-/// The memory is a slot for each number from the first unreleased one on, four bytes a block of the device, and
-/// room for `backlog` reports of either kind.
+/// The memory is a slot for each number from the first unreleased one on, four bytes for each block of the device,
+/// and room for `backlog` reports of each kind.
 #[derive(Drop)]
 pub struct TransferLog {
     protocol: Protocol,
     backlog: u32,
     accepted: u64,
-    // Its number, counted from 1.
+    // The number of the connection whose stream is open, counted from 1.
     connection: Option<u32>,
     confirmed: u64,
     latest: Vec<u32>,
@@ -58,8 +58,8 @@ impl Model for TransferLog {
 }
 
 impl TransferLog {
-    /// An empty log, of writes to a device of `blocks` blocks, 1 to 262,144. `NoMemory` (7) if its tables
-    /// cannot be had.
+    /// Returns an empty log for a device of `blocks` blocks, 1 to 262,144. `NoMemory` (7) if its tables cannot be
+    /// allocated.
     pub fn new(
         alloc: Global,
         protocol: Protocol,
@@ -87,28 +87,28 @@ impl TransferLog {
         })
     }
 
-    /// What the last call released, by rising number.
+    /// Returns what the last call released, by rising number.
     pub fn released(&self) -> &[Released]
         ensures { result.now ≡ self.now.state.released }
     {
         &self.released
     }
 
-    /// What the last call completed, by rising number.
+    /// Returns what the last call completed, by rising number.
     pub fn completed(&self) -> &[Completed]
         ensures { result.now ≡ self.now.state.completed }
     {
         &self.completed
     }
 
-    /// How many writes are unreleased.
+    /// Returns how many writes are unreleased.
     pub fn len(&self) -> u32
         ensures { result ≡ length self.now.state.writes }
     {
         self.ring.len()
     }
 
-    /// How many writes are neither completed nor failed. It takes time for each number from the first
+    /// Returns how many writes are neither completed nor failed. It takes time for each number from the first
     /// unreleased one on.
     pub fn open(&self) -> u32
         ensures { result ≡ length (filter is_open self.now.state.writes) }
@@ -116,7 +116,7 @@ impl TransferLog {
         self.ring.open()
     }
 
-    /// How many writes were sent on the connection that stands, and are not answered. It takes time for each
+    /// Returns how many writes were sent on the established connection and are not answered. It takes time for each
     /// number from the first unreleased one on.
     pub fn unanswered(&self) -> u32
         ensures { result ≡ length (filter is_unanswered self.now.state.writes) }
@@ -124,49 +124,49 @@ impl TransferLog {
         self.ring.unanswered()
     }
 
-    /// How many epochs with an item are not acknowledged.
+    /// Returns how many epochs with an item are not acknowledged.
     pub fn open_epochs(&self) -> u64
         ensures { result ≡ unacknowledged self.now.state.epochs }
     {
         self.epochs.unacknowledged()
     }
 
-    /// How many writes were accepted, which is the number of the last one.
+    /// Returns how many writes were accepted, which is the number of the last one.
     pub fn accepted(&self) -> u64
         ensures { result ≡ self.now.state.accepted }
     {
         self.accepted
     }
 
-    /// How many items the connection's stream has.
+    /// Returns how many items the connection's stream has.
     pub fn places(&self) -> u32
         ensures { result ≡ self.now.state.epochs.places }
     {
         self.epochs.places()
     }
 
-    /// The number of the stream's last epoch, from 1.
+    /// Returns the number of the stream's last epoch, counted from 1.
     pub fn epoch(&self) -> u32
         ensures { result ≡ self.now.state.epochs.ended + 1 }
     {
         self.epochs.last()
     }
 
-    /// The number of the connection whose stream stands, counted from 1, if one does.
+    /// Returns the number of the connection whose stream is open, counted from 1, if there is one.
     pub fn connection(&self) -> Option<u32>
         ensures { result ≡ option_map suc self.now.state.connection }
     {
         self.connection
     }
 
-    /// How many blocks the device has.
+    /// Returns how many blocks the device has.
     pub fn blocks(&self) -> usize
         ensures { result ≡ length self.now.state.latest }
     {
         self.latest.len()
     }
 
-    /// The lowest number of a write that the local disk has to do. It takes constant time.
+    /// Returns the lowest number of a write that waits for the local disk. It takes constant time.
     pub fn next_local(&self) -> Option<u64>
         ensures { result ≡ option_map (λ w. w.number) (find is_waiting self.now.state.writes) }
     {
@@ -174,19 +174,19 @@ impl TransferLog {
         Some(write.number())
     }
 
-    /// The first unreleased write whose number is `from` or more. It takes time for each number from there to
-    /// the answer.
+    /// Returns the first unreleased write whose number is `from` or more. It takes time for each number from `from`
+    /// to the one that it returns.
     pub fn unreleased_from(&self, from: u64) -> Option<&Write>
         ensures first { option_copied result ≡ find (λ w. nat_le from w.number) self.now.state.writes }
-        // for callers that go on behind the answer
+        // for callers that go on from the returned write
         ensures rises { Rises 0 self.now.state.writes }
         ensures few { IfSome result (λ w. w.now.number ≤ 1048576) }
     {
         self.ring.first_from(from)
     }
 
-    /// Whether the release of a write, by the last call, clears the mark of this block: the write clears
-    /// marks, the block is one of its, and no later write has it. It takes constant time.
+    /// Returns whether the release of a write, by the last call, clears the mark of this block: the release clears
+    /// marks, the write covers the block, and no later write does. It takes constant time.
     pub fn clears(&self, released: &Released, block: Block) -> bool
         ensures { result ≡ clears released.now block.0 self.now.state.latest }
     {
@@ -201,7 +201,7 @@ impl TransferLog {
         Some(u64::from(*number))
     }
 
-    /// The unreleased write with this number.
+    /// Returns the unreleased write with this number.
     pub fn get(&self, number: u64) -> Option<&Write>
         ensures { option_copied result ≡ write_at number self.now.state.writes }
     {

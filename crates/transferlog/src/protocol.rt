@@ -5,7 +5,7 @@ ghost use Rattle.transferlog.specs.Log.{answers_sent, asks_answers, is_asked};
 use crate::report::Answer;
 use blocks::Protocol;
 
-/// Whether the protocol asks for this kind of answer.
+/// Returns whether the protocol asks for this kind of answer.
 pub(crate) fn is_asked(protocol: Protocol, kind: Answer) -> bool
     ensures { result ≡ is_asked protocol kind }
 {
@@ -15,7 +15,7 @@ pub(crate) fn is_asked(protocol: Protocol, kind: Answer) -> bool
     }
 }
 
-/// Whether the protocol asks for answers at all.
+/// Returns whether the protocol asks for answers at all.
 pub(crate) fn asks_answers(protocol: Protocol) -> bool
     ensures { result ≡ asks_answers protocol }
 {
@@ -25,7 +25,7 @@ pub(crate) fn asks_answers(protocol: Protocol) -> bool
     }
 }
 
-/// Whether a write is answered by standing in the link's queue.
+/// Returns whether a write is answered once its frame is in the link's queue.
 pub(crate) fn answers_sent(protocol: Protocol) -> bool
     ensures { result ≡ answers_sent protocol }
 {

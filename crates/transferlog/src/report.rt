@@ -1,21 +1,21 @@
-//! The report of a call of the log.
+//! The reports of the log's calls.
 ghost use Rattle.std.specs.Prelude.{◌≡◌, ◌<◌, ◌++◌, vec_len, vec_capacity, IsSome};
 ghost use Rattle.std.specs.Option.{option_to_list};
 
 use blocks::StreamPosition;
 
-/// A write was accepted.
+/// An accepted write.
 #[derive(Clone, Copy, Debug, PartialEq, Eq)]
 pub struct Accepted {
     /// Its number.
     pub number: u64,
-    /// Its place in the connection's stream, if a stream stands.
+    /// Its place in the connection's stream, if a stream is open.
     pub place: Option<u32>,
-    /// The number of the barrier that follows it, where the epoch has all its writes now.
+    /// The number of the barrier that follows it, if its epoch is full now.
     pub barrier: Option<u32>,
 }
 
-/// A write was completed.
+/// A completed write.
 #[derive(Clone, Copy, Debug, PartialEq, Eq)]
 pub struct Completed {
     /// Its number.
@@ -24,13 +24,13 @@ pub struct Completed {
     pub first: u64,
     /// How many blocks it has.
     pub count: u64,
-    /// Whether the peer has answered it, as the protocol asks; else it was completed without the peer.
+    /// Whether it is answered as the protocol asks; if not, it was completed without the peer.
     pub linked: bool,
-    /// Where it stands in a connection's stream, if it does.
+    /// Its position in a connection's stream, if it has one.
     pub home: Option<StreamPosition>,
 }
 
-/// A write was released: it has left the log.
+/// A released write, which has left the log.
 #[derive(Clone, Copy, Debug, PartialEq, Eq)]
 pub struct Released {
     /// Its number.
@@ -39,17 +39,17 @@ pub struct Released {
     pub first: u64,
     /// How many blocks it has.
     pub count: u64,
-    /// Whether both disks have it, so that its blocks' marks may go. A failed write and one without a
-    /// connection clear nothing.
+    /// Whether both disks have it, so that its blocks' marks may be cleared. A failed write and one without a
+    /// connection clear none.
     pub clears: bool,
 }
 
-/// What the peer says of a write.
+/// The kind of a peer's answer to a write.
 #[derive(Clone, Copy, Debug, PartialEq, Eq)]
 pub enum Answer {
-    /// It has received it (RECV_ACK).
+    /// The peer has received it (RECV_ACK).
     Received,
-    /// Its disk has it (WRITE_ACK).
+    /// The peer's disk has it (WRITE_ACK).
     Written,
 }
 
@@ -66,12 +66,12 @@ pub struct Named {
     pub count: u64,
 }
 
-/// What a change did to a write.
+/// The effect of a change on a write.
 #[derive(Clone, Copy)]
 pub(crate) struct Turn {
-    /// It was open, and is no more.
+    /// Whether the write left the open state.
     pub(crate) closes: bool,
-    /// It is completed by that.
+    /// Its completion, if the change completed it.
     pub(crate) completion: Option<Completed>,
 }
 

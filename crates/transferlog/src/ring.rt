@@ -1,4 +1,4 @@
-//! The row of the unreleased writes.
+//! The ring of the unreleased writes.
 ghost use Rattle.std.specs.Prelude.{find, nat_le, IfSome, ◌&&◌, ◌≤◌, filter, map, not, vec_len, vec_capacity, ◌≡◌, ◌+◌, ◌^◌, ◌<◌, [], ◌∷◌, ◌++◌, length, IsOk, OnOk, is_some, if◌then◌else◌};
 ghost use Rattle.std.specs.List.{list_any};
 ghost use Rattle.blocks.specs.Ranges.{is_between};
@@ -13,16 +13,15 @@ use std::alloc::{AllocError, Global};
 use std::collections::VecDeque;
 use std::marker::Model;
 
-/// Writes by rising number. Numbers are consecutive, so a write is found by subtraction; a write that is
-/// gone leaves a hole until all before it are gone too. No write below `waiting` waits for the local disk,
-/// and that number only rises, since a write that the disk was done with never waits again.
+/// Writes by rising number. Numbers are consecutive, so a write is found by subtraction; a removed write leaves a
+/// hole until all before it are removed too. No write below `waiting` waits for the local disk, and that number only
+/// rises, since a write that the disk is done with never waits again.
 ///
-/// A call takes constant time, but for these. A removal drops the holes before the first write that is left,
-/// and the end of a write on the local disk passes the numbers up to the next one that waits: each number is
-/// dropped once and passed once, so this is constant time for each number that was accepted. `open`,
-/// `unanswered`, `unlink_all` and `release_rest` take time for each number from the first write on, `first_from`
-/// for each number from the one asked for to the answer, and `lacks_answer` and `release_all` for each number
-/// that they are given.
+/// A call takes constant time, except these. A removal drops the holes before the first remaining write, and a change
+/// by which the local disk is done with a write passes the numbers up to the next one that waits: each number is
+/// dropped once and passed once, so this is constant time for each accepted number. `open`, `unanswered`,
+/// `unlink_all` and `release_rest` take time for each number from the first write on, `first_from` for each number
+/// from `from` to the one that it returns, and `lacks_answer` and `release_all` for each number that they are given.
 #[derive(Drop)]
 pub(crate) struct Ring {
     first: u64,
@@ -44,7 +43,7 @@ impl Model for Ring {
 }
 
 impl Ring {
-    /// No write; the first has number 1.
+    /// Returns a ring without writes; the first one has number 1.
     pub(crate) fn new(alloc: Global) -> Ring
         ensures writes { result.writes ≡ [] }
         ensures next { result.next ≡ 1 }
@@ -57,7 +56,7 @@ impl Ring {
         }
     }
 
-    /// How many writes there are.
+    /// Returns how many writes there are.
     pub(crate) fn len(&self) -> u32
         ensures { result ≡ length self.now.writes }
     {
@@ -84,7 +83,7 @@ impl Ring {
         self.count += 1;
     }
 
-    /// The write with this number.
+    /// Returns the write with this number.
     pub(crate) fn get(&self, number: u64) -> Option<&Write>
         ensures { option_copied result ≡ write_at number self.now.writes }
     {
@@ -98,15 +97,15 @@ impl Ring {
         self.slots[index].as_ref()
     }
 
-    /// The first write that the local disk has to do.
+    /// Returns the first write that waits for the local disk.
     pub(crate) fn first_waiting(&self) -> Option<&Write>
         ensures { option_copied result ≡ find is_waiting self.now.writes }
     {
         self.get(self.lowest_waiting())
     }
 
-    /// The number of the first write that the local disk has to do, or the next number. Each change leaves
-    /// `waiting` there, so this takes constant time elsewhere.
+    /// Returns the number of the first write that waits for the local disk, or the next number. Each change sets
+    /// `waiting` to it, so this takes constant time elsewhere.
     fn lowest_waiting(&self) -> u64
         ensures lowest { write_at result self.now.writes ≡ find is_waiting self.now.writes }
         ensures from { Each (WaitsFrom result) self.now.writes }
@@ -120,7 +119,7 @@ impl Ring {
         self.end()
     }
 
-    /// The next write's number.
+    /// Returns the next write's number.
     fn end(&self) -> u64
         ensures { result ≡ self.now.next }
     {
@@ -136,11 +135,11 @@ impl Ring {
         }
     }
 
-    /// The first write whose number is `from` or more. It takes time for each number from there to the
-    /// answer.
+    /// Returns the first write whose number is `from` or more. It takes time for each number from `from` to the one
+    /// that it returns.
     pub(crate) fn first_from(&self, from: u64) -> Option<&Write>
         ensures first { option_copied result ≡ find (λ w. nat_le from w.number) self.now.writes }
-        // for callers that go on behind the answer
+        // for callers that go on from the returned write
         ensures rises { Rises 0 self.now.writes }
         ensures below { IfSome result (λ w. w.now.number < self.now.next) }
     {
@@ -152,7 +151,7 @@ impl Ring {
         None
     }
 
-    /// How many writes are neither completed nor failed.
+    /// Returns how many writes are neither completed nor failed.
     pub(crate) fn open(&self) -> u32
         ensures { result ≡ length (filter is_open self.now.writes) }
     {
@@ -167,7 +166,7 @@ impl Ring {
         count
     }
 
-    /// How many writes were sent on the connection that stands, and are not answered.
+    /// Returns how many writes were sent on the established connection and are not answered.
     pub(crate) fn unanswered(&self) -> u32
         ensures { result ≡ length (filter writes.is_unanswered self.now.writes) }
     {
@@ -182,7 +181,7 @@ impl Ring {
         count
     }
 
-    /// The change happens to the write with this number, if there is one. Answers what it did to it.
+    /// Applies the change to the write with this number, if there is one. Returns the effect on it.
     pub(crate) fn change(&mut self, number: u64, change: Change) -> Option<Turn>
         ensures next { self.new ≡ record self.old { writes = with_change number (changed change) self.old.writes } }
         ensures turn { result ≡ option_map (turn_of (changed change)) (write_at number self.old.writes) }
@@ -203,8 +202,9 @@ impl Ring {
         Some(turn)
     }
 
-    /// Takes out the write with this number, if it is released where all up to `confirmed` have the
-    /// acknowledgement of their epoch, and the holes before the first write that is left. It takes no memory.
+    /// Removes the write with this number and returns its release, if it is released given that the epochs of all
+    /// writes up to number `confirmed` are acknowledged. Drops the holes before the first remaining write. It takes
+    /// no memory.
     pub(crate) fn release(&mut self, number: u64, confirmed: u64) -> Option<Released>
         ensures release { result ≡ option_and_then (release_of confirmed) (write_at number self.old.writes) }
         ensures next { self.new ≡ record {
@@ -218,12 +218,12 @@ impl Ring {
         Some(release)
     }
 
-    /// Whether one of `count` writes from this number on is not answered.
+    /// Returns whether one of the `count` writes from number `first` on is not answered.
     pub(crate) fn lacks_answer(&self, first: u64, count: u64) -> bool
         requires { first + count < 2 ^ 64 }
         ensures { result ≡ list_any (λ w. is_between first count w.number && not w.answered) self.now.writes }
     {
-        // What the fields keep says that numbers rise.
+        // Proof hint: brings the invariant that numbers rise into scope.
         let _ = &self.first;
         for number in first..first + count {
             if self.is_unanswered(number) {
@@ -242,8 +242,9 @@ impl Ring {
         }
     }
 
-    /// Takes out each write from one number up to another that is released where all up to `confirmed` have
-    /// the acknowledgement of their epoch, and notes it in a list that has room. It takes no memory.
+    /// Removes each write with a number from `from` to below `to` that is released given that the epochs of all
+    /// writes up to number `confirmed` are acknowledged. Adds their releases to a list that has room. It takes no
+    /// memory.
     pub(crate) fn release_all(
         &mut self,
         from: u64,
@@ -260,15 +261,15 @@ impl Ring {
         ensures writes { self.new.writes ≡ filter (λ w. not (is_released confirmed w)) self.old.writes }
         ensures next { self.new.next ≡ self.old.next }
     {
-        // What the fields keep says that numbers rise.
+        // Proof hint: brings the invariant that numbers rise into scope.
         let _ = &self.first;
         for number in from..to {
             note(released, self.release(number, confirmed));
         }
     }
 
-    /// Takes out each write that is released where all up to `confirmed` have the acknowledgement of their
-    /// epoch, and notes it in a list that has room. It takes no memory.
+    /// Removes each write that is released given that the epochs of all writes up to number `confirmed` are
+    /// acknowledged. Adds their releases to a list that has room. It takes no memory.
     pub(crate) fn release_rest(&mut self, confirmed: u64, released: &mut Vec<Released>)
         requires { vec_len released.old + length self.old.writes ≤ vec_capacity released.old }
         ensures released { released.new.items ≡ released.old.items ++ map released_of (filter (is_released confirmed) self.old.writes) }
@@ -281,8 +282,8 @@ impl Ring {
         self.release_all(from, to, confirmed, released);
     }
 
-    /// Takes the connection from each write, and notes what is completed by that in a list that has room. It
-    /// takes no memory.
+    /// Takes the connection from each write. Adds each completion that this causes to a list that has room. It takes
+    /// no memory.
     pub(crate) fn unlink_all(&mut self, completed: &mut Vec<Completed>)
         requires { vec_len completed.old + length self.old.writes ≤ vec_capacity completed.old }
         ensures completed { completed.new.items
@@ -325,7 +326,7 @@ impl Ring {
     }
 }
 
-// The completion of a turn.
+// Returns the completion that a change caused.
 fn completion_in(turn: Option<Turn>) -> Option<Completed>
     ensures { result ≡ option_and_then (λ t. t.completion) turn }
 {

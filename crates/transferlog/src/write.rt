@@ -1,16 +1,16 @@
-//! A write in the transfer log, and its life.
+//! A write in the transfer log: its states and their changes.
 //!
 //! | State | Event (call) | State then |
 //! |---|---|---|
-//! | open | its frame stands in the link's queue (`sent`) | sent; under protocol A answered by that |
+//! | open | its frame is in the link's queue (`sent`) | sent; under protocol A also answered |
 //! | open, sent | RECV_ACK under B, WRITE_ACK under C (`acked`) | answered |
 //! | open, waiting for the local disk | the disk has it (`local_done`) | on disk |
 //! | open, waiting for the local disk | the disk failed (`local_fault`) | failed, never completed |
 //! | open, on disk and answered | at once | completed (linked) |
-//! | on disk or failed, linked | its epoch's BARRIER_ACK (`barrier_acked`), or it came before | released |
+//! | on disk or failed, linked | its epoch's BARRIER_ACK (`barrier_acked`), now or before | released |
 //! | linked | the connection is closed (`drain`) | without a connection |
-//! | open, on disk, without a connection | at once | completed (alone, where it is not answered) |
-//! | on disk or failed, without a connection | at once | released, clears nothing |
+//! | open, on disk, without a connection | at once | completed (without the peer unless it is answered) |
+//! | on disk or failed, without a connection | at once | released, clears no marks |
 ghost use Rattle.std.specs.Prelude.{◌≡◌, is_some, false};
 ghost use Rattle.blocks.specs.Contents.{blocks_of};
 ghost use Rattle.transferlog.specs.Writes.{awaits, completed_of, is_at, is_completed, is_open, is_released, is_settled, is_unanswered, release_of, turn_of};
@@ -55,10 +55,10 @@ impl Model for Write {
     } };
 }
 
-/// What may happen to a write.
+/// A change of a write's state.
 #[derive(Clone, Copy)]
 pub(crate) enum Change {
-    /// Its frame stands in the link's queue; whether that is the answer.
+    /// Its frame is in the link's queue; the flag says whether that answers it.
     Sent(bool),
     /// The peer answered as the protocol asks.
     Answered,
@@ -66,19 +66,19 @@ pub(crate) enum Change {
     OnDisk,
     /// The local disk failed it.
     Failed,
-    /// Its connection is gone.
+    /// Its connection is closed.
     Unlinked,
 }
 
 impl Write {
-    /// Its number.
+    /// Returns its number.
     pub fn number(&self) -> u64
         ensures { result ≡ self.now.number }
     {
         self.number
     }
 
-    /// Its blocks.
+    /// Returns its blocks.
     pub fn range(&self) -> Range
         ensures first { result.first.0 ≡ self.now.first }
         ensures count { result.count ≡ self.now.count }
@@ -86,7 +86,7 @@ impl Write {
         self.range
     }
 
-    /// What is to be written.
+    /// Returns the bytes that it writes.
     pub fn contents(&self) -> &Bytes
         ensures bytes { result.now ≡ self.now.contents }
         ensures blocks { blocks_of 4096 result.now ≡ self.now.blocks }
@@ -94,35 +94,35 @@ impl Write {
         &self.contents
     }
 
-    /// Where it stands in a connection's stream, if it does.
+    /// Returns its position in a connection's stream, if it has one.
     pub fn home(&self) -> Option<StreamPosition>
         ensures { result ≡ self.now.home }
     {
         self.home
     }
 
-    /// Whether it has a connection, and that stands.
+    /// Returns whether it has an established connection.
     pub fn is_linked(&self) -> bool
         ensures { result ≡ self.now.linked }
     {
         self.linked
     }
 
-    /// What the local disk did with it.
+    /// Returns what the local disk did with it.
     pub fn local(&self) -> Local
         ensures { result ≡ self.now.local }
     {
         self.local
     }
 
-    /// Whether it was sent.
+    /// Returns whether it was sent.
     pub fn is_sent(&self) -> bool
         ensures { result ≡ self.now.sent }
     {
         self.sent
     }
 
-    /// A write that the local disk has to do, at its home in a stream, or without one.
+    /// Returns a write that waits for the local disk, with its stream position if it has one.
     pub(crate) fn new(
         number: u64,
         range: Range,
@@ -154,7 +154,7 @@ impl Write {
         }
     }
 
-    /// The change happens to the write. Answers what that did to it.
+    /// Applies the change to the write. Returns the effect on it.
     pub(crate) fn apply(&mut self, change: Change) -> Turn
         ensures next { self.new ≡ changed change self.old }
         ensures turn { result ≡ turn_of (changed change) self.old }
@@ -198,7 +198,8 @@ impl Write {
         }
     }
 
-    /// Its release, if it is released where all up to `confirmed` have the acknowledgement of their epoch.
+    /// Returns its release, if it is released given that the epochs of all writes up to number `confirmed` are
+    /// acknowledged.
     pub(crate) fn release(&self, confirmed: u64) -> Option<Released>
         ensures { result ≡ release_of confirmed self.now }
     {
@@ -213,7 +214,7 @@ impl Write {
         })
     }
 
-    /// Whether it awaits this answer.
+    /// Returns whether it awaits this answer.
     pub(crate) fn awaits(&self, of: Named) -> bool
         ensures { result ≡ awaits of self.now }
     {
@@ -231,42 +232,42 @@ impl Write {
         }
     }
 
-    /// Whether it is answered.
+    /// Returns whether it is answered.
     pub(crate) fn is_answered(&self) -> bool
         ensures { result ≡ self.now.answered }
     {
         self.answered
     }
 
-    /// Whether it was sent on the connection that stands, and is not answered.
+    /// Returns whether it was sent on the established connection and is not answered.
     pub(crate) fn is_unanswered(&self) -> bool
         ensures { result ≡ is_unanswered self.now }
     {
         self.is_linked() && (self.is_sent() && !self.is_answered())
     }
 
-    /// Whether the local disk is done with it.
+    /// Returns whether the local disk is done with it: it is on disk or failed.
     pub(crate) fn is_settled(&self) -> bool
         ensures { result ≡ is_settled self.now }
     {
         self.local != Local::Waiting
     }
 
-    /// Whether it is completed.
+    /// Returns whether it is completed.
     pub(crate) fn is_completed(&self) -> bool
         ensures { result ≡ is_completed self.now }
     {
         self.local == Local::OnDisk && (self.answered || !self.linked)
     }
 
-    /// Whether it is neither completed nor failed.
+    /// Returns whether it is neither completed nor failed.
     pub(crate) fn is_open(&self) -> bool
         ensures { result ≡ is_open self.now }
     {
         !self.is_completed() && self.local != Local::Failed
     }
 
-    /// Whether it is released, where all up to `confirmed` have the acknowledgement of their epoch.
+    /// Returns whether it is released, given that the epochs of all writes up to number `confirmed` are acknowledged.
     pub(crate) fn is_released(&self, confirmed: u64) -> bool
         ensures { result ≡ is_released confirmed self.now }
     {

@@ -1,4 +1,4 @@
-//! Turns of threads at a locked node: in which role a thread does one, and what it did.
+//! Turns of threads at a locked node: the role of a turn, and what it did.
 #![tactic(auto)]
 
 mod roles;

@@ -1,6 +1,6 @@
 //! A turn of a thread at a locked node.
 
-/// The most steps of a turn: whoever has the lock does a handful of steps before it lets others in.
+/// The most steps of a turn: a thread that has the lock does a few steps before it lets others in.
 pub const STEPS: u32 = 32;
 
 /// What a turn did.
@@ -12,7 +12,7 @@ pub struct Turn {
     pub pushed: bool,
     /// Whether something happened for which a writer may wait: its write ended, or there may be room for it.
     pub told: bool,
-    /// The number of the connection that closed by itself in this turn.
+    /// The number of the connection that closed by itself in this turn, if one did.
     pub closed: Option<u32>,
 }
 

@@ -1,5 +1,5 @@
-//! A session over a link in this process: both nodes behind locks of their own, worked by threads, cut and reconnected
-//! while writers go on, and brought together at its end.
+//! A session over a link in this process: each node under a lock of its own, worked by threads. It can be cut and
+//! reconnected while writers go on, and its end joins both nodes.
 #![tactic(auto)]
 
 mod session;

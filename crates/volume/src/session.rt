@@ -27,7 +27,7 @@ pub type SessionLocal<R, L, S> = LocalHalf<R, NamedOut<R, There<L>>, NamedIn<R, 
 /// The secondary's half over a session's link.
 pub type SessionPeer<R, L, T> = PeerHalf<R, NamedOut<R, Back<L>>, NamedIn<R, There<L>>, T>;
 
-/// What any number of threads may share of a session over a link.
+/// The mirror of a session over a link, which any number of threads may share.
 pub type SessionMirror<R, L, S, T> = Mirror<R, SessionLocal<R, L, S>, SessionPeer<R, L, T>>;
 
 /// A running session over a link. It cannot be dropped: whoever starts it has to finish it.
@@ -41,12 +41,12 @@ impl<
     S: Store + Drop + Send + 'static,
     T: Store + Drop + Send + 'static,
 > Session<R, L, S, T> {
-    /// Starts a session over two disks and the two directions of a link, whose rows are the session's: does the
-    /// hello, and starts the threads.
+    /// Starts a session over two disks and the two directions of a link, whose rows are the session's: exchanges the
+    /// hellos, and starts the threads.
     ///
     /// `BadSetting` (15), `UsedIdentifier` (33) and the refusals of the hello (30 to 33) come as for the nodes;
-    /// `NoMemory` (7) if there is no memory, and if a thread cannot be started. Then nothing runs, and all that
-    /// was handed over is dropped.
+    /// `NoMemory` (7) if there is no memory, and if a thread cannot be started. Then nothing runs, and all that was
+    /// handed over is dropped.
     pub fn start(
         rt: R,
         alloc: Global,
@@ -89,18 +89,17 @@ impl<R: Threads + Wait + Clock + Drop, L: Linked, S: Store + Drop, T: Store + Dr
     S,
     T,
 > {
-    /// What any number of threads may share.
+    /// Returns the mirror, which any number of threads may share.
     pub fn mirror(&self) -> &SessionMirror<R, L, S, T> {
         self.running.mirror()
     }
 
-    /// Ends the session: cuts the link, lets the disks end all that is unfinished, stops the threads, and gives
-    /// both nodes back. `NotDrained` (36) if a node cannot be had back, which needs a thread that still shares
-    /// it.
+    /// Ends the session: cuts the link, lets the disks finish all pending work, stops the threads, and returns both
+    /// nodes. `NotDrained` (36) if a thread still shares a node.
     ///
-    /// Each node has a history whose connections all went over the session's link. Whichever these are, they are
-    /// joined: on each connection, what one end took begins what the other pushed, both ways. No connection of the
-    /// secondary has a number above the primary's last one, or 36 is answered, which no session brings about.
+    /// Each node has a history whose connections all used the session's link. All such histories are joined: on each
+    /// connection, what one end took begins what the other pushed, both ways. No connection of the secondary has a
+    /// number above the primary's last one; else 36 is returned, which no session brings about.
     pub fn finish(self) -> Result<(SessionPrimary<R, L, S>, SessionSecondary<R, L, T>), Refusal>
         ensures had { IfOk result (λ nodes. PrimaryIsHad nodes.0 × SecondaryIsHad nodes.1) }
         ensures joined { IfOk result (λ nodes. (p : PrimaryHistory) (s : SecondaryHistory) → PrimaryHas nodes.0 p → SecondaryHas nodes.1 s → IsJoined p s) }
@@ -119,7 +118,7 @@ impl<R: Threads + Wait + Clock + Drop, L: Linked, S: Store + Drop, T: Store + Dr
     }
 }
 
-// Both nodes of a session over a link, out of their locks and brought together.
+// Takes both nodes of a session over a link out of their locks, and joins them.
 fn into_nodes<R: Wait + Drop, L: Linked, S: Store + Drop, T: Store + Drop>(
     local: SessionLocal<R, L, S>,
     peer: SessionPeer<R, L, T>,

@@ -1,4 +1,4 @@
-//! A bell between two threads, one that waits and one that rings.
+//! Tests of a bell between two threads, one that waits and one that rings.
 use bell::Bell;
 use std::process::Abort;
 use std::sync::Wait;
@@ -6,7 +6,7 @@ use std::thread;
 use std::thread::Threads;
 use std::time::Clock;
 
-/// Each wait ends: where it rang meanwhile, where it is time to yield, and after a sleep.
+/// Waits and rings. Each wait ends: if the bell rang meanwhile, if it is time to yield, and after a sleep.
 fn wait_and_ring<R: Wait + Clock>(rt: &R, bell: &Bell) {
     let rings = bell.rings();
     bell.wait(rt, rings, 0);
@@ -16,7 +16,7 @@ fn wait_and_ring<R: Wait + Clock>(rt: &R, bell: &Bell) {
     bell.wait(rt, rings, 24);
 }
 
-/// A thread that does whatever there is, until it has seen `rings` rings.
+/// Does whatever there is, until it has seen `rings` rings.
 fn watch<R: Wait + Clock>(rt: &R, bell: &Bell, rings: u64) {
     bell.watch();
     let mut looks = 0u32;

@@ -1,4 +1,4 @@
-//! A secondary takes the frames that arrived as a whole, wherever the connection is lost.
+//! Tests that a secondary takes the frames that arrived whole, wherever the connection is lost.
 use crate::ends::{LostReader, LostWriter};
 use crate::receiver::{Peer, new_peer, open_peer, take_frames};
 use crate::sender::sent_bytes;
@@ -16,7 +16,7 @@ use std::time::Clock;
 /// The bytes of a hello (12, 16 and 40), of a write of one block (4,128) and of a barrier (16).
 const ALL_BYTES: usize = 4_212;
 
-/// How many frames are whole within the first `count` bytes.
+/// Returns how many frames are whole within the first `count` bytes.
 fn whole_frames(count: usize) -> u32 {
     match count {
         0..12 => 0,
@@ -31,7 +31,7 @@ fn whole_frames(count: usize) -> u32 {
 /// How a pump ends, and how many frames come.
 type Taken = (PumpEnd, Result<u32, Refusal>);
 
-/// What a secondary takes of what a reader gives.
+/// Has a secondary take what a reader gives. Returns how the pump ends, and how many frames come.
 fn taken<R: Wait + Clock + Drop, D: Read>(
     rt: &R,
     buffer: &mut Buffer,
@@ -44,7 +44,7 @@ fn taken<R: Wait + Clock + Drop, D: Read>(
     (end, take_frames(peer))
 }
 
-/// A secondary that gets what a reader gives takes the wanted number of frames, and then finds nothing.
+/// Checks that a secondary takes the wanted number of frames from a reader, and then finds nothing.
 fn takes<R: Wait + Clock + Copy + Drop + Abort, D: Read>(
     rt: R,
     alloc: Global,
@@ -63,7 +63,7 @@ fn is(rt: &impl Abort, found: Taken, wanted: Taken) {
     assert_eq!(rt; found, wanted);
 }
 
-/// The bytes that a writer gets which fails after `left` of them.
+/// Returns the bytes that a writer gets if it fails after `left` of them.
 fn written<R: Wait + Clock>(
     rt: &R,
     alloc: Global,
@@ -84,7 +84,7 @@ fn written<R: Wait + Clock>(
     writer.got
 }
 
-/// The bytes that arrive over a connection which is lost after `left` of them.
+/// Returns the bytes that arrive over a connection that is lost after `left` of them.
 fn arrived<R: Wait + Clock + Copy + Drop + Abort>(
     rt: R,
     alloc: Global,
@@ -99,14 +99,14 @@ fn arrived<R: Wait + Clock + Copy + Drop + Abort>(
     got
 }
 
-/// What the primary sends: all of these bytes.
+/// Returns all bytes that the primary sends.
 fn all_bytes<R: Wait + Copy + Drop + Abort>(rt: R, alloc: Global) -> Vec<u8> {
     let sent = sent_bytes(rt, alloc);
     assert_eq!(&rt; sent.len(), ALL_BYTES);
     sent
 }
 
-/// The reader of the secondary's pump fails after each byte.
+/// Checks what comes if the reader of the secondary's pump fails after each byte.
 fn reading_is_lost<R: Wait + Clock + Copy + Drop + Abort>(rt: R, alloc: Global) {
     let sent = all_bytes(rt, alloc);
     let bytes = sent.as_slice();
@@ -120,7 +120,7 @@ fn reading_is_lost<R: Wait + Clock + Copy + Drop + Abort>(rt: R, alloc: Global) 
     }
 }
 
-/// The writer of the primary's pump fails after each byte.
+/// Checks what comes if the writer of the primary's pump fails after each byte.
 fn writing_is_lost<R: Wait + Clock + Copy + Drop + Abort>(rt: R, alloc: Global) {
     let sent = all_bytes(rt, alloc);
     let bytes = sent.as_slice();

@@ -3,7 +3,7 @@ use std::io;
 use std::io::{ErrorKind, Read, Write};
 use std::sync::atomic::{AtomicBool, Ordering};
 
-/// Gives these bytes, and then fails.
+/// A reader that gives these bytes, and then fails.
 #[derive(Drop)]
 pub(crate) struct LostReader<'a> {
     pub(crate) rest: &'a [u8],
@@ -21,7 +21,8 @@ impl Read for LostReader<'_> {
     }
 }
 
-/// Takes `left` bytes, and then fails. It asks for a stop at each write, so that its pump ends in any case.
+/// A writer that takes `left` bytes, and then fails. It asks for a stop at each write, so that its pump ends in any
+/// case.
 #[derive(Drop)]
 pub(crate) struct LostWriter<'a> {
     pub(crate) stop: &'a AtomicBool,

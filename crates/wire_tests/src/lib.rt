@@ -1,5 +1,5 @@
-//! Tests by calls of what goes over streams: by pumps alone, and by those of a node whose connection is lost after each byte;
-//! and of the bells on which threads wait.
+//! Tests by calls of what goes over streams: by pumps alone, and by those of a node whose connection is lost after each
+//! byte; and of the bells on which threads wait.
 #![tactic(auto)]
 
 #[cfg(test)]

@@ -12,14 +12,14 @@ use std::sync::Wait;
 /// A secondary over a link between threads.
 pub(crate) type Peer<R> = Secondary<RuledOut<R>, RuledIn<R>, MemStore>;
 
-/// A secondary over a zero-filled disk of 8 blocks.
+/// Makes a secondary over a zero-filled disk of 8 blocks.
 pub(crate) fn new_peer<R: Wait + Drop>(rt: &impl Abort, alloc: Global) -> Peer<R> {
     let disk = MemStore::zeroed(alloc, 8).expect(rt, "memory");
     let tuple = Tuple::new(1, 0, 0, 0);
     Secondary::new(alloc, Settings::STANDARD, disk, tuple).expect(rt, "a secondary")
 }
 
-/// Opens a secondary. It takes what is pushed at the end of the row that is returned, and has another end to send by.
+/// Opens a secondary, which sends over `back`. It takes what is pushed into the row whose end this returns.
 pub(crate) fn open_peer<R: Wait + Copy + Drop + Abort>(
     rt: R,
     alloc: Global,
@@ -35,7 +35,7 @@ pub(crate) fn open_peer<R: Wait + Copy + Drop + Abort>(
     outward
 }
 
-/// Has a secondary take frames until there is none, and counts them.
+/// Has a secondary take frames until there is none. Returns how many.
 pub(crate) fn take_frames<R: Wait + Drop>(peer: &mut Peer<R>) -> Result<u32, Refusal> {
     for count in 0..u32::MAX {
         match peer.receive() {

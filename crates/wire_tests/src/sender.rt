@@ -18,7 +18,7 @@ const TURNS: u32 = 20;
 /// A primary over a link between threads.
 type Local<R> = Primary<RuledOut<R>, RuledIn<R>, MemStore>;
 
-/// A primary over a zero-filled disk of 8 blocks.
+/// Makes a primary over a zero-filled disk of 8 blocks.
 fn new_local<R: Wait + Drop>(rt: &impl Abort, alloc: Global) -> Local<R> {
     let disk = MemStore::zeroed(alloc, 8).expect(rt, "memory");
     let marks = Vec::from_elem(alloc, false, 8).expect(rt, "memory");
@@ -26,7 +26,7 @@ fn new_local<R: Wait + Drop>(rt: &impl Abort, alloc: Global) -> Local<R> {
     Primary::new(alloc, Settings::STANDARD, disk, tuple, marks).expect(rt, "a primary")
 }
 
-/// Opens a primary. What it sends comes out of the row that is returned, and what it takes comes from another end.
+/// Opens a primary, which takes from `inward`. What it sends comes out of the row whose end this returns.
 fn open_local<R: Wait + Copy + Drop + Abort>(
     rt: R,
     alloc: Global,
@@ -41,7 +41,7 @@ fn open_local<R: Wait + Copy + Drop + Abort>(
     sent
 }
 
-/// Has both nodes do what they can. What has nothing to do is refused, and changes nothing.
+/// Has both nodes do what they can. A call that has nothing to do is refused, and changes nothing.
 fn turn<R: Wait + Drop>(local: &mut Local<R>, peer: &mut Peer<R>) {
     if let Some(number) = local.next_local() {
         let _ = local.local(number);
@@ -55,7 +55,7 @@ fn turn<R: Wait + Drop>(local: &mut Local<R>, peer: &mut Peer<R>) {
     let _ = local.ack_in();
 }
 
-/// The link from a primary to its secondary, which is tapped.
+/// The tapped link from a primary to its secondary.
 #[derive(Drop)]
 struct Tap<R: Wait> {
     sent: PieceIn<R>,
@@ -96,7 +96,7 @@ fn submit<R: Wait + Drop>(rt: &impl Abort, alloc: Global, local: &mut Local<R>) 
     let _ = local.submit(2, &contents);
 }
 
-/// The bytes that a primary sends to a new secondary, which sends back over this end: both exchange their hellos,
+/// Returns the bytes that a primary sends to a new secondary, which sends back over `back`: both exchange their hellos,
 /// and then the primary writes.
 fn sent_to_peer<R: Wait + Copy + Drop + Abort>(
     rt: R,
@@ -120,7 +120,7 @@ fn sent_to_peer<R: Wait + Copy + Drop + Abort>(
     tap.bytes
 }
 
-/// The bytes that a primary sends to a secondary over a disk like its own, with one write, under protocol C.
+/// Returns the bytes that a primary sends to a secondary over a disk like its own, with one write, under protocol C.
 pub(crate) fn sent_bytes<R: Wait + Copy + Drop + Abort>(rt: R, alloc: Global) -> Vec<u8> {
     let (back, at_local) = ruled(rt, alloc, 4).expect(&rt, "a link");
     let mut local = new_local(&rt, alloc);

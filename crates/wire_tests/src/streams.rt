@@ -1,4 +1,4 @@
-//! Both pumps over readers and writers that give and take little at a time, fail, and ask for a stop.
+//! Tests of both pumps over readers and writers that give and take little at a time, fail, and ask for a stop.
 use bell::Bell;
 use pumps::{Buffer, PumpEnd, pump_in, pump_out};
 use ruled_link::{Piece, PieceIn, PieceOut, row};
@@ -10,8 +10,8 @@ use std::sync::Wait;
 use std::sync::atomic::{AtomicBool, Ordering};
 use std::time::Clock;
 
-/// Asks for a stop at each write, takes at most `step` bytes, and fails once it took `left`. Each second call
-/// is interrupted.
+/// A writer that asks for a stop at each write, takes at most `step` bytes, and fails after it took `left`. Every
+/// second call is interrupted.
 #[derive(Drop)]
 struct Trickle<'a> {
     stop: &'a AtomicBool,
@@ -42,8 +42,8 @@ impl Write for Trickle<'_> {
     }
 }
 
-/// Asks for a stop at each read if `stops`, gives at most `step` bytes, and fails once it gave `left`. Each
-/// second call is interrupted.
+/// A reader that asks for a stop at each read if `stops`, gives at most `step` bytes, and fails after it gave `left`.
+/// Every second call is interrupted.
 #[derive(Drop)]
 struct Drip<'a> {
     stop: &'a AtomicBool,
@@ -73,7 +73,7 @@ impl Read for Drip<'_> {
     }
 }
 
-/// `len` bytes that count up and begin again after 251.
+/// Returns `len` bytes that count up, and begin again after 251.
 fn counted(rt: &impl Abort, alloc: Global, len: usize) -> Vec<u8> {
     let mut bytes = Vec::with_capacity(alloc, len).expect(rt, "memory");
     for at in 0..len {
@@ -89,7 +89,7 @@ fn push_each<R: Wait>(rt: &impl Abort, outward: &mut PieceOut<R>, bytes: &[u8]) 
     }
 }
 
-/// Takes all pieces of a row, and returns their bytes.
+/// Takes all pieces of a row. Returns their bytes.
 fn drain<R: Wait>(rt: &impl Abort, alloc: Global, inward: &mut PieceIn<R>) -> Vec<u8> {
     let mut bytes = Vec::new(alloc);
     for _ in 0..u64::MAX {
@@ -101,14 +101,14 @@ fn drain<R: Wait>(rt: &impl Abort, alloc: Global, inward: &mut PieceIn<R>) -> Ve
     bytes
 }
 
-/// Whether a part is the first `count` bytes.
+/// Returns whether a part is the first `count` bytes.
 fn is_front(bytes: &[u8], part: &[u8], count: usize) -> bool {
     part.len() == count && bytes.starts_with(part)
 }
 
-/// The bytes that a write takes at most, and that a writer takes until it fails; why the pump ends, and the
-/// bytes that the writer then has of 70 pieces of 1,000 bytes. A buffer is full with 65 of them, and a stop
-/// leaves the others in the row.
+/// The bytes that a write takes at most, and that a writer takes until it fails; why the pump ends, and the bytes that
+/// the writer then has of 70 pieces of 1,000 bytes. A buffer is full with 65 of them, and a stop leaves the others in
+/// the row.
 type Writer = (usize, usize, PumpEnd, usize);
 
 const WRITERS: [Writer; 6] = [
@@ -120,7 +120,7 @@ const WRITERS: [Writer; 6] = [
     (1_400, 3_001, PumpEnd::Failed, 3_001),
 ];
 
-/// Writes what is in a row, and says why the pump ended and what the writer got.
+/// Writes what is in a row. Returns why the pump ended and what the writer got.
 fn written<R: Wait + Clock>(
     rt: &R,
     alloc: Global,
@@ -140,7 +140,7 @@ fn written<R: Wait + Clock>(
     (ended, writer.got)
 }
 
-/// A writer gets the bytes of the row's pieces in order, which are these. Gives what it got.
+/// Checks that a writer gets the bytes of the row's pieces, these, in order. Returns what it got.
 fn is_written<R: Wait + Clock + Abort>(
     rt: &R,
     alloc: Global,
@@ -157,7 +157,7 @@ fn is_written<R: Wait + Clock + Abort>(
     got
 }
 
-/// These bytes come out of the other pump.
+/// Checks that these bytes come out of the other pump.
 fn comes_in<R: Wait + Clock + Abort>(
     rt: &R,
     alloc: Global,
@@ -172,7 +172,7 @@ fn comes_in<R: Wait + Clock + Abort>(
     assert!(rt; drain(rt, alloc, inward).as_slice() == bytes);
 }
 
-/// A writer gets the bytes of the row's pieces in order, and what it got comes out of the other pump.
+/// Checks that a writer gets the bytes of the row's pieces in order, and that what it got comes out of the other pump.
 fn carries<R: Wait + Clock + Copy + Drop + Abort>(rt: R, alloc: Global, writer: Writer) {
     let bytes = counted(&rt, alloc, 70_000);
     let mut buffer = Buffer::new(alloc).expect(&rt, "memory");
@@ -189,8 +189,8 @@ fn a_writer_gets_the_pieces_in_order(rt: HostRuntime) {
     }
 }
 
-/// The bytes that a read gives at most, and that a reader gives until it fails; whether it asks for a stop,
-/// and the row's room in pieces. Why the pump ends, and the bytes that it pushed of 3,000.
+/// The bytes that a read gives at most, and that a reader gives until it fails; whether it asks for a stop, and the
+/// row's room in pieces; why the pump ends, and the bytes that it pushed of 3,000.
 type Reader = (usize, usize, bool, usize, PumpEnd, usize);
 
 const READERS: [Reader; 6] = [
@@ -202,7 +202,7 @@ const READERS: [Reader; 6] = [
     (usize::MAX, usize::MAX, true, 2, PumpEnd::Stopped, 2_800),
 ];
 
-/// Pushes what a reader gives of these bytes into a row, and says why the pump ended.
+/// Pushes what a reader gives of these bytes into a row. Returns why the pump ended.
 fn pushed<R: Wait + Clock>(
     rt: &R,
     outward: &mut PieceOut<R>,
@@ -222,7 +222,7 @@ fn pushed<R: Wait + Clock>(
     pump_in(rt, outward, &mut reader, buffer, &stop, &Bell::new())
 }
 
-/// What a reader gives comes out of the row in order.
+/// Checks that what a reader gives comes out of the row in order.
 fn takes<R: Wait + Clock + Copy + Drop + Abort>(
     rt: R,
     alloc: Global,

@@ -15,7 +15,7 @@ pub(crate) struct Difference<'a> {
 struct Line<'a>(Option<&'a [u8]>);
 
 impl<'a> Difference<'a> {
-    /// The first difference; none if the texts are equal to the byte.
+    /// Returns the first difference; none if the texts are equal to the byte.
     pub(crate) fn first(wanted: &'a [u8], got: &'a [u8]) -> Option<Difference<'a>> {
         if wanted == got {
             return None;
@@ -39,7 +39,7 @@ impl<'a> Difference<'a> {
 }
 
 impl<'a> Line<'a> {
-    /// The line of a text after its first `before` lines.
+    /// Returns the line of a text after its first `before` lines.
     fn after(text: &'a [u8], before: usize) -> Line<'a> {
         Line(text.split_inclusive(|byte| *byte == b'\n').nth(before))
     }

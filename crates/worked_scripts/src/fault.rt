@@ -4,7 +4,7 @@ use std::{fmt, io};
 /// Why a script is not run, with its name.
 #[derive(Drop)]
 pub(crate) enum Fault<'a> {
-    /// The name is empty, begins with a point or has a slash.
+    /// The name is empty, begins with a dot or has a slash.
     NotPlain(&'a str),
     /// The file of this name with this ending cannot be read.
     Unread(&'a str, &'static str, io::Error),

@@ -14,7 +14,7 @@ pub(crate) struct Outcome {
 }
 
 impl Outcome {
-    /// Runs a script.
+    /// Runs a script. Returns its outcome.
     pub(crate) fn of(alloc: Global, commands: &[u8]) -> Outcome {
         let mut out = Vec::new(alloc);
         let mut err = Vec::new(alloc);
@@ -24,7 +24,7 @@ impl Outcome {
     }
 
     /// Compares this outcome with the expected one. Prints `NAME ok`, or a line for each of the three parts that
-    /// differs, and returns whether it is ok.
+    /// differs. Returns whether it is ok.
     pub(crate) fn compare<W: Write>(
         &self,
         expected: &Outcome,

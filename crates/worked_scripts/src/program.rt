@@ -8,9 +8,9 @@ use std::io;
 use std::io::{Read, Write};
 use std::rt::Files;
 
-/// Runs the scripts that `input` names, one a line, from files in the current folder. Prints for each script whether its
-/// outcome is as its files expect, and returns the exit status: 0 if all outcomes are; 1 if one is not, a name is not plain, a
-/// file cannot be read or the output cannot be written; 2 if there is no name.
+/// Runs the scripts that `input` names, one a line, from files in the current folder. Prints for each script whether
+/// its outcome is as its files expect. Returns the exit status: 0 if all outcomes are; 1 if one is not, a name is not
+/// plain, a file cannot be read or the output cannot be written; 2 if there is no name.
 pub fn run_on<H: Files + AllocGlobal, R: Read, W: Write, E: Write>(
     rt: &H,
     input: &mut R,
@@ -54,7 +54,7 @@ fn run_named<H: Files + AllocGlobal, W: Write>(
     run_each(rt, text, out).map_err(Stop::Unwritten)
 }
 
-/// Runs the scripts of these names, and prints at the end how many of them are as expected.
+/// Runs the scripts of these names, and then prints how many of them are as expected.
 fn run_each<H: Files + AllocGlobal, W: Write>(
     rt: &H,
     names: &str,
@@ -76,7 +76,7 @@ fn run_each<H: Files + AllocGlobal, W: Write>(
     }
 }
 
-/// Runs one script. Prints `NAME ok`, what differs, or why it is not run, and returns whether it is ok.
+/// Runs one script. Prints `NAME ok`, what differs, or why it is not run. Returns whether it is ok.
 fn is_as_expected<H: Files + AllocGlobal, W: Write>(
     rt: &H,
     name: &str,

@@ -15,9 +15,9 @@ pub(crate) struct WorkedScript {
 }
 
 impl WorkedScript {
-    /// Reads `NAME.script` and `NAME.out`, and if they exist `NAME.err` and `NAME.status`. Without `NAME.err` the expected
-    /// standard error is empty, and without `NAME.status` the expected status is 0. The name is plain: its files lie in the
-    /// current folder.
+    /// Reads `NAME.script` and `NAME.out`, and if they exist `NAME.err` and `NAME.status`. Without `NAME.err` the
+    /// expected standard error is empty, and without `NAME.status` the expected status is 0. The name is plain: its
+    /// files lie in the current folder.
     pub(crate) fn read<'a, H: Files + AllocGlobal>(
         rt: &H,
         name: &'a str,
@@ -35,18 +35,18 @@ impl WorkedScript {
         Outcome::of(alloc, &self.commands)
     }
 
-    /// The outcome that its files expect.
+    /// Returns the outcome that its files expect.
     pub(crate) fn expected(&self) -> &Outcome {
         &self.expected
     }
 }
 
-/// Whether the files of a name lie in the current folder, and are not hidden.
+/// Returns whether the files of a name lie in the current folder, and are not hidden.
 fn is_plain(name: &str) -> bool {
     !name.is_empty() && !name.starts_with('.') && !name.contains('/')
 }
 
-/// The outcome that the files of a script expect.
+/// Reads the outcome that the files of a script expect.
 fn expected<'a, H: Files + AllocGlobal>(rt: &H, name: &'a str) -> Result<Outcome, Fault<'a>> {
     let out = required(rt, name, "out")?;
     let err = optional(rt, name, "err")?.unwrap_or_else(|| Vec::new(rt.alloc()));
@@ -54,7 +54,7 @@ fn expected<'a, H: Files + AllocGlobal>(rt: &H, name: &'a str) -> Result<Outcome
     Ok(Outcome { out, err, status })
 }
 
-/// The exit status that they expect.
+/// Reads the exit status that they expect.
 fn status<'a, H: Files + AllocGlobal>(rt: &H, name: &'a str) -> Result<u8, Fault<'a>> {
     match optional(rt, name, "status")? {
         Some(digits) => number(&digits).ok_or(Fault::NoStatus(name)),
@@ -62,7 +62,7 @@ fn status<'a, H: Files + AllocGlobal>(rt: &H, name: &'a str) -> Result<u8, Fault
     }
 }
 
-/// The bytes of a file.
+/// Reads the bytes of a file.
 fn required<'a, H: Files + AllocGlobal>(
     rt: &H,
     name: &'a str,
@@ -74,7 +74,7 @@ fn required<'a, H: Files + AllocGlobal>(
     }
 }
 
-/// The bytes of a file, if it exists.
+/// Reads the bytes of a file, if it exists.
 fn optional<'a, H: Files + AllocGlobal>(
     rt: &H,
     name: &'a str,
@@ -92,7 +92,7 @@ fn bytes_of<H: Files + AllocGlobal>(rt: &H, name: &str, ending: &str) -> io::Res
     fs::read(rt, file.as_str())
 }
 
-/// The number from 0 to 255 that a line spells.
+/// Returns the number from 0 to 255 that a line spells.
 fn number(line: &[u8]) -> Option<u8> {
     let text = std::str::from_utf8(line).ok()?;
     let digits = text.strip_suffix('\n').unwrap_or(text);

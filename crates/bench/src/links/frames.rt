@@ -11,7 +11,7 @@ use std::alloc::Global;
 use std::sync::Wait;
 use std::thread;
 
-/// The frame of a packet is whole.
+/// Encodes a packet. The frame is whole.
 fn spelled(alloc: Global, packet: &Packet) -> Result<Frame, Refusal>
     requires { IsSpellable packet.now }
     ensures { IfOk result (λ frame. IsCut frame) }
@@ -29,12 +29,12 @@ pub(crate) enum Sample {
 }
 
 impl Sample {
-    /// A write of one block.
+    /// Makes a write of one block.
     pub(crate) fn write(alloc: Global) -> anyhow::Result<Sample> {
         Ok(Sample::Write(Bytes::copy_from_slice(alloc, &[0x5A; 4096])?))
     }
 
-    /// Bytes of its frame.
+    /// Returns the number of bytes of its frame.
     pub(crate) fn bytes(&self) -> usize {
         match self {
             Sample::Write(_) => 4128,
@@ -42,7 +42,7 @@ impl Sample {
         }
     }
 
-    /// Its frame, encoded.
+    /// Encodes its frame.
     pub(crate) fn frame(&self, alloc: Global) -> Result<Frame, Refusal>
         ensures { IfOk result (λ frame. IsCut frame) }
     {
@@ -53,7 +53,7 @@ impl Sample {
     }
 }
 
-/// The frame of a write of one block.
+/// Encodes the frame of a write of one block.
 fn write(alloc: Global, contents: &Bytes) -> Result<Frame, Refusal>
     ensures { IfOk result (λ frame. IsCut frame) }
 {
@@ -71,7 +71,7 @@ fn write(alloc: Global, contents: &Bytes) -> Result<Frame, Refusal>
     )
 }
 
-/// The frame of an acknowledgement of one block.
+/// Encodes the frame of an acknowledgement of one block.
 fn acknowledgement(alloc: Global) -> Result<Frame, Refusal>
     ensures { IfOk result (λ frame. IsCut frame) }
 {

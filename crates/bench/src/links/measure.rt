@@ -15,10 +15,10 @@ use std::time::{Duration, Instant};
 /// Bytes of the frame of a write of one block.
 const FRAME_BYTES: usize = 4128;
 
-/// So many of the largest frames stand in the row, as by default.
+/// How many of the largest frames the row holds, as by default.
 const LINK: u32 = 64;
 
-/// Writes the number of frames, and how fast they went; each has this many bytes.
+/// Writes the number of frames and their rate; each has this many bytes.
 fn report(
     rt: &HostRuntime,
     what: &str,
@@ -36,7 +36,7 @@ fn report(
     Ok(())
 }
 
-/// A plain copy of the bytes of `count` frames, piece by piece.
+/// Measures a plain copy of the bytes of `count` frames, piece by piece.
 pub(crate) fn copied(rt: &HostRuntime, alloc: Global, count: u32) -> anyhow::Result<()> {
     let frame = Vec::from_elem(alloc, 0x5Au8, FRAME_BYTES)?;
     let mut buffer = Vec::with_capacity(alloc, FRAME_BYTES)?;
@@ -50,7 +50,7 @@ pub(crate) fn copied(rt: &HostRuntime, alloc: Global, count: u32) -> anyhow::Res
     report(rt, "copied", count, FRAME_BYTES, start.elapsed(rt)?)
 }
 
-/// The buffers that are made for `count` frames, each for the longest one.
+/// Measures the buffers that are made for `count` frames, each for the longest frame.
 pub(crate) fn buffers(rt: &HostRuntime, alloc: Global, count: u32) -> anyhow::Result<()> {
     let start = Instant::now(rt)?;
     for _ in 0..count {
@@ -59,7 +59,7 @@ pub(crate) fn buffers(rt: &HostRuntime, alloc: Global, count: u32) -> anyhow::Re
     report(rt, "buffers", count, FRAME_BYTES, start.elapsed(rt)?)
 }
 
-/// So many frames, encoded and dropped.
+/// Measures `count` frames, encoded and dropped.
 pub(crate) fn encoded(
     rt: &HostRuntime,
     alloc: Global,
@@ -74,7 +74,7 @@ pub(crate) fn encoded(
     report(rt, what, count, sample.bytes(), start.elapsed(rt)?)
 }
 
-/// Sends a frame and takes it, `count` times.
+/// Sends a frame and takes it, `count` times. Returns how many had the sample's length.
 fn both<R: Wait, O: FrameOut, I: FrameIn>(
     rt: &R,
     alloc: Global,
@@ -95,7 +95,7 @@ fn both<R: Wait, O: FrameOut, I: FrameIn>(
     Ok(taken)
 }
 
-/// So many frames, encoded, sent and taken in one thread.
+/// Measures `count` frames, encoded, sent and taken in one thread.
 pub(crate) fn one_thread<R: Wait>(
     rt: &R,
     host: &HostRuntime,
@@ -141,7 +141,7 @@ fn receive_all<R: Wait, I: FrameIn>(
     Ok(taken)
 }
 
-/// So many frames, encoded and sent in one thread and taken in another.
+/// Measures `count` frames, encoded and sent in one thread and taken in another.
 pub(crate) fn two_threads<R: Threads + Wait + Sync>(
     rt: &R,
     host: &HostRuntime,

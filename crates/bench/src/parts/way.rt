@@ -12,10 +12,10 @@ use std::alloc::Global;
 use std::collections::VecDeque;
 use transferlog::{Accepted, Answer, Local, Named, Released, TransferLog};
 
-/// From one write's block to the next one's: odd, so that each block of the device has its turn.
+/// The distance from one write's block to the next one's: odd, so that each block of the device has its turn.
 const STRIDE: u64 = 100_003;
 
-/// What became of the writes.
+/// Counts of the writes.
 #[derive(Clone, Copy)]
 pub(crate) struct Counts {
     /// How many were completed.
@@ -24,13 +24,13 @@ pub(crate) struct Counts {
     pub(crate) epochs: u64,
     /// How many were released.
     pub(crate) released: u64,
-    /// How many of these cleared their block's mark.
+    /// How many of the released ones cleared their block's mark.
     pub(crate) cleared: u64,
 }
 
-/// The parts, and the writes of one block each that go through them. As many writes as asked are in flight,
-/// which is in the log: the newest half is open, and at most one on each block; the oldest epoch is
-/// acknowledged once there is no room for another write.
+/// The parts, and the writes of one block each that go through them. As many writes as asked are in flight, that is, in
+/// the log. The newest half is open, and at most one on each block. The oldest epoch is acknowledged once there is no
+/// room for another write.
 #[derive(Drop)]
 pub(crate) struct Way {
     blocks: u32,
@@ -44,12 +44,12 @@ pub(crate) struct Way {
     contents: Bytes,
     first_open: u64,
     in_last_epoch: u32,
-    // The barriers that are not acknowledged, with their epochs' sizes.
+    // The unacknowledged barriers, with their epochs' sizes.
     barriers: VecDeque<(u32, u32)>,
     counts: Counts,
 }
 
-/// `UnknownJob` (16) unless what a part asks of its caller holds.
+/// Checks what a part requires of its caller. `UnknownJob` (16) unless that holds.
 fn owed(holds: bool) -> Result<(), Refusal>
     ensures { OnOk result (holds ≡ true) }
 {
@@ -60,7 +60,7 @@ fn owed(holds: bool) -> Result<(), Refusal>
     }
 }
 
-/// Whether the write may be sent.
+/// Returns whether the write may be sent.
 fn may_be_sent(log: &TransferLog, number: u64) -> bool
     ensures { result ≡ true → IsSomeAnd (write_at number log.now.state.writes) (λ w. (w.linked ≡ true) × (w.sent ≡ false)) }
 {
@@ -70,7 +70,7 @@ fn may_be_sent(log: &TransferLog, number: u64) -> bool
     }
 }
 
-/// Whether the local disk has the write to do.
+/// Returns whether the local disk has yet to do the write.
 fn is_waiting(log: &TransferLog, number: u64) -> bool
     ensures { result ≡ true → IsSomeAnd (write_at number log.now.state.writes) (λ w. w.local ≡ Waiting) }
 {
@@ -80,19 +80,19 @@ fn is_waiting(log: &TransferLog, number: u64) -> bool
     }
 }
 
-/// The local disk has the write. `UnknownJob` (16) where it has not that to do.
+/// Records that the local disk has the write. `UnknownJob` (16) unless the disk has yet to do it.
 fn store(log: &mut TransferLog, number: u64) -> Result<Option<u32>, Refusal> {
     owed(is_waiting(log, number))?;
     Ok(log.local_done(number))
 }
 
-/// The peer's disk has the write. `UnknownJob` (16) where it was not sent.
+/// Records that the peer's disk has the write. `UnknownJob` (16) if the write has no place in a stream.
 fn answer(log: &mut TransferLog, number: u64) -> Result<Option<u32>, Refusal> {
     let named = named(log, number).ok_or(Refusal::UnknownJob)?;
     log.acked(Answer::Written, named)
 }
 
-/// How the peer names the write.
+/// Returns how the peer names the write.
 fn named(log: &TransferLog, number: u64) -> Option<Named> {
     let write = log.get(number)?;
     let home = write.home()?;
@@ -105,14 +105,14 @@ fn named(log: &TransferLog, number: u64) -> Option<Named> {
     })
 }
 
-/// The write's frame stands in the link's queue. `UnknownJob` (16) where it stood there before.
+/// Records that the write's frame is in the link's queue. `UnknownJob` (16) unless it is linked and not sent yet.
 fn send(log: &mut TransferLog, number: u64) -> Result<Option<u32>, Refusal> {
     owed(may_be_sent(log, number))?;
     Ok(log.sent(number))
 }
 
-/// A write is accepted. `JournalFull` (5) and `StreamFull` (6) where there were too many, else what the log
-/// answers.
+/// Accepts a write. `JournalFull` (5) and `StreamFull` (6) if there were too many, `UnknownJob` (16) if the log has no
+/// such block; otherwise returns what the log returns.
 fn accept(log: &mut TransferLog, range: Range, contents: Bytes) -> Result<Accepted, Refusal>
     requires { range.count ≡ 1 }
 {
@@ -126,20 +126,20 @@ fn accept(log: &mut TransferLog, range: Range, contents: Bytes) -> Result<Accept
     log.accept(range, contents)
 }
 
-/// A write begins in its extent. `UnknownJob` (16) where the extent has too many.
+/// Begins a write in its extent. `UnknownJob` (16) if the extent has too many.
 fn begin(activity: &mut ActivityLog, extent: Extent) -> Result<(), Refusal> {
     owed(activity.writes(extent) < 1_048_576)?;
     activity.begin(extent)
 }
 
-/// A write of the extent is released. `UnknownJob` (16) where it has none.
+/// Ends a released write of the extent. `UnknownJob` (16) if the extent has none.
 fn end(activity: &mut ActivityLog, extent: Extent) -> Result<(), Refusal> {
     owed(activity.writes(extent) > 0)?;
     activity.end(extent);
     Ok(())
 }
 
-/// A bitmap without marks, for a device of this many blocks.
+/// Makes a bitmap without marks, for a device of this many blocks.
 fn unmarked(alloc: Global, blocks: u32) -> Result<Bitmap, Refusal>
     requires { blocks ≤ 262144 }
 {
@@ -147,7 +147,7 @@ fn unmarked(alloc: Global, blocks: u32) -> Result<Bitmap, Refusal>
     Bitmap::from_marks(alloc, &marks)
 }
 
-/// The write's block is marked. `BadRange` (1) where the device has no such block.
+/// Marks the write's block. `BadRange` (1) if the device has no such block.
 fn mark(bitmap: &mut Bitmap, range: Range) -> Result<(), Refusal>
     requires { range.count ≡ 1 }
 {
@@ -158,7 +158,7 @@ fn mark(bitmap: &mut Bitmap, range: Range) -> Result<(), Refusal>
     Ok(())
 }
 
-/// A released write's block is marked no more, where the release clears it.
+/// Clears the mark of a released write's block, if the release clears it. Returns whether it does.
 fn clear(log: &TransferLog, bitmap: &mut Bitmap, released: &Released) -> bool {
     let block = Block(released.first);
     let clears = log.clears(released, block) && block.0 < bitmap.len();
@@ -168,7 +168,7 @@ fn clear(log: &TransferLog, bitmap: &mut Bitmap, released: &Released) -> bool {
     clears
 }
 
-/// A write holds its range. `Conflict` (2) where another one holds a block of it.
+/// Has a write hold its range. `Conflict` (2) if another write holds a block of it.
 fn hold(held: &mut Held, number: u64, range: Range) -> Result<(), Refusal> {
     if let Some(holder) = held.conflict(range) {
         return Err(Refusal::Conflict(holder));
@@ -178,7 +178,7 @@ fn hold(held: &mut Held, number: u64, range: Range) -> Result<(), Refusal> {
 }
 
 impl Way {
-    /// No write yet, to a device of `blocks` blocks, a power of 2.
+    /// Makes the parts of a device of `blocks` blocks, a power of 2. There is no write yet.
     pub(crate) fn new(alloc: Global, in_flight: u32, blocks: u32) -> Result<Way, Refusal>
         requires some_in_flight { 0 < in_flight }
         requires few_blocks { blocks ≤ 262144 }
@@ -210,12 +210,12 @@ impl Way {
         })
     }
 
-    /// What became of the writes so far.
+    /// Returns the counts of the writes so far.
     pub(crate) fn counts(&self) -> Counts {
         self.counts
     }
 
-    /// One more write; where there are as many as may be, the oldest ones go on first.
+    /// Takes another write through the parts; if there are as many as may be, the oldest ones go on first.
     pub(crate) fn write(&mut self) -> Result<(), Refusal> {
         if self
             .log
@@ -246,7 +246,7 @@ impl Way {
         self.note_barrier(barrier)
     }
 
-    // The local disk and the peer's have the oldest open write, which completes it.
+    // Records that the local disk and the peer's have the oldest open write, which completes it.
     fn complete(&mut self) -> Result<(), Refusal> {
         let number = self.first_open;
         let barrier = store(&mut self.log, number)?;
@@ -259,7 +259,7 @@ impl Way {
         Ok(())
     }
 
-    // A barrier ends the last epoch.
+    // Records a barrier, which ends the last epoch.
     fn note_barrier(&mut self, barrier: Option<u32>) -> Result<(), Refusal> {
         let Some(number) = barrier else {
             return Ok(());
@@ -269,7 +269,7 @@ impl Way {
         Ok(())
     }
 
-    // The peer acknowledges the oldest barrier, and what is released leaves the other parts too.
+    // Acknowledges the oldest barrier as the peer does, and takes what is released out of the other parts too.
     fn acknowledge(&mut self) -> Result<(), Refusal> {
         let Some((number, size)) = self.barriers.pop_front() else {
             return Err(Refusal::NothingThere);

@@ -26,7 +26,7 @@ pub(crate) struct Copies {
 }
 
 impl Copies {
-    /// Disks of `blocks` blocks. `NoMemory` (7) where they cannot be had.
+    /// Makes disks of `blocks` blocks. `NoMemory` (7) if there is no memory for them.
     pub(crate) fn new(alloc: Global, blocks: u32, in_flight: u32) -> Result<Copies, Refusal>
         requires some { 0 < blocks }
         requires flying { 0 < in_flight }
@@ -40,7 +40,7 @@ impl Copies {
         })
     }
 
-    /// Blocks of each disk.
+    /// Returns the number of blocks of each disk.
     pub(crate) fn blocks(&self) -> u32
         ensures { result ≡ self.now.blocks }
     {
@@ -63,26 +63,26 @@ impl Copies {
         }
     }
 
-    // The write's bytes go to the local disk.
+    // Copies the write's bytes to the local disk.
     fn write(&mut self, workload: &Workload, turn: u32) {
         let block = block_of(turn, self.blocks);
         put_block(&mut self.local, block, workload.bytes(turn));
     }
 
-    // Its bytes go into a frame.
+    // Copies its bytes into a frame.
     fn send(&mut self, workload: &Workload, turn: u32) {
         let end = (turn % self.in_flight) as usize * FRAME_BYTES + FRAME_BYTES;
         self.frames[end - BLOCK_BYTES..end].copy_from_slice(workload.bytes(turn));
     }
 
-    // The frame's bytes go to the peer's disk.
+    // Copies the frame's bytes to the peer's disk.
     fn apply(&mut self, turn: u32) {
         let end = (turn % self.in_flight) as usize * FRAME_BYTES + FRAME_BYTES;
         let block = block_of(turn, self.blocks);
         put_block(&mut self.peer, block, &self.frames[end - BLOCK_BYTES..end]);
     }
 
-    /// What stands in a block of the local disk, and in that of the peer's.
+    /// Returns the bytes of a block of the local disk, and of the peer's.
     pub(crate) fn block(&self, block: u32) -> (&[u8], &[u8])
         requires { block < self.now.blocks }
     {

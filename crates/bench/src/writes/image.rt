@@ -4,17 +4,17 @@ ghost use Rattle.std.specs.Prelude.{◌≡◌, ◌<◌, ◌≤◌, ◌+◌, ◌*
 use blocks::{BLOCK_BYTES, Refusal};
 use std::alloc::Global;
 
-/// What a device holds before the first write: no zeros, so that its memory is present.
+/// What a device holds before the first write: not zeros, so that its memory is present.
 const BLANK: u8 = 0xFF;
 
-/// The bytes of a device of `blocks` blocks, before the first write. `NoMemory` (7) where they cannot be had.
+/// Returns the bytes of a device of `blocks` blocks before the first write. `NoMemory` (7) if memory runs out.
 pub(crate) fn blank(alloc: Global, blocks: u32) -> Result<Vec<u8>, Refusal>
     ensures { IfOk result (λ image. length image.items ≡ blocks * 4096) }
 {
     Ok(Vec::from_elem(alloc, BLANK, blocks as usize * BLOCK_BYTES)?)
 }
 
-/// The bytes of a block.
+/// Returns the bytes of a block.
 pub(crate) fn block_in(image: &[u8], block: u32) -> &[u8]
     requires { block * 4096 + 4096 ≤ length image.now }
     ensures { length result.now ≡ 4096 }
@@ -23,7 +23,7 @@ pub(crate) fn block_in(image: &[u8], block: u32) -> &[u8]
     &image[at..at + BLOCK_BYTES]
 }
 
-/// Puts a block's bytes.
+/// Replaces a block's bytes.
 pub(crate) fn put_block(image: &mut [u8], block: u32, bytes: &[u8])
     requires inside { block * 4096 + 4096 ≤ length image.old }
     requires whole { length bytes.now ≡ 4096 }

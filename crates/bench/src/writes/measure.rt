@@ -36,7 +36,7 @@ impl fmt::Display for Plan {
     }
 }
 
-/// How many a second `count` in this time are; 0 where the clock shows no time.
+/// Returns how many there are in a second if `count` took this time; 0 if the clock shows no time.
 fn frequency(count: u32, time: Duration) -> u128 {
     match time.as_micros() {
         0 => 0,
@@ -44,7 +44,7 @@ fn frequency(count: u32, time: Duration) -> u128 {
     }
 }
 
-/// Hundredths of the one in the other; 0 where the clock shows no time.
+/// Returns `part` in hundredths of `whole`; 0 if the clock shows no time.
 fn percent(part: Duration, whole: Duration) -> u128 {
     match whole.as_micros() {
         0 => 0,
@@ -52,7 +52,7 @@ fn percent(part: Duration, whole: Duration) -> u128 {
     }
 }
 
-/// How many blocks of the pair's disks are not as the loop has left its own.
+/// Returns how many blocks of the pair's disks differ from the loop's.
 fn differences(alloc: Global, rounds: &mut Rounds, copies: &Copies) -> Result<u32, Refusal> {
     let mut local = Vec::from_elem(alloc, 0u8, BLOCK_BYTES)?;
     let mut peer = Vec::from_elem(alloc, 0u8, BLOCK_BYTES)?;
@@ -67,7 +67,7 @@ fn differences(alloc: Global, rounds: &mut Rounds, copies: &Copies) -> Result<u3
     Ok(count)
 }
 
-/// Copies the bytes of the plan's writes in a loop. Answers how long that took.
+/// Copies the bytes of the plan's writes in a loop. Returns how long that took.
 fn copy(rt: &HostRuntime, workload: &Workload, plan: Plan) -> anyhow::Result<(Duration, Copies)>
     requires some { 0 < plan.blocks }
     requires flying { 0 < plan.in_flight }
@@ -78,7 +78,7 @@ fn copy(rt: &HostRuntime, workload: &Workload, plan: Plan) -> anyhow::Result<(Du
     Ok((start.elapsed(rt)?, copies))
 }
 
-/// Takes the plan's writes through the pair. Answers how long that took, up to the last completion.
+/// Takes the plan's writes through the pair. Returns how long that took, up to the last completion.
 fn take(
     rt: &HostRuntime,
     workload: &Workload,
@@ -90,7 +90,7 @@ fn take(
     Ok(start.elapsed(rt)?)
 }
 
-/// Prints what became of the writes.
+/// Prints the counts of the writes.
 fn print_counts(rt: &HostRuntime, plan: Plan, counts: Counts, differ: u32) -> anyhow::Result<()> {
     println!(rt;
         "{plan}, accepted: {}, completed: {}, released: {}, applied: {}, blocks that differ: {differ}",
@@ -99,7 +99,7 @@ fn print_counts(rt: &HostRuntime, plan: Plan, counts: Counts, differ: u32) -> an
     Ok(())
 }
 
-/// Prints how many writes a second there were, and how far the pair comes up to the loop.
+/// Prints the rate of the pair, that of the loop, and their ratio.
 fn print_rates(
     rt: &HostRuntime,
     plan: Plan,
@@ -115,7 +115,7 @@ fn print_rates(
     Ok(())
 }
 
-/// What is left in flight comes to its end, and the pair's disks are compared with the loop's.
+/// Finishes what is still in flight, compares the pair's disks with the loop's, and prints the counts.
 fn finish(
     rt: &HostRuntime,
     plan: Plan,

@@ -1,4 +1,4 @@
-//! Writes go through the pair, as many at a time as are in flight.
+//! Writes that go through the pair, as many at a time as are in flight.
 ghost use Rattle.std.specs.Prelude.{◌≡◌, ◌<◌, length};
 
 use crate::writes::image::blank;
@@ -10,11 +10,11 @@ use primary::Fate;
 use std::alloc::Global;
 use std::collections::VecDeque;
 
-/// How often the link is filled and emptied in a round at most: one more time than its frames need. A round has
-/// a barrier or two more than writes.
+/// How often the link is filled and emptied in a round at most: once more than its frames need. A round has a barrier
+/// or two more than writes.
 const PASSES: u32 = 3;
 
-/// What became of the writes.
+/// Counts of the writes.
 #[derive(Clone, Copy)]
 pub(crate) struct Counts {
     /// How many were accepted.
@@ -36,15 +36,15 @@ pub(crate) struct Rounds {
     // The most frames that go over the link at a time.
     frames: u32,
     pair: Pair,
-    // How many writes were accepted before each barrier that is not acknowledged.
+    // How many writes were accepted before each unacknowledged barrier.
     barriers: VecDeque<u64>,
     counts: Counts,
     ghost some: { 0 < blocks },
     ghost flying: { 0 < in_flight },
 }
 
-/// Settings under which nothing is refused while `in_flight` writes are in flight: the next round's are accepted
-/// before the last round's are released, and every extent of the largest device may be active.
+/// Returns settings under which nothing is refused while `in_flight` writes are in flight: the next round's writes are
+/// accepted before the last round's are released, and every extent of the largest device may be active.
 fn settings(protocol: Protocol, blocks: u32, in_flight: u32) -> Settings {
     Settings {
         protocol,
@@ -58,7 +58,7 @@ fn settings(protocol: Protocol, blocks: u32, in_flight: u32) -> Settings {
 }
 
 impl Rounds {
-    /// Two nodes that have not greeted one another yet.
+    /// Makes two nodes that have not exchanged their hellos yet.
     pub(crate) fn new(
         alloc: Global,
         protocol: Protocol,
@@ -88,12 +88,12 @@ impl Rounds {
         })
     }
 
-    /// What became of the writes so far.
+    /// Returns the counts of the writes so far.
     pub(crate) fn counts(&self) -> Counts {
         self.counts
     }
 
-    /// Reads a block of the primary's disk, and that of the secondary's.
+    /// Reads a block of the primary's disk, and the same block of the secondary's.
     pub(crate) fn read(
         &mut self,
         block: u32,
@@ -110,7 +110,7 @@ impl Rounds {
         self.pair.read(Side::Secondary, block, peer)
     }
 
-    // One event, and what it did.
+    // Gives the pair one event. Returns what it did.
     fn step(&mut self, event: Event) -> Result<Done, Refusal> {
         match self.pair.step(&event) {
             Reply::Ok(done) => Ok(done),
@@ -144,7 +144,7 @@ impl Rounds {
         Ok(())
     }
 
-    // One round. The numbers of writes are counted from 1.
+    // Takes the writes of one round through the pair. The numbers of writes are counted from 1.
     fn round(&mut self, workload: &Workload, from: u32, to: u32) -> Result<(), Refusal> {
         for turn in from..to {
             self.submit(workload, turn)?;
@@ -162,7 +162,7 @@ impl Rounds {
         Ok(())
     }
 
-    // Whether the write of this turn was completed over the link.
+    // Returns whether the write of this turn was completed over the link.
     fn is_linked(&self, turn: u32) -> bool {
         match self.pair.primary().journal().get(turn as usize) {
             Some(entry) => matches!(entry.fate(), Fate::Completed { linked: true, .. }),
@@ -178,7 +178,7 @@ impl Rounds {
         self.note(done)
     }
 
-    /// What is due goes over the link and back. `LinkFull` (11) where more was due than a round can want.
+    /// Sends what is due over the link and back. `LinkFull` (11) if more was due than a round can need.
     pub(crate) fn exchange(&mut self) -> Result<(), Refusal> {
         for _ in 0..PASSES {
             let sent = self.send()?;
@@ -193,7 +193,7 @@ impl Rounds {
         Err(Refusal::LinkFull)
     }
 
-    // Sends as many frames as are due, and the link holds. Answers how many.
+    // Sends as many frames as are due and the link holds. Returns how many.
     fn send(&mut self) -> Result<u32, Refusal> {
         for sent in 0..self.frames {
             match self.step(Event::Send) {
@@ -205,7 +205,7 @@ impl Rounds {
         Ok(self.frames)
     }
 
-    // The secondary takes this number of frames. Answers how many writes they carry.
+    // Has the secondary take this number of frames. Returns how many writes they carry.
     fn receive(&mut self, frames: u32) -> Result<u32, Refusal> {
         let mut items: u32 = 0;
         for _ in 0..frames {
@@ -216,7 +216,7 @@ impl Rounds {
         Ok(items)
     }
 
-    // The secondary's disk does this number of items.
+    // Has the secondary's disk do this number of items.
     fn apply(&mut self, items: u32) -> Result<(), Refusal> {
         for _ in 0..items {
             let place = self.pair.secondary().next()?;
@@ -226,7 +226,7 @@ impl Rounds {
         Ok(())
     }
 
-    // The secondary sends the acknowledgements that are due; the link holds all of them. Answers how many.
+    // Has the secondary send the acknowledgements that are due; the link holds all of them. Returns how many.
     fn answer(&mut self) -> Result<u32, Refusal> {
         for sent in 0..self.frames {
             match self.step(Event::AckOut) {
@@ -238,7 +238,7 @@ impl Rounds {
         Ok(self.frames)
     }
 
-    // The primary takes this number of acknowledgements.
+    // Has the primary take this number of acknowledgements.
     fn take_answers(&mut self, answers: u32) -> Result<(), Refusal> {
         for _ in 0..answers {
             let done = self.step(Event::AckIn)?;
@@ -250,7 +250,7 @@ impl Rounds {
         Ok(())
     }
 
-    // A barrier comes after all writes that are accepted so far.
+    // Records a barrier, which comes after all writes accepted so far.
     fn note(&mut self, done: Done) -> Result<(), Refusal> {
         if done.barrier.is_some() {
             self.barriers.push_back(self.counts.accepted)?;
@@ -258,7 +258,7 @@ impl Rounds {
         Ok(())
     }
 
-    // The oldest barrier is acknowledged. `NothingThere` (13) where there is none.
+    // Records that the oldest barrier is acknowledged. `NothingThere` (13) if there is none.
     fn release(&mut self) -> Result<(), Refusal> {
         let Some(accepted) = self.barriers.pop_front() else {
             return Err(Refusal::NothingThere);
@@ -268,7 +268,7 @@ impl Rounds {
     }
 }
 
-// The number of a write; the first is 1.
+// Returns the number of a write; the first is 1.
 fn number_of(turn: u32) -> u64 {
     u64::from(turn).saturating_add(1)
 }

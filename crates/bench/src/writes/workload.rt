@@ -8,11 +8,11 @@ use std::alloc::Global;
 /// Blocks of the buffer that contents are taken from: 256 MiB, several times what a processor's cache holds.
 const SOURCE_BLOCKS: usize = 65_536;
 
-/// From one write's contents to the next one's: odd, so that each block of the buffer has its turn, and far,
-/// so that none is fetched ahead.
+/// The distance from one write's contents to the next one's: odd, so that each block of the buffer has its turn, and
+/// far, so that none is fetched ahead.
 const SOURCE_STRIDE: usize = 20_011;
 
-/// From one write's block to the next one's: odd, so that each block of the device has its turn.
+/// The distance from one write's block to the next one's: odd, so that each block of the device has its turn.
 const DEVICE_STRIDE: u64 = 100_003;
 
 /// The contents of all writes, in one buffer that they share. Each of its blocks begins with its own number.
@@ -23,7 +23,7 @@ pub(crate) struct Workload {
 }
 
 impl Workload {
-    /// `NoMemory` (7) where the buffer cannot be had.
+    /// Makes the buffer. `NoMemory` (7) if there is no memory for it.
     pub(crate) fn new(alloc: Global) -> Result<Workload, Refusal> {
         let mut source = Vec::from_elem(alloc, 0x5Au8, SOURCE_BLOCKS * BLOCK_BYTES)?;
         number_blocks(&mut source);
@@ -32,14 +32,14 @@ impl Workload {
         })
     }
 
-    /// Where in the buffer the contents of this write begin.
+    /// Returns where in the buffer the contents of this write begin.
     fn start(turn: u32) -> usize
         ensures { result + 4096 ≤ 65536 * 4096 }
     {
         turn as usize * SOURCE_STRIDE % SOURCE_BLOCKS * BLOCK_BYTES
     }
 
-    /// The bytes of this write, in the buffer.
+    /// Returns the bytes of this write, in the buffer.
     pub(crate) fn bytes(&self, turn: u32) -> &[u8]
         ensures { length result.now ≡ 4096 }
     {
@@ -47,14 +47,14 @@ impl Workload {
         &self.source.as_slice()[start..start + BLOCK_BYTES]
     }
 
-    /// The contents of this write, which share the buffer.
+    /// Returns the contents of this write, which share the buffer.
     pub(crate) fn contents(&self, turn: u32) -> Result<Bytes, Refusal> {
         let start = Workload::start(turn);
         Ok(self.source.slice(start..start + BLOCK_BYTES)?)
     }
 }
 
-/// Each block begins with its own number.
+/// Puts its own number at the beginning of each block.
 fn number_blocks(source: &mut [u8])
     ensures { length source.new ≡ length source.old }
 {
@@ -64,7 +64,7 @@ fn number_blocks(source: &mut [u8])
     }
 }
 
-/// The block that this write goes to, on a device of `blocks` blocks.
+/// Returns the block that this write goes to, on a device of `blocks` blocks.
 pub(crate) fn block_of(turn: u32, blocks: u32) -> u32
     requires { 0 < blocks }
     ensures { result < blocks }

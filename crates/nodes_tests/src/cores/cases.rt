@@ -1,11 +1,11 @@
-//! Cases of a node's core, as tables have them, and what takes a core through one. One function goes through all of
-//! them, and is proved once for both nodes.
+//! Cases of a node's core, for tables, and the function that takes a core through all of them. It is proved once for
+//! both nodes.
 use blocks::Refusal;
 use std::alloc::Global;
 use std::fmt::Debug;
 use std::process::Abort;
 
-/// Where a part is gone through: the name of the case, and what gives memory.
+/// Where a core goes through a part: the name of the case, and what gives memory.
 #[derive(Clone, Copy)]
 pub(crate) struct Scene {
     pub(crate) name: &'static str,
@@ -16,7 +16,7 @@ pub(crate) struct Scene {
 pub(crate) trait Stepped {
     type Step: Copy;
 
-    /// What a step says.
+    /// What a step returns.
     type Said: Copy + Debug + PartialEq;
 
     type Fact: Copy;
@@ -35,7 +35,7 @@ fn is_answered<S: Copy + Debug + PartialEq>(
     assert_eq!(rt; answer, wanted, "{name}: step {step}");
 }
 
-/// Each step says what its row has.
+/// Checks that each step returns what its row says.
 pub(crate) fn run<C: Stepped>(
     rt: &impl Abort,
     core: &mut C,
@@ -48,7 +48,7 @@ pub(crate) fn run<C: Stepped>(
     }
 }
 
-/// All of these are true.
+/// Checks that all of these facts are true.
 pub(crate) fn holds<C: Stepped>(rt: &impl Abort, core: &C, name: &str, facts: &[C::Fact]) {
     for (i, fact) in facts.iter().enumerate() {
         assert!(rt; core.is_true(*fact), "{name}: fact {i}");
@@ -63,13 +63,13 @@ pub(crate) trait Core: Drop + Sized {
     /// A part of what it goes through.
     type Part: Copy;
 
-    /// A frame, or the fault that stands in its place.
+    /// A frame, or the fault that replaces it.
     type Frame: Copy;
 
-    /// A core that was never opened.
+    /// Makes a core that was never opened.
     fn fresh(alloc: Global, start: &Self::Start) -> Result<Self, Refusal>;
 
-    /// The part in which this frame is refused.
+    /// Returns the part in which this frame is refused.
     fn refused(frame: Self::Frame, refusal: Refusal) -> Self::Part;
 
     fn go(&mut self, rt: &impl Abort, scene: Scene, part: &Self::Part);
@@ -97,7 +97,7 @@ fn go_through<C: Core>(rt: &impl Abort, core: &mut C, scene: Scene, way: &Way<'_
     go_on(rt, core, scene, way.after);
 }
 
-/// A core that was never opened goes this way.
+/// Takes a core that was never opened through these parts.
 pub(crate) fn goes<C: Core, R: Abort + AllocGlobal>(
     rt: &R,
     name: &'static str,
@@ -120,7 +120,7 @@ pub(crate) struct Case<S: 'static, P: 'static> {
     pub(crate) parts: &'static [P],
 }
 
-/// Each case's core goes through its parts.
+/// Takes each case's core through its parts.
 pub(crate) fn passes<C: Core, R: Abort + AllocGlobal>(
     rt: &R,
     cases: &'static [Case<C::Start, C::Part>],
@@ -135,7 +135,7 @@ pub(crate) fn passes<C: Core, R: Abort + AllocGlobal>(
     }
 }
 
-/// Frames that are refused, each of them by a core of its own, with what comes before and after.
+/// Frames, each refused by a core of its own, and what comes before and after.
 pub(crate) struct Foreign<S: 'static, P: 'static, F: 'static> {
     pub(crate) name: &'static str,
     pub(crate) start: &'static S,
@@ -157,7 +157,7 @@ fn is_foreign<C: Core, R: Abort + AllocGlobal>(
     goes::<C, R>(rt, case.name, case.start, &way);
 }
 
-/// Each frame is refused, and goes with what is before and after.
+/// Checks that each frame is refused, between the parts before and after it.
 pub(crate) fn are_foreign<C: Core, R: Abort + AllocGlobal>(
     rt: &R,
     cases: &'static [Foreign<C::Start, C::Part, C::Frame>],

@@ -1,4 +1,4 @@
-//! Takes a primary's core through tables.
+//! Calls that take a primary's core through tables.
 use crate::contents::filled;
 use crate::cores::cases::{Core, Scene, Stepped, holds, run};
 use crate::cores::primary_tables::{
@@ -186,7 +186,7 @@ fn decides(
     );
 }
 
-// Both ends send their protocol, their size and their identifiers.
+// Exchanges the protocol, the size and the identifiers of both ends, and checks the decision.
 fn greet(
     rt: &impl Abort,
     core: &mut PrimaryCore,

@@ -1,4 +1,4 @@
-//! Decisions of a primary that has the peer's identifiers.
+//! Tests of the decisions of a primary that has the peer's identifiers.
 use crate::cores::cases::{Way, goes};
 use crate::cores::primary_tables::{
     Frame, PROTOCOL_WENT, Part, SETTINGS, SIZES_WENT, Said, Start, Step,
@@ -58,7 +58,7 @@ fn tuple_of(words: [u64; 4]) -> Tuple {
     Tuple::new(current, bitmap, first, second)
 }
 
-// Block 4 is marked before.
+// Checks the decision of a primary whose block 4 was marked before.
 fn decides(rt: &(impl Abort + AllocGlobal), case: &'static Case) {
     let (own, peer, decided, marked) = *case;
     let start = Start {

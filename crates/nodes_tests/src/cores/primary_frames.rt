@@ -8,19 +8,19 @@ use crate::tuples::{OWN, PARTED};
 use blocks::{Protocol, Refusal, Tuple, What};
 use primary_core::PrimaryCore;
 
-/// Each comes once write 1 was sent.
+/// Frames that come after write 1 was sent.
 const FOREIGN: [(Frame, Refusal); 13] = [
     // Another write, another place, another size, another block.
     (Frame::WriteAck(2, 2, 0), Refusal::UnknownAck),
     (Frame::WriteAck(2, 1, 1), Refusal::UnknownAck),
     (Frame::WideAck(2, 1, 0), Refusal::UnknownAck),
     (Frame::WriteAck(3, 1, 0), Refusal::UnknownAck),
-    // Another protocol's answer, and that of a resync where none goes on.
+    // The acknowledgement of another protocol, and that of a resync while none runs.
     (Frame::RecvAck(2, 1, 0), Refusal::UnknownAck),
     (Frame::RsWriteAck(3, 1), Refusal::UnknownAck),
     // No barrier was sent.
     (Frame::BarrierAck(1, 1), Refusal::BadBarrierAck),
-    // No acknowledgements.
+    // Frames that are no acknowledgements.
     (Frame::Data(2, 1, 0, 0xAA), Refusal::BadCommand),
     (Frame::Protocol(Protocol::C), Refusal::BadCommand),
     // Frames that could not be read.
@@ -74,7 +74,7 @@ const PARTED_END: [Part; 3] = [
     Part::Marks(&[2]),
 ];
 
-/// Each comes once write 1 was answered and completed, and its barrier was sent.
+/// Frames that come after write 1 was answered and completed, and its barrier was sent.
 const AGAIN: [(Frame, Refusal); 3] = [
     (Frame::BarrierAck(1, 2), Refusal::BadBarrierAck),
     (Frame::BarrierAck(2, 1), Refusal::BadBarrierAck),
@@ -98,7 +98,7 @@ const SECOND: [(Frame, Refusal); 2] = [
 
 const THIRD: [(Frame, Refusal); 3] = [
     (Frame::Protocol(Protocol::C), Refusal::BadCommand),
-    // A word of this connection stands in the peer's identifiers.
+    // The peer's identifiers contain a word of this connection.
     (Frame::Uuids(USED), Refusal::UsedIdentifier),
     (Frame::Uuids(STRANGE), Refusal::Unrelated),
 ];
@@ -123,7 +123,7 @@ const PROTOCOL: Row = (Step::Take(Frame::Protocol(Protocol::C)), PROTOCOL_WENT);
 
 const SIZES: Row = (Step::Take(Frame::Sizes(8)), SIZES_WENT);
 
-/// The end is closed, and all else is as before the connection.
+/// The end is closed, and all else is as it was before the connection.
 const UNCHANGED: [Part; 4] = [
     Part::Rows(&CLOSED),
     Part::Holds(&[Fact::Open(false)]),

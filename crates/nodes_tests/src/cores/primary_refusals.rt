@@ -9,7 +9,7 @@ use blocks::{Block, Command, Decision, Refusal, Settings, What};
 use primary_core::PrimaryCore;
 use std::alloc::Global;
 
-/// Where the bitmap records no generation a write needs a stream.
+/// If the bitmap records no generation, a write requires an established connection.
 const UNOPENED: [Row; 6] = [
     (Step::Submit(0, 1, 0xAA), Err(Refusal::NotConnected)),
     (Step::Open(0, 7), Err(Refusal::UsedIdentifier)),
@@ -25,7 +25,7 @@ const OPENED: [Row; 3] = [
     (Step::Resync(0xAA), Err(Refusal::NothingToDo)),
 ];
 
-/// Over 2048 blocks, whose extents have 1024 each.
+/// On a device of 2048 blocks, whose extents have 1024 each.
 const RANGES: [Row; 7] = [
     (Step::Submit(2016, 32, 0xAA), Ok(Said::Accepted(1))),
     (Step::Submit(0, 33, 0xAA), Err(Refusal::BadRange)),
@@ -52,14 +52,14 @@ const ONE_SLOT: [Row; 9] = [
     (Step::Submit(1024, 1, 0xBB), Ok(Said::Accepted(2))),
 ];
 
-/// The log is full before a conflict is told.
+/// A full log is reported before a conflict.
 const ONE_WRITE: [Row; 3] = [
     (Step::Submit(0, 1, 0xAA), Ok(Said::Accepted(1))),
     (Step::Submit(1, 1, 0xBB), Err(Refusal::LogFull)),
     (Step::Submit(0, 1, 0xBB), Err(Refusal::LogFull)),
 ];
 
-/// A write that the local disk failed holds nothing more, and is marked.
+/// A write that the local disk failed holds no block any more, and is marked.
 const FAILED: [Row; 6] = [
     (Step::Submit(2, 2, 0xAA), Ok(Said::Accepted(1))),
     (
@@ -99,7 +99,7 @@ const CUT: [Row; 8] = [
     (Step::Close, Err(Refusal::NotConnected)),
 ];
 
-/// The resync waits for the writes that are open, and takes the blocks of those that are done.
+/// The resync waits for the open writes, and takes the blocks of those that are done.
 const RESUMED: [Row; 4] = [
     (Step::Resync(0x11), Err(Refusal::NothingToDo)),
     (
@@ -216,7 +216,7 @@ fn steps_that_are_refused(rt: HostRuntime) {
     passes::<PrimaryCore, _>(&rt, &REFUSALS);
 }
 
-// Why there is no primary of 8 blocks with these marks.
+// Returns why there is no primary of 8 blocks with these marks.
 fn refused(alloc: Global, marks: &[bool]) -> Option<Refusal> {
     PrimaryCore::new(alloc, SETTINGS, OWN, marks).err()
 }

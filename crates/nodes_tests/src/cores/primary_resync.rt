@@ -1,4 +1,4 @@
-//! The primary's half of a resync: marked blocks are read and sent, and what the peer has is not marked.
+//! The primary's half of a resync: it reads and sends the marked blocks, and what the peer has is not marked.
 use crate::cores::cases::{Case, passes};
 use crate::cores::primary_tables::{
     CONNECTED, DONE, Fact, Frame, OF_ONE, Part, RELEASED, Row, START, Said, Start, Step,
@@ -7,7 +7,7 @@ use crate::tuples::{OWN, PARTED, RESYNCING, SYNCED, TARGET};
 use blocks::{Block, Command, Decision, Refusal, Tuple, What};
 use primary_core::PrimaryCore;
 
-/// The link is lost, and writes without it are completed by the local disk and marked.
+/// The link is lost; writes without it are completed by the local disk and marked.
 const ALONE: [Row; 8] = [
     (Step::Close, Ok(Said::Closed(0))),
     (Step::Submit(3, 1, 0xAA), Ok(Said::Accepted(1))),
@@ -93,7 +93,7 @@ const CLOSING: [Row; 3] = [
     (Step::Resync(0xAA), Err(Refusal::NothingToDo)),
 ];
 
-/// What the disk has where the peer is lost before it was told of the resync's end.
+/// The disk's identifiers if the peer is lost before it takes the end of the resync.
 const LOST: Tuple = Tuple {
     current: 11,
     bitmap: 7,
@@ -108,7 +108,7 @@ const FULL: Tuple = Tuple {
     second_historical: 9,
 };
 
-/// The block under way is held, and an open write holds the other.
+/// The resync holds the block under way, and an open write holds the other one.
 const SHARED: [Row; 8] = [
     FIRST_BLOCK,
     (Step::Submit(2, 2, 0xCC), Err(Refusal::Conflict(0))),
@@ -123,7 +123,7 @@ const SHARED: [Row; 8] = [
     (Step::Resync(0xDD), Err(Refusal::NothingToDo)),
 ];
 
-/// A block that an open write holds is passed over.
+/// The resync passes over a block that an open write holds.
 const PASSED: [Row; 2] = [
     (Step::Submit(3, 1, 0xCC), Ok(Said::Accepted(3))),
     (Step::Resync(0xBB), Ok(Said::Did(What::Block(Block(6), 2)))),

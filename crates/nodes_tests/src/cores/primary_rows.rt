@@ -48,7 +48,7 @@ const COMPLETED: [Fact; 7] = [
 
 const ALL_FREED: [Fact; 3] = [Fact::OpenEpochs(0), Fact::Unreleased(0), Fact::Accepted(1)];
 
-/// Under A a write is completed once the local disk has it and it is sent.
+/// Under A a write is completed once the local disk has it and it was sent.
 const SENT_FIRST: [Row; 3] = [
     ACCEPTED,
     SENT,
@@ -104,7 +104,7 @@ const IN_B: Start = Start {
     ..START
 };
 
-/// The completion ends the epoch: what comes then is behind its barrier.
+/// The completion ends the epoch: what comes then follows its barrier.
 const FOLLOWED: [Row; 8] = [
     (Step::Submit(3, 2, 0x11), Ok(Said::Accepted(1))),
     (Step::Submit(4, 2, 0x22), Err(Refusal::Conflict(1))),

@@ -1,8 +1,8 @@
-//! Calls of a primary's core, as rows of tables.
+//! Calls of a primary's core, for the rows of tables.
 use crate::tuples::OWN;
 use blocks::{Command, Decision, Protocol, Refusal, Settings, Tuple, What};
 
-/// A frame, or the fault that stands in its place.
+/// A frame, or the fault that replaces it.
 #[derive(Clone, Copy)]
 pub(crate) enum Frame {
     Protocol(Protocol),
@@ -19,7 +19,7 @@ pub(crate) enum Frame {
     /// Of one block: the block, the number, the place.
     RecvAck(u64, u64, u32),
     WriteAck(u64, u64, u32),
-    /// As the one before, but of two blocks.
+    /// The same of two blocks.
     WideAck(u64, u64, u32),
     /// Of one block and its place.
     RsWriteAck(u64, u32),
@@ -28,7 +28,7 @@ pub(crate) enum Frame {
     Fault(Refusal),
 }
 
-/// What is done to a core.
+/// A call of a core.
 #[derive(Clone, Copy)]
 pub(crate) enum Step {
     /// The words for a resync and for a loss.
@@ -36,51 +36,51 @@ pub(crate) enum Step {
     Close,
     /// The first block, how many blocks, and the byte that fills them.
     Submit(u64, u8, u8),
-    /// Of fewer bytes than a block has.
+    /// A write of fewer bytes than a block has.
     SubmitPart,
-    /// Which write the local disk does next.
+    /// Asks which write the local disk does next.
     Next,
-    /// The write of this number is given to the local disk, and has this many blocks, filled with this byte.
+    /// Gives the write of this number to the local disk: it has this many blocks, filled with this byte.
     Given(u64, u8, u8),
     Local(u64),
     LocalFail(u64),
-    /// What is due is this frame, and goes out.
+    /// This frame is due, and is sent.
     Send(Frame),
     Take(Frame),
-    /// The next block of a resync is read, and is filled with this byte.
+    /// Reads the next block of a resync, filled with this byte.
     Resync(u8),
     Receipt(u64),
 }
 
-/// What a step says.
+/// What a step returns.
 #[derive(Clone, Copy, Debug, PartialEq, Eq)]
 pub(crate) enum Said {
     Nothing,
     /// How many writes the close completed.
     Closed(u32),
     Next(Option<u64>),
-    /// The number of a write, its first block, how many it has, and whether its bytes are the expected ones.
+    /// The number of a write, its first block, its block count, and whether its bytes are the expected ones.
     Given(u64, u64, u64, bool),
-    /// A write was accepted under this number, and no more.
+    /// A write was accepted under this number, and the step returns nothing more.
     Accepted(u64),
-    /// A frame went over the link, with its place if an item of the stream was sent, and no more.
+    /// A frame went over the link, with its place if it is an item of the stream, and the step returns nothing more.
     Went(Command, Option<u32>),
-    /// What else it was about, and no more.
+    /// What else the step was about, and nothing more.
     Did(What),
-    /// What it was about, the write that it completed, the barrier that it appended, and whether a resync
-    /// is over.
+    /// What the step was about, the write that it completed, the barrier that it appended, and whether a resync is
+    /// over.
     More(What, Option<u64>, Option<u32>, bool),
     /// Another packet was due.
     Other(Command),
-    /// The first block of a completed write, how many it has, whether the peer answered it, and its connection
-    /// and its place there.
+    /// The first block of a completed write, its block count, whether the peer answered it, and its connection and its
+    /// place there.
     Receipt(u64, u64, bool, Option<(u32, u32)>),
 }
 
-/// What a step says, or why it is refused.
+/// What a step returns, or why it is refused.
 pub(crate) type Answer = Result<Said, Refusal>;
 
-/// A step and its answer.
+/// A step and what it returns.
 pub(crate) type Row = (Step, Answer);
 
 /// What a core holds.
@@ -108,12 +108,12 @@ pub(crate) enum Part {
     Rows(&'static [Row]),
     /// The hello of a connection: the words, both disks' identifiers, and what is decided.
     Greeting((u64, u64), (Tuple, Tuple), Decision),
-    /// The peer's identifiers are taken, and decide so.
+    /// The primary takes the peer's identifiers, and decides this.
     Decides(Tuple, Result<Decision, Refusal>),
     /// This frame is refused.
     Refused(Frame, Refusal),
     Holds(&'static [Fact]),
-    /// These blocks are marked, and no other.
+    /// These blocks are marked, and no others.
     Marks(&'static [usize]),
 }
 
@@ -145,7 +145,7 @@ pub(crate) const OF_ONE: Start = Start {
     ..START
 };
 
-/// The step did what has no name, and no more.
+/// The step was done, and has nothing to report.
 pub(crate) const DONE: Answer = Ok(Said::Did(What::Nothing));
 
 pub(crate) const PROTOCOL_WENT: Answer = Ok(Said::Went(Command::Protocol, None));
@@ -174,10 +174,10 @@ pub(crate) const COMPLETES_1: Answer = Ok(Said::More(
     false,
 ));
 
-/// The local disk has it, and the peer's disk too: that completes it, and ends its epoch.
+/// Both disks have it, which completes it and ends its epoch.
 pub(crate) const ANSWERED: Row = (Step::Take(Frame::WriteAck(2, 1, 0)), COMPLETES_1);
 
-/// The barrier behind it is sent.
+/// The barrier after it is sent.
 pub(crate) const BARRIER: Row = (
     Step::Send(Frame::Barrier(1)),
     Ok(Said::Went(Command::Barrier, Some(1))),

@@ -1,4 +1,4 @@
-//! Calls of a secondary's core, as rows of tables.
+//! Calls of a secondary's core, for the rows of tables.
 ghost use Rattle.std.specs.Prelude.{◌≡◌, ◌<◌, ◌≤◌, ◌*◌, ◌/◌, length, IfOk};
 ghost use Rattle.packets.specs.Spelling.{IsSpellable};
 
@@ -11,7 +11,7 @@ use secondary_core::{SecondaryCore, Usage};
 use std::alloc::Global;
 use std::process::Abort;
 
-/// A frame, or the fault that stands in its place. Blocks are filled with AA.
+/// A frame, or the fault that replaces it. Blocks are filled with AA.
 #[derive(Clone, Copy)]
 pub(crate) enum Frame {
     Protocol(Protocol),
@@ -30,22 +30,22 @@ pub(crate) enum Frame {
     Fault(Refusal),
 }
 
-/// What is done to a core.
+/// A call of a core.
 #[derive(Clone, Copy)]
 pub(crate) enum Step {
     Open(u32),
     Close,
-    /// A frame is taken, if it may be, and the room is made that it can want.
+    /// Takes a frame, if the end may, after making the room that it can need.
     Take(Frame),
     /// The disk does the item of a place, if it may start.
     Peer(u32),
     /// The disk fails the item of a place, if it may start.
     PeerFault(u32),
-    /// What is due goes out.
+    /// Sends what is due.
     AckOut,
 }
 
-/// What a step says.
+/// What a step returns.
 #[derive(Clone, Copy, Debug, PartialEq, Eq)]
 pub(crate) enum Said {
     Nothing,
@@ -56,10 +56,10 @@ pub(crate) enum Said {
     Sent(Command, u64, u32),
 }
 
-/// What a step says, or why it is refused.
+/// What a step returns, or why it is refused.
 pub(crate) type Answer = Result<Said, Refusal>;
 
-/// A step and its answer.
+/// A step and what it returns.
 pub(crate) type Row = (Step, Answer);
 
 /// What a core holds.
@@ -92,7 +92,7 @@ pub(crate) const DONE: Answer = Ok(Said::Nothing);
 
 const PROTOCOL_TOOK: Answer = Ok(Said::Took(Command::Protocol, None));
 
-/// The end is opened, and takes the protocol that the primary names.
+/// The end opens, and takes the protocol that the primary names.
 pub(crate) const OPENED_IN_A: Part = Part::Rows(&[
     (Step::Open(1), DONE),
     (Step::Take(Frame::Protocol(Protocol::A)), PROTOCOL_TOOK),

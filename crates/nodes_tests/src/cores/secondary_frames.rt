@@ -7,22 +7,22 @@ use crate::tuples::{OWN, SYNCED};
 use blocks::{Command, Protocol, Refusal, Settings};
 use secondary_core::SecondaryCore;
 
-/// Each comes after write 1 of block 2, at place 0.
+/// Frames that come after write 1 of block 2, at place 0.
 const FOREIGN: [(Frame, Refusal); 11] = [
     // Another place, a block of the same epoch, a number that does not rise, past the end of the device.
     (Frame::Data(3, 2, 2), Refusal::BadField),
     (Frame::Data(2, 2, 1), Refusal::BadField),
     (Frame::Data(3, 1, 1), Refusal::BadField),
     (Frame::TwoBlocks, Refusal::BadField),
-    // Not the next barrier, and what belongs to a resync where none goes on.
+    // Not the next barrier, and the frames of a resync while none runs.
     (Frame::Barrier(2), Refusal::BadField),
     (Frame::SyncUuid(9), Refusal::BadField),
     (Frame::Uuids(SYNCED), Refusal::BadField),
     (Frame::RsDataReply(3, 1), Refusal::BadField),
-    // No items.
+    // Frames that are no items.
     (Frame::Protocol(Protocol::C), Refusal::BadCommand),
     (Frame::WriteAck, Refusal::BadCommand),
-    // A frame that ends early or goes on.
+    // A frame that is too short or too long.
     (Frame::Fault(Refusal::BadLength), Refusal::BadLength),
 ];
 
@@ -31,7 +31,7 @@ const WRITE: Row = (
     Ok(Said::Took(Command::Data, Some(0))),
 );
 
-/// The end is closed, and the write stays pending and is applied.
+/// The end is closed; the write stays pending, and is applied.
 const APPLIED: [Row; 5] = [
     (Step::Take(Frame::Barrier(1)), Err(Refusal::NotConnected)),
     (Step::AckOut, Err(Refusal::NotConnected)),
@@ -40,7 +40,7 @@ const APPLIED: [Row; 5] = [
     (Step::Peer(0), Err(Refusal::UnknownJob)),
 ];
 
-/// Each comes in place of the primary's first frame.
+/// Frames that replace the primary's first one.
 const FIRST: [(Frame, Refusal); 4] = [
     (Frame::Sizes(8), Refusal::BadCommand),
     (Frame::Data(2, 1, 0), Refusal::BadCommand),
@@ -48,7 +48,7 @@ const FIRST: [(Frame, Refusal); 4] = [
     (Frame::Fault(Refusal::BadMagic), Refusal::BadMagic),
 ];
 
-/// Each comes in place of its second.
+/// Frames that replace its second one.
 const SECOND: [(Frame, Refusal); 2] = [
     (Frame::Uuids(OWN), Refusal::BadCommand),
     (Frame::Sizes(16), Refusal::OtherSize),

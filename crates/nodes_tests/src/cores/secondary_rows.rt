@@ -84,7 +84,7 @@ const REOPENED: [Row; 6] = [
     (Step::Open(2), DONE),
 ];
 
-/// A resync of blocks 3 and 6, but for its end.
+/// A resync of blocks 3 and 6, without its end.
 const RESYNC: [Row; 9] = [
     (
         Step::Take(Frame::SyncUuid(9)),
@@ -112,14 +112,14 @@ const RESYNC: [Row; 9] = [
     ),
 ];
 
-/// How far the data may be used once both blocks are copied.
+/// How far the data may be used after both blocks are copied.
 const COPIED: Usage = Usage {
     consistent: false,
     whole: 2,
     pending: 0,
 };
 
-/// The same once the primary has told the end of the resync.
+/// The same after the primary has sent the end of the resync.
 const ENDED: Usage = Usage {
     consistent: true,
     ..COPIED

@@ -1,8 +1,8 @@
-//! Results of calls, as rows of tables.
+//! Results of calls, for the rows of tables.
 use blocks::{Command, Done, Refusal, What};
 use std::process::Abort;
 
-/// What a call did, or why it is refused.
+/// What a call did, or why it was refused.
 pub(crate) type Answer = Result<Done, Refusal>;
 
 /// A frame of a table's case.
@@ -12,7 +12,7 @@ pub(crate) struct Spot {
     pub(crate) frame: usize,
 }
 
-/// A call around that frame answers what its row has.
+/// Checks that a call around that frame returns what its row says.
 pub(crate) fn is_answered(
     rt: &impl Abort,
     spot: Spot,
@@ -28,7 +28,7 @@ pub(crate) fn is_answered(
     );
 }
 
-/// What has no name, and no more.
+/// The report of a call with nothing to report.
 pub(crate) const NOTHING: Done = Done {
     what: What::Nothing,
     completed: None,
@@ -36,13 +36,13 @@ pub(crate) const NOTHING: Done = Done {
     synced: false,
 };
 
-/// It did that.
+/// The call was done.
 pub(crate) const DONE: Answer = Ok(NOTHING);
 
 /// The end is closed.
 pub(crate) const CLOSED: Answer = Err(Refusal::NotConnected);
 
-/// Nothing is due, or none came.
+/// No frame is due, or none came.
 pub(crate) const NONE: Answer = Err(Refusal::NothingThere);
 
 /// A frame of a hello went over the link.
@@ -51,13 +51,13 @@ pub(crate) const PROTOCOL_WENT: Answer = Ok(Done {
     ..NOTHING
 });
 
-/// The one after it.
+/// The second frame of a hello went over the link.
 pub(crate) const SIZES_WENT: Answer = Ok(Done {
     what: What::Frame(Command::Sizes, None),
     ..NOTHING
 });
 
-/// The last one.
+/// The third frame of a hello went over the link.
 pub(crate) const UUIDS_WENT: Answer = Ok(Done {
     what: What::Frame(Command::Uuids, None),
     ..NOTHING
@@ -69,13 +69,13 @@ pub(crate) const WRITE_WENT: Answer = Ok(Done {
     ..NOTHING
 });
 
-/// The barrier behind it.
+/// The barrier after it went over the link.
 pub(crate) const BARRIER_WENT: Answer = Ok(Done {
     what: What::Frame(Command::Barrier, Some(1)),
     ..NOTHING
 });
 
-/// What went over the link is an acknowledgement of a write, or of a barrier.
+/// An acknowledgement of a write, or of a barrier, went over the link.
 pub(crate) const WRITE_ACK_WENT: Answer = Ok(Done {
     what: What::Frame(Command::WriteAck, None),
     ..NOTHING

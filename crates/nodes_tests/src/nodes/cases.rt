@@ -1,5 +1,5 @@
-//! Cases of a node over a link whose other end the test has, and what takes a node through one. One function goes
-//! through all of them, and is proved once for both nodes.
+//! Cases of a node over a link whose other end the test has, and the function that takes a node through all of them. It
+//! is proved once for both nodes.
 use crate::nodes::answers::{Answer, Spot, is_answered};
 use crate::nodes::frames::Spelled;
 use crate::nodes::other_end::Frames;
@@ -8,20 +8,20 @@ use std::alloc::Global;
 use std::fmt::Debug;
 use std::process::Abort;
 
-/// A node over a link. What it sends stays in the queue of its link, and what the peer sends was laid in.
+/// A node over a link. What it sends stays in the queue of its link, and what the peer sends is put there first.
 pub(crate) trait Node: Drop + Sized {
     type Step: Copy;
 
-    /// What it tells of itself.
+    /// What its queries return.
     type State: Copy + Debug + PartialEq;
 
-    /// What is looked at besides that at the end.
+    /// What else is checked at the end.
     type Left;
 
-    /// A node over a zero-filled disk of 8 blocks, which was never opened.
+    /// Makes a node over a zero-filled disk of 8 blocks, which was never opened.
     fn fresh(alloc: Global, settings: Settings) -> Result<Self, Refusal>;
 
-    /// Opens the first connection. These frames of the peer wait in its link.
+    /// Opens the first connection, with these frames of the peer in its link.
     fn connect(&mut self, alloc: Global, frames: Frames) -> Result<(), Refusal>;
 
     /// Takes the next frame of the peer.
@@ -31,7 +31,7 @@ pub(crate) trait Node: Drop + Sized {
 
     fn state(&self) -> Self::State;
 
-    /// This is left at the end.
+    /// Checks this at the end.
     fn leaves(&mut self, rt: &impl Abort, spot: Spot, left: &Self::Left);
 }
 
@@ -40,24 +40,24 @@ pub(crate) struct Before<S: 'static> {
     pub(crate) settings: Settings,
     /// The frames that the peer sent before it.
     pub(crate) heard: &'static [Spelled],
-    /// What is done, and what each call answers.
+    /// What is done, and what each call returns.
     pub(crate) rows: &'static [&'static [(S, Answer)]],
 }
 
-/// What comes of it.
+/// What follows it.
 pub(crate) struct After<S: 'static, T, L> {
-    /// The frames that the peer sent behind it.
+    /// The frames that the peer sent after it.
     pub(crate) behind: &'static [Spelled],
-    /// What the node is once it was taken.
+    /// The node's state after it was taken.
     pub(crate) state: T,
     /// What is done then.
     pub(crate) rows: &'static [(S, Answer)],
-    /// What the node is at the end.
+    /// The node's state at the end.
     pub(crate) end: T,
     pub(crate) left: L,
 }
 
-/// Frames, each with the answer of a node of its own, and what comes before and after.
+/// Frames, each with what a node of its own returns, and what comes before and after.
 pub(crate) struct Case<S: 'static, T: 'static, L: 'static>(
     pub(crate) &'static Before<S>,
     pub(crate) &'static [(Spelled, Answer)],
@@ -74,7 +74,7 @@ fn is<N: Node>(rt: &impl Abort, node: &N, spot: Spot, wanted: &N::State) {
     );
 }
 
-// Each call answers what its row has.
+// Checks that each call returns what its row says.
 fn run<N: Node>(
     rt: &impl Abort,
     (node, alloc): (&mut N, Global),
@@ -122,7 +122,7 @@ fn takes<N: Node, R: Abort + AllocGlobal>(
     goes(rt, (&mut node, rt.alloc()), spot, case, frame);
 }
 
-/// Goes through the cases.
+/// Takes a new node through each frame of each case.
 pub(crate) fn passes<N: Node, R: Abort + AllocGlobal>(
     rt: &R,
     cases: &'static [Case<N::Step, N::State, N::Left>],

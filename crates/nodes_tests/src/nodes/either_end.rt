@@ -5,7 +5,7 @@ use crate::nodes::frames::{
 };
 use blocks::Refusal;
 
-/// A protocol of another number than the three have.
+/// A protocol with a number that none of the three has.
 const FOURTH_PROTOCOL: Spelled = Spelled::Short(&[0x83, 0x5A, 0, 0x0B, 0, 0, 0, 4, 0, 0, 0, 4]);
 
 /// A barrier whose second word is not zero.
@@ -13,10 +13,10 @@ const BARRIER_AND_A_WORD: Spelled = Spelled::Short(&[
     0x83, 0x5A, 0, 3, 0, 0, 0, 8, 0, 0, 0, 1, 0, 0, 0, 1,
 ]);
 
-/// The header of a barrier, but for its magic number.
+/// The header of a barrier, except for its magic number.
 const OTHER_MAGIC: Spelled = Spelled::Short(&[0x83, 0x5B, 0, 3, 0, 0, 0, 8]);
 
-/// Each in place of the first frame of a hello.
+/// Frames that replace the first one of a hello.
 pub(crate) const FIRST: [(Spelled, Answer); 9] = [
     (PROTOCOL_A, Err(Refusal::OtherProtocol)),
     // Another command, whatever its fields say.
@@ -25,7 +25,7 @@ pub(crate) const FIRST: [(Spelled, Answer); 9] = [
     (WRITE_ACK, Err(Refusal::BadCommand)),
     (BARRIER_1, Err(Refusal::BadCommand)),
     (BARRIER_AND_A_WORD, Err(Refusal::BadCommand)),
-    // Bytes that are no packet's: another magic number, a frame that ends early, and a field.
+    // Bytes of no packet: another magic number, a frame that ends early, and a field.
     (OTHER_MAGIC, Err(Refusal::BadMagic)),
     (
         Spelled::Short(&[0x83, 0x5A, 0, 0x0B, 0, 0, 0, 4, 0, 0, 0]),
@@ -34,7 +34,7 @@ pub(crate) const FIRST: [(Spelled, Answer); 9] = [
     (FOURTH_PROTOCOL, Err(Refusal::BadField)),
 ];
 
-/// Each in place of the second.
+/// Frames that replace the second one.
 pub(crate) const SECOND: [(Spelled, Answer); 4] = [
     (SIZES_16, Err(Refusal::OtherSize)),
     (PROTOCOL_C, Err(Refusal::BadCommand)),
@@ -42,22 +42,22 @@ pub(crate) const SECOND: [(Spelled, Answer); 4] = [
     (BARRIER_AND_A_WORD, Err(Refusal::BadCommand)),
 ];
 
-/// Each in place of the third.
+/// Frames that replace the third one.
 pub(crate) const THIRD: [(Spelled, Answer); 3] = [
     (PROTOCOL_C, Err(Refusal::BadCommand)),
     (WRITE, Err(Refusal::BadCommand)),
     (BARRIER_AND_A_WORD, Err(Refusal::BadCommand)),
 ];
 
-/// Each is no packet's bytes, and comes after the hello.
+/// Frames after the hello that are the bytes of no packet.
 pub(crate) const UNREADABLE: [(Spelled, Answer); 18] = [
     (OTHER_MAGIC, Err(Refusal::BadMagic)),
-    // A command that there is not.
+    // A command that does not exist.
     (
         Spelled::Short(&[0x83, 0x5A, 0, 7, 0, 0, 0, 0]),
         Err(Refusal::BadCommand),
     ),
-    // A length that the command has not: writes of no blocks and of 33, and a barrier of 9 bytes.
+    // Lengths that the command does not have: writes of no blocks and of 33, and a barrier of 9 bytes.
     (
         Spelled::Short(&[0x83, 0x5A, 0, 0, 0, 0, 0, 0x18]),
         Err(Refusal::BadLength),
@@ -70,7 +70,7 @@ pub(crate) const UNREADABLE: [(Spelled, Answer); 18] = [
         Spelled::Short(&[0x83, 0x5A, 0, 3, 0, 0, 0, 9]),
         Err(Refusal::BadLength),
     ),
-    // A barrier's frame that ends early, in its header and after it, and one that goes on, whatever its fields say.
+    // A barrier's frame that ends early, in its header and after it, and one that is too long, whatever its fields say.
     (Spelled::Short(&[]), Err(Refusal::BadLength)),
     (
         Spelled::Short(&[0x83, 0x5A, 0, 3, 0, 0, 0]),
@@ -90,7 +90,7 @@ pub(crate) const UNREADABLE: [(Spelled, Answer); 18] = [
     ),
     (BARRIER_AND_A_WORD, Err(Refusal::BadField)),
     (FOURTH_PROTOCOL, Err(Refusal::BadField)),
-    // A write with flags, at a sector that begins no block, and with no number.
+    // A write with flags, one at a sector that begins no block, and one without a number.
     (
         Spelled::Long(
             &[

@@ -15,7 +15,7 @@ const GREETING: Before = Before {
     rows: &[&HELLO],
 };
 
-/// The end is open, and its stream stands. Nothing was written.
+/// The end is open, and the connection is established. Nothing was written.
 const CONNECTED: State = State {
     is_open: true,
     is_established: true,
@@ -30,7 +30,7 @@ const CONNECTED: State = State {
     is_marked: false,
 };
 
-/// Write 1 failed, and ended its epoch. Write 2 of one of its blocks is accepted beside it.
+/// Write 1 failed, and ended its epoch. Write 2, of one of its blocks, is accepted beside it.
 const FAILED: After = After {
     behind: &[],
     state: CONNECTED,

@@ -4,7 +4,7 @@ use bytes::Bytes;
 use packets::Frame;
 use std::alloc::Global;
 
-/// The bytes of a frame of a link, as a table has them.
+/// The bytes of a frame of a link, for tables.
 #[derive(Clone, Copy)]
 pub(crate) enum Spelled {
     /// All of them.
@@ -14,7 +14,7 @@ pub(crate) enum Spelled {
 }
 
 impl Spelled {
-    /// The frame.
+    /// Makes the frame.
     pub(crate) fn frame(&self, alloc: Global) -> Result<Frame, Refusal> {
         let (front, blocks) = match self {
             Spelled::Short(bytes) => (*bytes, 0),

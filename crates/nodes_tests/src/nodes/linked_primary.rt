@@ -1,4 +1,4 @@
-//! A primary over a link whose other end the test has, and what is done to it, as tables have it.
+//! A primary over a link whose other end the test has, and its calls, for tables.
 use crate::nodes::answers::{Answer, DONE, Spot};
 use crate::nodes::cases;
 use crate::nodes::cases::Node;
@@ -13,28 +13,28 @@ use std::process::Abort;
 
 pub(crate) type LinkedPrimary = Primary<PlainOut, PlainIn, FaultStore>;
 
-/// What is done to a primary.
+/// A call of a primary.
 #[derive(Clone, Copy)]
 pub(crate) enum Step {
-    /// A write of one block, this one, which AA fills.
+    /// A write of this block, filled with AA.
     Submit(u64),
     /// The same of two blocks, this one and the next.
     SubmitTwo(u64),
     Local(u64),
-    /// The disk fails the write, after its first block.
+    /// The disk fails the write after its first block.
     LocalFault(u64),
     Send,
     AckIn,
     Resync,
     Close,
-    /// The receipt of a write is asked for.
+    /// Asks for the receipt of a write.
     Receipt(u64),
 }
 
 /// A call, and what it did or why it is refused.
 pub(crate) type Row = (Step, Answer);
 
-/// What a primary tells of itself.
+/// What a primary's queries return.
 #[derive(Clone, Copy, Debug, PartialEq, Eq)]
 pub(crate) struct State {
     pub(crate) is_open: bool,
@@ -58,7 +58,7 @@ pub(crate) type After = cases::After<Step, State, Result<Told, Refusal>>;
 
 pub(crate) type Case = cases::Case<Step, State, Result<Told, Refusal>>;
 
-/// How write 1 was completed, its first block and how many it has, and its connection and its place.
+/// How write 1 was completed, its first block and its block count, and its connection and place.
 pub(crate) type Told = (CompletionKind, u64, u64, Option<(u32, u32)>);
 
 fn receipt(node: &mut LinkedPrimary) -> Result<Told, Refusal> {
@@ -72,7 +72,7 @@ fn receipt(node: &mut LinkedPrimary) -> Result<Told, Refusal> {
     ))
 }
 
-// A write of as many blocks as these bytes have.
+// Submits a write of as many blocks as these bytes have.
 fn submit(node: &mut LinkedPrimary, alloc: Global, first: u64, bytes: &[u8]) -> Answer {
     let bytes = Bytes::copy_from_slice(alloc, bytes)?;
     Ok(node.submit(first, &bytes)?.1)
@@ -83,7 +83,7 @@ impl Node for LinkedPrimary {
 
     type State = State;
 
-    /// What the receipt of write 1 says.
+    /// The receipt of write 1.
     type Left = Result<Told, Refusal>;
 
     fn fresh(alloc: Global, settings: Settings) -> Result<LinkedPrimary, Refusal> {

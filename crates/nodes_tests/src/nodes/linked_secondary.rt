@@ -1,4 +1,4 @@
-//! A secondary over a link whose other end the test has, and what is done to it, as tables have it.
+//! A secondary over a link whose other end the test has, and its calls, for tables.
 use crate::nodes::answers::{Answer, DONE, Spot};
 use crate::nodes::cases;
 use crate::nodes::cases::Node;
@@ -13,7 +13,7 @@ use std::process::Abort;
 
 pub(crate) type LinkedSecondary = Secondary<PlainOut, PlainIn, MemStore>;
 
-/// What is done to a secondary.
+/// A call of a secondary.
 #[derive(Clone, Copy)]
 pub(crate) enum Step {
     Receive,
@@ -22,7 +22,7 @@ pub(crate) enum Step {
     Close,
 }
 
-/// What a secondary tells of itself.
+/// What a secondary's queries return.
 #[derive(Clone, Copy, Debug, PartialEq, Eq)]
 pub(crate) struct State {
     pub(crate) is_open: bool,
@@ -33,7 +33,7 @@ pub(crate) struct State {
     /// The number of the connection.
     pub(crate) number: u32,
     pub(crate) usage: Usage,
-    /// Which place the disk does next.
+    /// The place that the disk does next.
     pub(crate) next: Result<u32, Refusal>,
 }
 

@@ -1,4 +1,4 @@
-//! The other end of a node's link, which sends what a test has it send.
+//! The other end of a node's link, which sends what a test gives it.
 ghost use Rattle.std.specs.Prelude.{◌≡◌, [], IfOk};
 ghost use Rattle.std.specs.Option.{ForSome};
 ghost use Rattle.link.specs.Directions.{IsUnused};
@@ -8,7 +8,7 @@ use blocks::Refusal;
 use link::{FrameOut, PlainEnds, PlainLink, PlainOut, Queue};
 use std::alloc::Global;
 
-/// Frames, in their order: some, then the one that is tested, and then others.
+/// Frames in their order: those before the tested one, that one, and those after it.
 #[derive(Clone, Copy)]
 pub(crate) struct Frames {
     pub(crate) before: &'static [Spelled],
@@ -16,7 +16,7 @@ pub(crate) struct Frames {
     pub(crate) behind: &'static [Spelled],
 }
 
-/// A sending end, out of whose queue nothing was taken yet.
+/// A sending end from whose queue nothing was taken yet.
 #[derive(Drop)]
 struct Sender {
     end: PlainOut,
@@ -43,8 +43,8 @@ impl Sender {
     }
 }
 
-/// The ends of a node at a new link, and the queue in which these frames wait for it. Both sides of a link are alike,
-/// so the node may be of either kind.
+/// Makes the ends of a node at a new link, and the queue in which these frames wait for it. Both sides of a link are
+/// alike, so the node may be of either kind.
 pub(crate) fn linked(alloc: Global, frames: Frames) -> Result<(PlainEnds, Queue), Refusal>
     ensures unused { IfOk result (λ made. IsUnused made.0.outward made.0.inward 64) }
     ensures untaken { IfOk result (λ made. made.1.taken ≡ []) }

@@ -15,9 +15,9 @@ use crate::tuples::OWN;
 use blocks::{Command, Decision, Done, Refusal, Settings, What};
 use primary::CompletionKind;
 
-/// Each comes once write 1 was sent.
+/// Frames that come after write 1 was sent.
 const FOREIGN: [(Spelled, Answer); 7] = [
-    // The acknowledgement of write 2 in the place of write 1, of write 1 at place 1, and of 8192 bytes.
+    // The acknowledgement of write 2 in the place of write 1, that of write 1 at place 1, and that of 8192 bytes.
     (
         Spelled::Short(&[
             0x83, 0x5A, 0, 0x16, 0, 0, 0, 0x18, 0, 0, 0, 0, 0, 0, 0, 0x10, 0, 0, 0, 0, 0, 0, 0, 2,
@@ -39,7 +39,7 @@ const FOREIGN: [(Spelled, Answer); 7] = [
         ]),
         Err(Refusal::UnknownAck),
     ),
-    // The answer of another protocol, and that to block 3 of a resync, at place 1, where none goes on.
+    // The acknowledgement of another protocol, and that of block 3 of a resync, at place 1, while no resync runs.
     (
         Spelled::Short(&[
             0x83, 0x5A, 0, 0x15, 0, 0, 0, 0x18, 0, 0, 0, 0, 0, 0, 0, 0x10, 0, 0, 0, 0, 0, 0, 0, 1,
@@ -56,12 +56,12 @@ const FOREIGN: [(Spelled, Answer); 7] = [
     ),
     // The acknowledgement of a barrier that was not sent.
     (BARRIER_ACK_1, Err(Refusal::BadBarrierAck)),
-    // No acknowledgement.
+    // A frame that is no acknowledgement.
     (WRITE, Err(Refusal::BadCommand)),
 ];
 
-/// The acknowledgements of barrier 1 with an epoch of two writes, and of barrier 2, and a second one of write 1. Each comes
-/// once barrier 1 was sent, and write 1 was answered.
+/// The acknowledgements of barrier 1 with an epoch of two writes, and of barrier 2, and a second one of write 1. Each
+/// comes after barrier 1 was sent and write 1 was answered.
 const AGAIN: [(Spelled, Answer); 3] = [
     (
         Spelled::Short(&[0x83, 0x5A, 0, 0x1C, 0, 0, 0, 8, 0, 0, 0, 1, 0, 0, 0, 2]),
@@ -77,7 +77,7 @@ const AGAIN: [(Spelled, Answer); 3] = [
 /// The acknowledgement of barrier 1, before that of its write.
 const EARLY: [(Spelled, Answer); 1] = [(BARRIER_ACK_1, Err(Refusal::BadBarrierAck))];
 
-/// The peer's identifiers are as the disk's.
+/// The peer's identifiers equal the disk's.
 const DECIDED: Answer = Ok(Done {
     what: What::Decided(Decision::NoSync),
     ..NOTHING
@@ -107,7 +107,7 @@ const SENT: [Row; 2] = [
     (Step::Send, WRITE_WENT),
 ];
 
-/// The same where an epoch has one write.
+/// The same, if an epoch has one write.
 const SENT_AS_EPOCH: [Row; 3] = [
     (
         Step::Submit(2),
@@ -140,7 +140,7 @@ const COMPLETED_AND_ENDED: Answer = Ok(Done {
     synced: false,
 });
 
-/// The peer's disk has it too, which does the same.
+/// The peer's disk has it too, which completes it and ends its epoch.
 const ACKNOWLEDGED: Answer = Ok(Done {
     what: What::Frame(Command::WriteAck, None),
     completed: Some(1),
@@ -177,7 +177,7 @@ const EPOCH_ANSWERED: Before = Before {
     rows: &[&HELLO, &GREETED, &SENT, &WRITTEN, &ANSWERED],
 };
 
-/// The end is closed, block 2 is marked and no other, and the disk goes on under the word for a loss.
+/// The end is closed, block 2 alone is marked, and the disk goes on under the word for a loss.
 pub(crate) const PARTED: State = State {
     is_open: false,
     is_established: false,
@@ -192,7 +192,7 @@ pub(crate) const PARTED: State = State {
     is_marked: true,
 };
 
-/// Write 1 is still open. The local disk has it then, and that completes it without the peer.
+/// Write 1 is still open. Then the local disk has it, which completes it without the peer.
 const PARTED_BEFORE_IT_IS_WRITTEN: After = After {
     behind: &[WRITE_ACK],
     state: State {
@@ -210,7 +210,7 @@ const PARTED_BEFORE_IT_IS_WRITTEN: After = After {
     left: Ok((CompletionKind::Alone, 2, 1, Some((1, 0)))),
 };
 
-/// Nothing is sent or taken over a closed end, though a frame waits that an open one would take.
+/// Nothing is sent or taken over a closed end, although a frame waits that an open one would take.
 pub(crate) const NO_MORE: [Row; 5] = [
     (Step::Send, CLOSED),
     (Step::AckIn, CLOSED),
@@ -228,7 +228,7 @@ const PARTED_ALONE: After = After {
     left: Ok((CompletionKind::Alone, 2, 1, Some((1, 0)))),
 };
 
-/// Write 1 was completed by the peer's answer before.
+/// The peer's answer completed write 1 before.
 const PARTED_LINKED: After = After {
     behind: &[BARRIER_ACK_1],
     state: PARTED,
@@ -250,7 +250,7 @@ fn foreign_frames_close_the_end(rt: HostRuntime) {
     passes::<LinkedPrimary, _>(&rt, &FOREIGN_FRAMES);
 }
 
-/// The end is open, and its stream stands. Write 1 is completed, and its epoch is not acknowledged.
+/// The end is open, and the connection is established. Write 1 is completed, and its epoch is not acknowledged.
 const STANDING: State = State {
     is_open: true,
     is_established: true,
@@ -261,7 +261,7 @@ const STANDING: State = State {
     ..PARTED
 };
 
-/// The peer's disk has write 1, and the local disk has it then.
+/// The peer's disk has write 1, and then the local disk has it.
 const ANSWERED_BEFORE_IT_IS_WRITTEN: After = After {
     behind: &[],
     state: State {
@@ -286,7 +286,7 @@ const ANSWERED_LAST: After = After {
     left: Ok((CompletionKind::Linked, 2, 1, Some((1, 0)))),
 };
 
-/// The peer acknowledges the epoch of write 1, which the local disk has last.
+/// The peer acknowledges the epoch of write 1, and then the local disk has the write.
 const EPOCH_ENDS: After = After {
     behind: &[BARRIER_ACK_1],
     state: State {

@@ -9,8 +9,8 @@ use crate::nodes::primary_frames::{NO_MORE, PARTED};
 use crate::tuples::OWN;
 use blocks::{Refusal, Settings};
 
-/// The peer's identifiers are 1,0,7,0, of which 7 is a word of this connection; 9,1,0,0, of a disk that is ahead; and
-/// 20,21,22,23, of one that has nothing to do with this.
+/// Identifiers of the peer: 1,0,7,0, where 7 is a word of this connection; 9,1,0,0, of a disk that is ahead; and
+/// 20,21,22,23, of an unrelated disk.
 const IDENTIFIERS: [(Spelled, Answer); 3] = [
     (
         Spelled::Short(&[
@@ -53,7 +53,7 @@ const TWO_HEARD: Before = Before {
     rows: &[&[(Step::AckIn, PROTOCOL_WENT), (Step::AckIn, SIZES_WENT)]],
 };
 
-/// The end is closed, and all else is as before the connection.
+/// The end is closed, and all else is as it was before the connection.
 const UNCHANGED: State = State {
     tuple: OWN,
     accepted: 0,

@@ -14,7 +14,7 @@ use crate::tuples::OWN;
 use blocks::{Command, Done, Refusal, Settings, What};
 use secondary_core::Usage;
 
-/// Each comes after write 1 of block 2, at place 0.
+/// Frames that come after write 1 of block 2, at place 0.
 const FOREIGN: [(Spelled, Answer); 10] = [
     // Write 2 of block 3 at place 2, write 2 of block 2, again write 1, and write 2 of blocks 7 and 8, at place 1.
     (
@@ -57,7 +57,7 @@ const FOREIGN: [(Spelled, Answer); 10] = [
         ),
         Err(Refusal::BadField),
     ),
-    // The barrier after the next, and what belongs to a resync where none goes on.
+    // The barrier after the next, and the frames of a resync while none runs.
     (
         Spelled::Short(&[0x83, 0x5A, 0, 3, 0, 0, 0, 8, 0, 0, 0, 2, 0, 0, 0, 0]),
         Err(Refusal::BadField),
@@ -68,7 +68,7 @@ const FOREIGN: [(Spelled, Answer); 10] = [
     ),
     (UUIDS_7_0_9_1, Err(Refusal::BadField)),
     (RESYNC, Err(Refusal::BadField)),
-    // No items.
+    // Frames that are no items.
     (PROTOCOL_C, Err(Refusal::BadCommand)),
     (WRITE_ACK, Err(Refusal::BadCommand)),
 ];
@@ -125,8 +125,8 @@ const DRAINED: State = State {
     next: Err(Refusal::NothingThere),
 };
 
-/// Write 1 is pending. It is applied, once, and is not acknowledged. Nothing is taken or sent over a closed end, though
-/// a barrier waits that an open one would take.
+/// Write 1 is pending. It is applied, once, and is not acknowledged. Nothing is taken or sent over a closed end,
+/// although a barrier waits that an open one would take.
 const WRITE_STAYS: After = After {
     behind: &[BARRIER_1],
     state: State {
@@ -190,7 +190,7 @@ const STANDING: State = State {
     ..DRAINED
 };
 
-/// The hello is done once three frames were sent too.
+/// The hello is done after three frames were sent too.
 const GREETS: After = After {
     behind: &[],
     state: State {

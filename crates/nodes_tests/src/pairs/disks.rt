@@ -11,11 +11,11 @@ use std::process::Abort;
 /// How many blocks each write and each item of these rows has.
 const COUNT: u64 = 1;
 
-/// A fault in the place of a row's call of a disk, and the blocks on which the disks differ at the end.
+/// A fault that replaces a row's call of a disk, and the blocks on which the disks differ at the end.
 type Trial = (Given, &'static [u64]);
 
-/// A block that the primary's disk failed to write differs once the secondary has it. After a fault of the
-/// secondary's disk that end is closed, so what comes of later epochs does not arrive.
+/// A block that the primary's disk failed to write differs once the secondary has it. After a fault of the secondary's
+/// disk its end is closed, so items of later epochs do not arrive.
 static EPOCH_FAULTS: [Trial; 12] = [
     (Given::LocalFault(1, 0), &[0]),
     (Given::LocalFault(1, 1), &[]),
@@ -46,7 +46,8 @@ static RESYNC_FAULTS: [Trial; 10] = [
     (Given::PeerFault(3, 1), &[]),
 ];
 
-/// Fails each call of a disk in turn, after each number of blocks. The trials name them all, in their order.
+/// Fails each call of a disk in turn, after each number of blocks, and checks that the trials name all of them in
+/// order.
 fn fails_each(rt: &(impl Abort + AllocGlobal), row: &'static [Part], trials: &'static [Trial]) {
     let lines = lines_of(rt, row);
     let faults = faults_of(rt, &lines);
@@ -57,7 +58,7 @@ fn fails_each(rt: &(impl Abort + AllocGlobal), row: &'static [Part], trials: &'s
     }
 }
 
-/// All lines of a row.
+/// Returns all lines of a row.
 fn lines_of(rt: &(impl Abort + AllocGlobal), row: &[Part]) -> Vec<Line> {
     let mut lines = Vec::new(rt.alloc());
     for part in row {
@@ -66,7 +67,7 @@ fn lines_of(rt: &(impl Abort + AllocGlobal), row: &[Part]) -> Vec<Line> {
     lines
 }
 
-/// The faults of a row, each with the index of the line whose place it takes.
+/// Returns the faults of a row, each with the index of the line that it replaces.
 fn faults_of(rt: &(impl Abort + AllocGlobal), lines: &[Line]) -> Vec<(usize, Given)> {
     let mut faults = Vec::new(rt.alloc());
     for (index, line) in lines.iter().enumerate() {
@@ -79,7 +80,7 @@ fn faults_of(rt: &(impl Abort + AllocGlobal), lines: &[Line]) -> Vec<(usize, Giv
     faults
 }
 
-/// The fault in the place of a line, if the line has a disk do something. A failed read leaves no block.
+/// Returns the fault that replaces a line, if the line has a disk do something. A failed read leaves no block.
 fn fault_of(line: Line, kept: u64) -> Option<Given> {
     match line {
         (_, Said::Refused(_)) => None,
@@ -90,7 +91,7 @@ fn fault_of(line: Line, kept: u64) -> Option<Given> {
     }
 }
 
-/// The events of a row with a fault at one line.
+/// Returns the events of a row with a fault at one line.
 fn events_of(
     rt: &(impl Abort + AllocGlobal),
     lines: &[Line],
@@ -105,7 +106,7 @@ fn events_of(
     events
 }
 
-/// Fails one call of a disk, in a pair of its own.
+/// Fails one call of a disk in a new pair, and checks the replies.
 fn fails(
     rt: &(impl Abort + AllocGlobal),
     lines: &[Line],
@@ -118,7 +119,7 @@ fn fails(
     replies_are_due(rt, &replies, lines, fault);
 }
 
-/// The replies of a pair that is taken through events, to its end. What is left of it is looked at.
+/// Takes a pair through events to its end, and checks its disks and marks. Returns the replies.
 fn replies_of(
     rt: &(impl Abort + AllocGlobal),
     pair: Pair,
@@ -140,7 +141,8 @@ fn replies_of(
     }
 }
 
-/// Each event has a reply. Up to the fault it is the row's, and the fault is met. Nothing is said of those behind it.
+/// Checks that each event has a reply. Up to the fault the replies are the row's, and the disk fails. The replies after
+/// it are not checked.
 fn replies_are_due(
     rt: &impl Abort,
     replies: &[Reply],
@@ -158,7 +160,7 @@ fn replies_are_due(
     }
 }
 
-/// Whether the disk failed: a failed write is reported as done, and the read of a resync is refused.
+/// Returns whether the disk failed: a failed write is reported as done, and the read of a resync is refused.
 fn is_met(fault: Given, reply: Reply) -> bool {
     match fault {
         Given::ResyncFault => reply == Reply::Refused(Refusal::ReadFault),
@@ -166,7 +168,7 @@ fn is_met(fault: Given, reply: Reply) -> bool {
     }
 }
 
-/// Both ends close, if they are open, and the disks do what they have left.
+/// Closes both ends, if they are open, and has the disks do what they have yet to do.
 fn ends(rt: &impl Abort, pair: &mut Pair) {
     may_do(pair, Event::ClosePrimary);
     may_do(pair, Event::CloseSecondary);
@@ -188,7 +190,7 @@ fn may_do(pair: &mut Pair, event: Event) {
     let _ = pair.step(&event);
 }
 
-/// Gives a pair an event that a disk does.
+/// Gives a pair an event that a disk does, and checks that it is not refused.
 fn does(rt: &impl Abort, pair: &mut Pair, event: Event) {
     let reply = pair.step(&event);
     assert!(rt;
@@ -197,7 +199,7 @@ fn does(rt: &impl Abort, pair: &mut Pair, event: Event) {
     );
 }
 
-/// Neither end is open, and no disk has anything left to do.
+/// Checks that neither end is open, and that no disk has anything more to do.
 fn is_ended(rt: &impl Abort, pair: &Pair) {
     let (primary, secondary) = (pair.primary(), pair.secondary());
     assert_eq!(rt; (primary.is_open(), primary.next_local()), (false, None));
@@ -207,7 +209,7 @@ fn is_ended(rt: &impl Abort, pair: &Pair) {
     );
 }
 
-/// The disks differ on these blocks alone, and each of them is marked.
+/// Checks that the disks differ on these blocks alone, and that each of them is marked.
 fn differs_on(rt: &impl Abort, pair: &mut Pair, fault: Given, differing: &'static [u64]) {
     for number in 0..BLOCKS as u64 {
         let differs = pair.differs(Block(number));

@@ -1,10 +1,10 @@
-//! Events of a pair and the replies to them, as tables have them.
+//! Events of a pair and the replies to them, for tables.
 use crate::contents::filled;
 use blocks::{Block, Command, Decision, Done, Refusal, Reply, What};
 use pair::Event;
 use std::alloc::{AllocError, Global};
 
-/// An event of a pair. What a write holds is named by a byte, since tables are constants.
+/// An event of a pair. A byte names the contents of a write, since tables are constants.
 #[derive(Clone, Copy, Debug, PartialEq, Eq)]
 pub(crate) enum Given {
     /// The words for a resync and for a loss.
@@ -28,20 +28,20 @@ pub(crate) enum Given {
 /// The reply to an event.
 #[derive(Clone, Copy)]
 pub(crate) enum Said {
-    /// It was done, and there is no more to say of it.
+    /// It was done, and the reply says nothing more.
     Done,
-    /// A write was accepted under this number, and no more.
+    /// A write was accepted under this number, and the reply says nothing more.
     Accepted(u64),
-    /// A frame without a place went over the link, and no more.
+    /// A frame without a place went over the link, and the reply says nothing more.
     Went(Command),
-    /// An item of the stream went over the link, with its place, and no more.
+    /// An item of the stream went over the link, with its place, and the reply says nothing more.
     Item(Command, u32),
     /// A block was read for the resync, and its item has this place.
     Copied(u64, u32),
     /// The peer's identifiers were taken, and this was decided.
     Decided(Decision),
-    /// What it was about, the write that it completed, the barrier that it appended, and whether a resync
-    /// is over.
+    /// What the event was about, the write that it completed, the barrier that it appended, and whether a resync is
+    /// over.
     More(What, Option<u64>, Option<u32>, bool),
     /// The primary closed its end, which completed this many writes.
     Closed(u32),
@@ -52,7 +52,7 @@ pub(crate) enum Said {
 pub(crate) type Line = (Given, Said);
 
 impl Given {
-    /// The event. Its contents are made anew, so memory may be refused.
+    /// Makes the event. Its contents are new, so memory may be refused.
     pub(crate) fn event(self, alloc: Global) -> Result<Event, AllocError> {
         Ok(match self {
             Given::Open(sync, loss) => Event::Open { sync, loss },
@@ -77,7 +77,7 @@ impl Given {
 }
 
 impl Said {
-    /// The reply.
+    /// Returns the reply.
     pub(crate) fn reply(self) -> Reply {
         match self {
             Said::Done => about(What::Nothing),

@@ -1,5 +1,5 @@
-//! Worked examples in which a request for memory is refused, if any is. With ample memory none is, and they
-//! pass; the script `checks/refused_memory` refuses each request in turn.
+//! Worked examples that pass also if a request for memory is refused. With ample memory none is; the script
+//! `checks/refused_memory` refuses each request in turn.
 use crate::pairs::events::{Given, Line};
 use crate::pairs::resyncs::{BLOCK_PASSED_OVER, BLOCK_UNDER_WAY, RESYNC, UNHEARD_END};
 use crate::pairs::rows::{EPOCHS, LOCAL_FAULT, Part, WRITE};
@@ -11,15 +11,15 @@ use std::io::Print;
 use std::process::Abort;
 use std::test::Fail;
 
-/// How many requests for memory were met with a refusal. One request is refused at most: what was refused is
-/// done once more, and is not refused again.
+/// How many requests for memory were refused. One request is refused at most: what was refused is done again, and is
+/// not refused again.
 #[derive(Drop)]
 struct Refusals {
     met: u32,
 }
 
 impl Refusals {
-    /// Notes one.
+    /// Records a refusal.
     fn note(&mut self, rt: &impl Abort) {
         assert_eq!(rt; self.met, 0, "memory is refused a second time");
         self.met = 1;
@@ -29,7 +29,7 @@ impl Refusals {
 /// The events of a part of a row, each as a list of its own.
 type Events = Vec<[Event; 1]>;
 
-/// Takes a pair through a row, and says how many refusals it met.
+/// Takes a pair through a row, and prints how many refusals it met.
 fn runs(rt: &(impl Abort + AllocGlobal + Print), row: &'static [Part]) -> Result<(), Fail> {
     let mut refusals = Refusals { met: 0 };
     let events = made(rt, rt.alloc(), row, &mut refusals)?;
@@ -39,8 +39,8 @@ fn runs(rt: &(impl Abort + AllocGlobal + Print), row: &'static [Part]) -> Result
     Ok(())
 }
 
-/// Takes a pair of its own through a row. The functions that have it by value do not return early, so that none has
-/// to drop it.
+/// Takes a new pair through a row. The functions that take it by value do not return early, so that none has to drop
+/// it.
 fn begins(
     rt: &(impl Abort + AllocGlobal),
     row: &'static [Part],
@@ -67,7 +67,7 @@ fn goes(
     let_go(pair);
 }
 
-/// Takes the pair through a part.
+/// Takes the pair through a part of the row.
 fn goes_on(
     rt: &(impl Abort + AllocGlobal),
     mut pair: Pair,
@@ -81,7 +81,7 @@ fn goes_on(
     pair
 }
 
-/// A pair with nothing done.
+/// Makes a pair with nothing done.
 fn fresh(rt: &impl Abort, alloc: Global, refusals: &mut Refusals) -> Result<Pair, Refusal> {
     match Pair::fresh(alloc, Settings::STANDARD) {
         Err(Refusal::NoMemory) => refusals.note(rt),
@@ -90,7 +90,7 @@ fn fresh(rt: &impl Abort, alloc: Global, refusals: &mut Refusals) -> Result<Pair
     Pair::fresh(alloc, Settings::STANDARD)
 }
 
-/// The events of a row with their contents.
+/// Makes the events of a row with their contents.
 fn made(
     rt: &impl Abort,
     alloc: Global,
@@ -120,7 +120,7 @@ fn part_events(alloc: Global, lines: &'static [Line]) -> Result<Events, AllocErr
     Ok(events)
 }
 
-/// Takes the pair through one event. The reply is the line's.
+/// Takes the pair through one event. Checks that the reply is the line's.
 fn answers(
     rt: &(impl Abort + AllocGlobal),
     pair: Pair,
@@ -133,7 +133,7 @@ fn answers(
     pair
 }
 
-/// Gives the pair an event. Where memory is refused nothing has changed, and the event is given once more.
+/// Gives the pair an event. If memory is refused, nothing has changed, and the event is given again.
 fn done(
     rt: &(impl Abort + AllocGlobal),
     mut pair: Pair,
@@ -156,7 +156,7 @@ fn done(
     reply_to(rt, pair, event)
 }
 
-/// Gives the pair one event. There is no reply where there was no memory to reply at all.
+/// Gives the pair one event. Returns no reply if there was no memory to reply at all.
 fn reply_to(
     rt: &(impl Abort + AllocGlobal),
     pair: Pair,
@@ -171,7 +171,7 @@ fn reply_to(
     }
 }
 
-/// The reply to one event.
+/// Returns the reply to one event.
 fn only(rt: &impl Abort, replies: &[Reply]) -> Reply {
     assert_eq!(rt; replies.len(), 1);
     replies[0]
@@ -181,8 +181,8 @@ fn is_out_of_memory(reply: Option<Reply>) -> bool {
     matches!(reply, None | Some(Reply::Refused(Refusal::NoMemory)))
 }
 
-/// Whether the step of an event may take memory. What a disk does and what a close does takes none, and no more
-/// does an acknowledgement that the primary takes once the stream has begun: its room was made before.
+/// Returns whether the step of an event may take memory. What a disk does and what a close does takes none. Nor does an
+/// acknowledgement that the primary takes after the stream has begun: its room was made before.
 fn takes_memory(pair: &Pair, given: Given) -> bool {
     match given {
         Given::Local(_)

@@ -1,5 +1,5 @@
-//! Worked examples of resyncs: two blocks are written while no connection stands, and the next connection copies
-//! them.
+//! Worked examples of resyncs: two blocks are written while no connection is established, and the next connection
+//! copies them.
 use crate::pairs::events::{Given, Said};
 use crate::pairs::rows::{BLOCKS, CONNECTED, Held, Part, hello};
 use blocks::{Command, Decision, Refusal, What};
@@ -41,7 +41,7 @@ const RESYNCING: Part = Part {
     },
 };
 
-/// The secondary hears that it is the target.
+/// The secondary receives the word that makes it the target.
 const TARGET_TOLD: Part = Part {
     lines: &[
         (Given::Send, Said::Item(Command::SyncUuid, 0)),
@@ -129,7 +129,7 @@ pub(crate) static RESYNC: [Part; 7] = [
     },
 ];
 
-/// The connection is lost before the secondary heard of the end, so that all is copied on the next one.
+/// The connection is lost before the secondary receives the end of the resync, so the next one copies all blocks.
 pub(crate) static UNHEARD_END: [Part; 8] = [
     CONNECTED,
     PARTED,
@@ -162,8 +162,8 @@ pub(crate) static UNHEARD_END: [Part; 8] = [
     },
 ];
 
-/// A block is under way: a write over another block is refused by it, one beside it is accepted, and the block
-/// of that write is not copied while it is open.
+/// A block is under way: it refuses a write that covers it, a write beside it is accepted, and the resync does not copy
+/// the block of that write while it is open.
 pub(crate) static BLOCK_UNDER_WAY: [Part; 4] = [
     CONNECTED,
     PARTED,
@@ -200,7 +200,7 @@ pub(crate) static BLOCK_UNDER_WAY: [Part; 4] = [
     },
 ];
 
-/// A marked block under an open write is passed over by the resync.
+/// The resync passes over a marked block under an open write.
 pub(crate) static BLOCK_PASSED_OVER: [Part; 4] = [
     CONNECTED,
     PARTED,

@@ -26,7 +26,7 @@ pub(crate) struct Held {
     pub(crate) peer_filled: [u8; BLOCKS],
 }
 
-/// A connection is opened with two words, each end's three frames go over, and the primary decides.
+/// Opens a connection with two words. Each end sends its three frames, and the primary decides.
 macro_rules! hello {
     ($sync:literal, $loss:literal, $decision:expr) => {
         [
@@ -61,7 +61,7 @@ pub(crate) const CONNECTED: Part = Part {
     },
 };
 
-/// One write goes its whole way. Its completion ends the epoch, and the barrier stands behind it.
+/// One write goes its whole way. Its completion ends the epoch, and the barrier follows it in the stream.
 pub(crate) static WRITE: [Part; 2] = [
     CONNECTED,
     Part {
@@ -93,8 +93,8 @@ pub(crate) static WRITE: [Part; 2] = [
     },
 ];
 
-/// Two writes of one epoch, of which the second is completed first, and one of the next epoch, which waits for
-/// the first at the peer's disk.
+/// Two writes of one epoch, the second of which is completed first, and one of the next epoch, which waits for the
+/// first at the peer's disk.
 pub(crate) static EPOCHS: [Part; 3] = [
     CONNECTED,
     Part {

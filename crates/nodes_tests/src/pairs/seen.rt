@@ -1,12 +1,12 @@
-//! The state of a pair, as its queries tell it, and its end.
+//! The state of a pair, as its queries return it, and its end.
 use crate::pairs::rows::{BLOCKS, Held};
 use blocks::{BLOCK_BYTES, Block, Refusal, Tuple};
 use pair::{Pair, Side};
 use secondary_core::Usage;
 use std::process::Abort;
 
-/// All that a pair of eight blocks tells without taking memory. A disk that fails its next read shows here, since each block
-/// of both is read.
+/// All that a pair of eight blocks returns without taking memory. A disk that fails its next read shows here, since
+/// each block of both is read.
 #[derive(Clone, Copy, Debug, PartialEq, Eq)]
 pub(crate) struct Seen {
     disks: Disks,
@@ -27,12 +27,12 @@ struct Disks {
 struct BlockSeen {
     is_marked: bool,
     differs: bool,
-    /// The byte that fills it, and none where its bytes are not alike.
+    /// The byte that fills it; none if its bytes differ.
     local_filled: Option<u8>,
     peer_filled: Option<u8>,
 }
 
-/// What the primary says of itself.
+/// What the primary's queries return.
 #[derive(Clone, Copy, Debug, PartialEq, Eq)]
 struct PrimarySeen {
     peer: Option<Tuple>,
@@ -51,7 +51,7 @@ struct PrimarySeen {
     frames_sent: Option<u64>,
 }
 
-/// What the secondary says of itself.
+/// What the secondary's queries return.
 #[derive(Clone, Copy, Debug, PartialEq, Eq)]
 struct SecondarySeen {
     next: Result<u32, Refusal>,
@@ -88,7 +88,7 @@ impl Disks {
 }
 
 impl BlockSeen {
-    /// What stands in the place of a block until it is read.
+    /// A block before it is read.
     const UNREAD: BlockSeen = BlockSeen {
         is_marked: false,
         differs: false,
@@ -105,7 +105,7 @@ impl BlockSeen {
         }
     }
 
-    /// A block that is marked or not, and that these bytes fill.
+    /// Returns a block that is marked or not, and that these bytes fill.
     fn wanted(is_marked: bool, local: u8, peer: u8) -> BlockSeen {
         BlockSeen {
             is_marked,
@@ -116,7 +116,7 @@ impl BlockSeen {
     }
 }
 
-/// The byte that fills a block of a node's disk.
+/// Returns the byte that fills a block of a node's disk.
 fn filled(pair: &mut Pair, side: Side, block: Block) -> Option<u8> {
     let mut buffer = [0u8; BLOCK_BYTES];
     pair.read(side, block, &mut buffer).ok()?;
@@ -167,7 +167,7 @@ impl SecondarySeen {
     }
 }
 
-/// The identifiers, the marks and both disks are these.
+/// Checks the identifiers, the marks and both disks.
 pub(crate) fn holds(rt: &impl Abort, pair: &mut Pair, held: &Held) {
     let disks = Disks::of(pair);
     assert_eq!(rt;
@@ -185,7 +185,7 @@ pub(crate) fn holds(rt: &impl Abort, pair: &mut Pair, held: &Held) {
     }
 }
 
-/// A tuple in the order in which it is printed.
+/// Returns a tuple in the order in which it is printed.
 fn words(tuple: Tuple) -> [u64; 4] {
     [
         tuple.current,
@@ -195,6 +195,5 @@ fn words(tuple: Tuple) -> [u64; 4] {
     ]
 }
 
-/// Drops a pair. Each of its parts is dropped by code that stands where the pair is dropped, and is proved there:
-/// so that is here alone.
+/// Drops a pair. The code that drops its parts is put, and proved, wherever a pair is dropped: so that is only here.
 pub(crate) fn let_go(_pair: Pair) {}

@@ -1,7 +1,7 @@
 //! The decision over the generation identifiers of a new pair.
 use crate::scripts::rows::decides;
 
-/// Identifiers of a new pair, and what its first connection answers: one case each, in the order in which they are
+/// Identifiers of a new pair, and what its first connection prints: one case each, in the order in which they are
 /// tried.
 const DECISIONS: &[(&str, &str)] = &[
     ("own=7,1,0,0 peer=0,0,0,0", "ok FullSync"),

@@ -1,4 +1,4 @@
-//! A script that cannot be read, and an output that cannot be written.
+//! Tests of a script that cannot be read, and of an output that cannot be written.
 use crate::scripts::rows::{is_no_script, is_one_line};
 use script::script_on;
 use std::io;

@@ -1,8 +1,8 @@
-//! The keys of a pair, and their values.
+//! Tests of the keys of a pair, and of their values.
 use crate::scripts::rows::{pair_line, prints};
 use std::process::Abort;
 
-/// After `pair`, none of these are keys.
+/// Checks that after `pair` none of these are keys.
 fn are_no_keys(rt: &(impl Abort + AllocGlobal), keys: &[&str]) {
     for words in keys {
         let script = pair_line(rt, words);
@@ -10,7 +10,7 @@ fn are_no_keys(rt: &(impl Abort + AllocGlobal), keys: &[&str]) {
     }
 }
 
-/// No pair can be made with these keys.
+/// Checks that a pair with these keys is refused.
 fn are_refused(rt: &(impl Abort + AllocGlobal), keys: &[&str]) {
     for words in keys {
         let script = pair_line(rt, words);

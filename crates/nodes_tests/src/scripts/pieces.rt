@@ -1,4 +1,4 @@
-//! How output is written: in large pieces, and all of it.
+//! Tests that output is written in large pieces, and all of it.
 use script::script_on;
 use std::io::{self, Write};
 use std::process::Abort;
@@ -21,7 +21,7 @@ impl Write for Output {
     }
 }
 
-/// A pair, 300 commands that are refused, and a last line.
+/// Makes a script: a pair, 300 commands that are refused, and a last line.
 fn long_script(rt: &(impl Abort + AllocGlobal), last: &str) -> String {
     let mut script = String::from_str(rt.alloc(), "pair\n").expect(rt, "memory");
     for _ in 0..300 {
@@ -31,7 +31,7 @@ fn long_script(rt: &(impl Abort + AllocGlobal), last: &str) -> String {
     script
 }
 
-/// Runs the script, which ends with this status. All 301 lines are printed, in this many calls of the output.
+/// Runs the script, and checks that it ends with this status, and that all 301 lines are printed in this many calls.
 fn is_printed(rt: &(impl Abort + AllocGlobal), script: &str, wanted: u8, calls: u32) {
     let alloc = rt.alloc();
     let mut out = Output {
@@ -48,7 +48,7 @@ fn is_printed(rt: &(impl Abort + AllocGlobal), script: &str, wanted: u8, calls: 
 
 #[test]
 fn output_is_written_in_large_pieces(rt: HostRuntime) {
-    // The last line stops the second script. What was printed before is all there.
+    // The last line stops the second script. All that was printed before is there.
     for (last, wanted, calls) in [("", 0, 1), ("sent\n", 2, 1)] {
         let script = long_script(&rt, last);
         is_printed(&rt, script.as_str(), wanted, calls);

@@ -1,9 +1,9 @@
-//! How a script is run and judged.
+//! Functions that run a script and judge what it prints.
 use script::script_on;
 use std::io::Read;
 use std::process::Abort;
 
-/// Runs a script and compares what it prints, what it says on standard error, and its status.
+/// Runs a script, and checks its standard output, its standard error and its status.
 pub(crate) fn prints(
     rt: &(impl Abort + AllocGlobal),
     script: &str,
@@ -19,14 +19,14 @@ pub(crate) fn prints(
     assert_eq!(rt; (text(&written), text(&said), answer), (out, err, status));
 }
 
-/// What was said on standard error is one line.
+/// Checks that standard error has one line.
 pub(crate) fn is_one_line(rt: &impl Abort, said: &[u8]) {
     let ends = said.iter().filter(|byte| **byte == b'\n').count();
     assert_eq!(rt; ends, 1);
     assert_eq!(rt; said.last(), Some(&b'\n'));
 }
 
-/// The input is no script: nothing is printed, and one line on standard error says so.
+/// Checks that the input is no script: nothing is printed, and one line on standard error says so.
 pub(crate) fn is_no_script(rt: &(impl Abort + AllocGlobal), input: &mut impl Read) {
     let alloc = rt.alloc();
     let mut written = Vec::new(alloc);
@@ -37,12 +37,12 @@ pub(crate) fn is_no_script(rt: &(impl Abort + AllocGlobal), input: &mut impl Rea
     is_one_line(rt, &said);
 }
 
-/// What was written, so that a failed comparison shows lines.
+/// Returns the text that was written, so that a failed comparison shows lines.
 fn text(written: &[u8]) -> &str {
     std::str::from_utf8(written).unwrap_or("what was written is not UTF-8")
 }
 
-/// A text of these parts.
+/// Joins these parts into a text.
 pub(crate) fn joined(rt: &(impl Abort + AllocGlobal), parts: &[&str]) -> String {
     let mut text = String::new(rt.alloc());
     for part in parts {
@@ -51,12 +51,12 @@ pub(crate) fn joined(rt: &(impl Abort + AllocGlobal), parts: &[&str]) -> String 
     text
 }
 
-/// A script of one line, `pair` with some keys.
+/// Makes a script of one line: `pair` with some keys.
 pub(crate) fn pair_line(rt: &(impl Abort + AllocGlobal), keys: &str) -> String {
     joined(rt, &["pair ", keys, "\n"])
 }
 
-/// What a connection of a pair with these identifiers answers to two new words.
+/// Checks what a connection of a pair with these identifiers prints for two new words.
 pub(crate) fn decides(rt: &(impl Abort + AllocGlobal), identifiers: &str, answer: &str) {
     let script = joined(rt, &["pair ", identifiers, "\nconnect 97 98\n"]);
     let out = joined(rt, &["pair ok\nconnect ", answer, "\n"]);

@@ -1,8 +1,8 @@
-//! Lines of a script that are commands, and lines that stop it.
+//! Tests of lines of a script that are commands, and of lines that stop it.
 use crate::scripts::rows::{is_no_script, joined, prints};
 use std::process::Abort;
 
-/// After a pair, none of these lines is a command.
+/// Checks that after a pair none of these lines is a command.
 fn are_no_commands(rt: &(impl Abort + AllocGlobal), lines: &[&str]) {
     for line in lines {
         let script = joined(rt, &["pair\n", line, "\nmarks\n"]);
@@ -50,7 +50,7 @@ const COMMANDS: [&str; 20] = [
     "status",
 ];
 
-/// No command can stand here: after these lines, each stops the script, which goes on with a pair.
+/// Checks that after these lines each command stops the script, which has a pair only later.
 fn have_no_pair(rt: &(impl Abort + AllocGlobal), before: &str, out: &str, err: &str) {
     for command in COMMANDS {
         let script = joined(rt, &[before, command, "\npair\n"]);
@@ -69,7 +69,7 @@ fn a_pair_comes_first(rt: HostRuntime) {
     );
 }
 
-/// Words are parted by one space.
+/// Lines whose words are not separated by one space.
 const PARTED_OTHERWISE: &[&str] = &[
     " ",
     " # note",
@@ -92,7 +92,7 @@ const PARTED_OTHERWISE: &[&str] = &[
     "send\u{a0}",
 ];
 
-/// Commands have their words.
+/// Commands with other words than theirs.
 const OTHER_WORDS: &[&str] = &[
     "open",
     "open 5",
@@ -134,7 +134,7 @@ const OTHER_WORDS: &[&str] = &[
     "status primary",
 ];
 
-/// Numbers are decimal, without a sign, and have 64 bits.
+/// Numbers that are not decimal, have a sign, or have more than 64 bits.
 const OTHER_NUMBERS: &[&str] = &[
     "local x",
     "local +1",
@@ -165,7 +165,7 @@ const OTHER_NUMBERS: &[&str] = &[
     "read secondary -1",
 ];
 
-/// A command submits at most 64 blocks.
+/// Commands that submit more than 64 blocks.
 const TOO_MANY_BLOCKS: &[&str] = &[
     "submit 0 65 AA",
     "submit 0 256 AA",
@@ -174,7 +174,7 @@ const TOO_MANY_BLOCKS: &[&str] = &[
     "submit 0 18446744073709551615 AA",
 ];
 
-/// A byte is two hexadecimal digits.
+/// Bytes that are not two hexadecimal digits.
 const OTHER_BYTES: &[&str] = &[
     "submit 0 1 ",
     "submit 0 1 A",
@@ -203,7 +203,7 @@ fn these_are_no_commands(rt: HostRuntime) {
     }
 }
 
-/// Bytes that are no text.
+/// Bytes that are not text.
 const NO_TEXTS: &[&[u8]] = &[
     b"\xFF",
     b"pair\nmarks\n\xFF\n",

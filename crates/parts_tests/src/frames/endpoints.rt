@@ -1,4 +1,4 @@
-//! Packets go through a link from one side to the other, and are refused where they have no way.
+//! Tests of packets that go through a link from one side to the other, or are refused because they cannot.
 ghost use Rattle.std.specs.Prelude.{◌≡◌, ◌-◌, [], length, take, unwrap_or, None, Some, IfOk};
 
 use crate::frames::links::direction;
@@ -15,7 +15,7 @@ use std::process::Abort;
 struct Direction {
     sender: PacketSender<PlainOut>,
     taker: PacketReceiver<PlainIn>,
-    // What was taken is what was pushed but for what waits in the queue.
+    // What was taken is what was pushed, without what waits in the queue.
     ghost lends: { taker.frames ≡ take (length sender.frames - unwrap_or sender.waiting 0) sender.frames },
 }
 
@@ -47,7 +47,7 @@ impl Direction {
     }
 }
 
-// A direction with this packet in it.
+// Makes a direction with this packet in it.
 fn pushed(rt: &impl Abort, alloc: Global, sample: &'static Sample) -> Direction
     ensures first { (result.sender.number ≡ 1) × (result.taker.number ≡ 1) }
     ensures whole { result.sender.partly ≡ None }
@@ -66,7 +66,7 @@ fn goes_through(rt: &impl Abort, alloc: Global, sample: &'static Sample) {
     is_read(rt, alloc, 0, &read, Ok(sample));
 }
 
-// Run with each request for memory refused in turn, this fails only where the link is made.
+// If each request for memory is refused in turn, this fails only where the link is made.
 #[test]
 fn a_short_frame_takes_no_memory(rt: HostRuntime) {
     goes_through(&rt, rt.alloc(), &Sample::Protocol(Protocol::C));
@@ -86,7 +86,7 @@ fn a_connection_drops_the_packets_of_the_one_before(rt: HostRuntime) {
     is_read(&rt, rt.alloc(), 0, &read, Err(Refusal::NothingThere));
 }
 
-// The sender is full, and refuses a packet.
+// Checks that the sender is full and refuses a packet.
 fn is_full(rt: &impl Abort, alloc: Global, sender: &mut PacketSender<PlainOut>, blocks: u64)
     requires { sender.old.partly ≡ None }
 {
@@ -101,7 +101,7 @@ fn a_full_link_refuses_a_packet(rt: HostRuntime) {
     joined(&sender, &taker);
 }
 
-// The taker has no queue, and finds nothing.
+// Checks that the taker has no queue and finds nothing.
 fn is_empty(rt: &impl Abort, taker: &mut PacketReceiver<PlainIn>) {
     taker.ready().expect(rt, "an open end");
     let taken = taker.take().err();

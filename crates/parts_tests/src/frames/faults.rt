@@ -1,4 +1,4 @@
-//! Frames that are faulty: each is refused for its first fault, as one frame and as a stream.
+//! Faulty frames: each is refused for its first fault, as one frame and as a stream.
 use crate::frames::samples::{Sample, is_read};
 use crate::frames::streams::is_one_frame;
 use crate::vectors::{
@@ -10,8 +10,7 @@ use packets::{decode, read};
 use std::alloc::Global;
 use std::process::Abort;
 
-/// A faulty frame, and its fault: the front, how many blocks of bytes AA come after it, and which bytes are
-/// then put in place of others.
+/// A faulty frame and its fault: the front, how many blocks of bytes AA follow it, and which bytes then replace others.
 type Row = (&'static [u8], u8, &'static [(usize, u8)], Refusal);
 
 /// Headers are judged at their eighth byte, and fields last.
@@ -49,7 +48,7 @@ static FAULTS: [Row; 15] = [
     (&RS_WRITE_ACK, 0, &[(26, 0x20)], Refusal::BadField),
 ];
 
-// The bytes of a row.
+// Returns the bytes of a row.
 fn bytes_of(rt: &impl Abort, alloc: Global, row: &Row) -> Vec<u8> {
     let (front, blocks, changes, _) = row;
     let mut bytes = with_blocks(rt, alloc, front, *blocks, 0xAA);
@@ -60,7 +59,7 @@ fn bytes_of(rt: &impl Abort, alloc: Global, row: &Row) -> Vec<u8> {
     bytes
 }
 
-// As one frame, the bytes are refused for this.
+// Checks that the bytes are refused for this as one frame.
 fn is_refused(rt: &impl Abort, alloc: Global, row: usize, bytes: &[u8], refusal: Refusal) {
     let read = decode(frame_of(rt, alloc, bytes));
     is_read(rt, alloc, row, &read, Err(refusal));
@@ -76,7 +75,7 @@ fn a_fault_comes_with_its_last_byte(rt: HostRuntime) {
     }
 }
 
-/// Frames that end early or go on. They are refused for that, whatever their fields say.
+/// Frames that are too short or too long. They are refused for that, whatever their fields say.
 static BROKEN: [&[u8]; 6] = [
     &[0x83, 0x5A, 0, 3, 0, 0, 0],
     &SHORT_BARRIER,
@@ -113,7 +112,7 @@ static HELLOS: [Expected; 6] = [
     ),
     (&WRONG_BARRIER, None, Err(Refusal::BadField)),
     (&PROTOCOL_C, HELLO, Ok(&Sample::Protocol(Protocol::C))),
-    // A fault of the header, and another length than it says, come before.
+    // A fault of the header, and a length other than it says, come before that.
     (&OTHER_MAGIC, HELLO, Err(Refusal::BadMagic)),
     (&SHORT_BARRIER, HELLO, Err(Refusal::BadLength)),
 ];

@@ -1,4 +1,4 @@
-//! The hello at an end of a link, over frames of any bytes, on one connection after another.
+//! Tests of the hello at an end of a link, over frames of any bytes, on one connection after another.
 ghost use Rattle.std.specs.Prelude.{◌≡◌, ◌≤◌, length};
 ghost use Rattle.parts_tests.specs.Lending.{taken_in};
 
@@ -67,7 +67,7 @@ impl Frames {
 /// The bytes of a frame, and what they are read as.
 type Row = (&'static [u8], Result<&'static Sample, Refusal>);
 
-// Frames of these bytes are read so, one after the other.
+// Checks that frames of these bytes are read as their rows say, one after another.
 fn are_read(rt: &impl Abort, alloc: Global, frames: &mut Frames, rows: &'static [Row]) {
     for (row, (bytes, wanted)) in rows.iter().enumerate() {
         assert!(rt; bytes.len() <= 40);
@@ -75,7 +75,7 @@ fn are_read(rt: &impl Abort, alloc: Global, frames: &mut Frames, rows: &'static 
     }
 }
 
-/// A hello has three frames.
+/// Frames of a hello, which has three, and the frame after them.
 static HELLO: [Row; 4] = [
     (&WRONG_BARRIER, Err(Refusal::BadCommand)),
     (&WRONG_BARRIER, Err(Refusal::BadCommand)),

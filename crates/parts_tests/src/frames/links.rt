@@ -1,4 +1,4 @@
-//! A direction of a link in one thread: what is offered comes out, when it is full, and what a connection
+//! Tests of a direction of a link in one thread: what is offered comes out, when it is full, and what a new connection
 //! drops.
 ghost use Rattle.std.specs.Prelude.{◌≡◌, IfOk};
 ghost use Rattle.link.specs.Directions.{InState, IsDirection, IsUnused};
@@ -10,7 +10,7 @@ use packets::Frame;
 use std::alloc::Global;
 use std::process::Abort;
 
-/// Both ends of a direction that holds one frame.
+/// Makes both ends of a direction that holds one frame.
 pub(crate) fn direction(alloc: Global) -> Result<(PlainOut, PlainIn), Refusal>
     ensures unused { IfOk result (λ ends. IsUnused ends.0 ends.1 1) }
     ensures direction { IfOk result (λ ends. IsDirection ends.0 ends.1) }
@@ -36,7 +36,7 @@ fn carry(sender: &mut PlainOut, taker: &mut PlainIn) -> Result<Frame, Refusal>
     taken
 }
 
-// The taking end is brought a frame of these bytes, or finds nothing where there are none.
+// Checks that the taking end gets a frame of these bytes, or finds nothing if there are none.
 fn is_brought(rt: &impl Abort, sender: &mut PlainOut, taker: &mut PlainIn, bytes: &'static [u8])
     requires { IsDirection sender.old taker.old }
     ensures { IsDirection sender.new taker.new }
@@ -48,7 +48,7 @@ fn is_brought(rt: &impl Abort, sender: &mut PlainOut, taker: &mut PlainIn, bytes
     assert!(rt; is_right, "not {bytes:?}");
 }
 
-// The sending end accepts the frame.
+// Checks that the sending end accepts the frame.
 fn is_accepted(rt: &impl Abort, sender: &mut PlainOut, frame: Frame)
     ensures number { sender.new.number ≡ sender.old.number }
     ensures direction { (taker : InState) → IsDirection sender.old taker → IsDirection sender.new taker }

@@ -1,4 +1,4 @@
-//! Packets, as tables have them.
+//! Packets for tables.
 ghost use Rattle.std.specs.Prelude.{IfOk};
 ghost use Rattle.packets.specs.Spelling.{IsSpellable};
 
@@ -80,14 +80,14 @@ fn packet_of(alloc: Global, sample: &Sample) -> Result<Packet, Refusal>
     }
 }
 
-/// The packet of a sample, where there is memory for it.
+/// Makes the packet of a sample, if there is memory for it.
 pub(crate) fn sampled(rt: &impl Abort, alloc: Global, sample: &Sample) -> Packet
     ensures { IsSpellable result }
 {
     packet_of(alloc, sample).expect(rt, "memory")
 }
 
-/// A frame was read as a row of a table has it.
+/// Checks that a frame was read as a row of a table says.
 pub(crate) fn is_read(
     rt: &impl Abort,
     alloc: Global,

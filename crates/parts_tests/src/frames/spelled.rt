@@ -1,4 +1,4 @@
-//! Each packet has one frame: its bytes are what the packet is spelled as, and are read as the packet.
+//! Tests that each packet has one frame: encoding the packet gives the bytes, and reading the bytes gives the packet.
 ghost use Rattle.packets.specs.Spelling.{IsSpellable};
 
 use crate::frames::samples::{Sample, is_read, sampled};
@@ -12,8 +12,8 @@ use packets::{Frame, Packet, decode, encode};
 use std::alloc::Global;
 use std::process::Abort;
 
-/// A packet, and its frame: the front, how many blocks come after it, the byte that fills them, and how many
-/// bytes the frame has.
+/// A packet, and its frame: the front, how many blocks follow it, the byte that fills them, and how many bytes the
+/// frame has.
 type Row = (Sample, &'static [u8], u8, u8, usize);
 
 static FRAMES: [Row; 13] = [
@@ -39,7 +39,7 @@ const TUPLE: Tuple = Tuple {
     second_historical: 1,
 };
 
-// The bytes are the packet's frame. Gives what that frame is read as.
+// Checks that the bytes are the packet's frame. Returns what that frame is read as.
 fn respelled(
     rt: &impl Abort,
     alloc: Global,
@@ -54,7 +54,7 @@ fn respelled(
     decode(frame)
 }
 
-// The bytes are the packet's frame, and are read as the packet, as one frame and as a stream.
+// Checks that the bytes are the packet's frame, and are read as the packet, as one frame and as a stream.
 fn goes_both_ways(
     rt: &impl Abort,
     alloc: Global,
@@ -78,7 +78,7 @@ fn each_packet_has_its_frame(rt: HostRuntime) {
     }
 }
 
-// A frame of more than 40 bytes gives them back.
+// Checks that a frame of more than 40 bytes gives them back.
 fn is_long(rt: &impl Abort, frame: Frame, bytes: &[u8]) {
     assert!(rt; frame.as_slice().len() > 40);
     assert!(rt; frame.into_bytes().as_slice() == bytes);

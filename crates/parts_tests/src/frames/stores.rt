@@ -1,4 +1,4 @@
-//! Disks in memory, the ranges of blocks that they are written by, and the settings.
+//! Tests of disks in memory, of the ranges of blocks that they are written by, and of the settings.
 ghost use Rattle.std.specs.Prelude.{◌≡◌};
 
 use blocks::{
@@ -7,7 +7,7 @@ use blocks::{
 use std::alloc::Global;
 use std::process::Abort;
 
-/// The first block and how many blocks, of a device of 2,048, and the range that they make.
+/// The first block and the block count on a device of 2,048 blocks, and the range that they make.
 static RANGES: [(u64, u64, Result<(u64, u64), Refusal>); 6] = [
     (2016, 32, Ok((2016, 32))),
     (0, 33, Err(Refusal::BadRange)),
@@ -58,15 +58,15 @@ fn settings_have_ranges(rt: HostRuntime) {
     assert_eq!(rt; checked, (Ok(()), Err(Refusal::BadSetting)));
 }
 
-/// What is done to a disk of 8 blocks.
+/// A call of a disk of 8 blocks.
 enum Step {
     /// The first block, how many, and the byte that fills them.
     Write(u64, u64, u8),
-    /// A block, and the byte that fills it, where it can be read.
+    /// A block, and the byte that fills it if it can be read.
     Read(u64, u8),
 }
 
-/// A step, and whether it works. Where a read does, it also finds the byte.
+/// A step, and whether it works. A read that works also finds the byte.
 type Row = (Step, Result<bool, StoreFault>);
 
 fn write(
@@ -122,7 +122,7 @@ fn a_disk_keeps_what_was_written(rt: HostRuntime) {
     goes(&rt, rt.alloc(), &mut disk, &KEPT);
 }
 
-/// The first read fails, and the second write, which keeps its first block.
+/// The first read fails, and so does the second write, which keeps its first block.
 static ARMED: [Row; 6] = [
     (Step::Read(2, 0), Err(StoreFault)),
     (Step::Write(0, 1, 0xAA), Ok(true)),
@@ -132,7 +132,7 @@ static ARMED: [Row; 6] = [
     (Step::Write(2, 2, 0xAA), Ok(true)),
 ];
 
-/// The disk is armed, and fails so.
+/// Arms the disk, and checks that it fails as armed.
 fn fails_where_it_is_armed(rt: &impl Abort, alloc: Global, disk: &mut FaultStore) {
     disk.arm_after(1, 1);
     disk.arm_read();

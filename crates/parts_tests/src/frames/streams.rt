@@ -1,4 +1,4 @@
-//! A decoder over streams: pieces that end inside a frame, pieces of several frames, and a fault.
+//! Tests of a decoder over streams: pieces that end inside a frame, pieces of several frames, and a fault.
 use crate::frames::samples::{Sample, sampled};
 use crate::vectors::{BARRIER, BARRIER_ACK, OTHER_MAGIC, WRITE, with_blocks};
 use blocks::Refusal;
@@ -6,10 +6,10 @@ use packets::{Decoder, Packet, decode_all};
 use std::alloc::Global;
 use std::process::Abort;
 
-/// A piece of a stream, what the decoder answers to it, and how many packets it has given by then.
+/// A piece of a stream, what the decoder returns for it, and how many packets it has given by then.
 type Piece<'a> = (&'a [u8], Result<(), Refusal>, usize);
 
-// The decoder returns this for the piece, and has then given this number of packets.
+// Checks that the decoder returns this for the piece, and has then given this number of packets.
 fn feed(
     rt: &impl Abort,
     row: usize,
@@ -22,8 +22,8 @@ fn feed(
     assert!(rt; is_right, "row {row}");
 }
 
-// A new decoder answers each piece so, and gives these packets. Byte by byte, a piece changes nothing before
-// its last byte.
+// Checks that a new decoder returns this for each piece, and gives these packets. If it is fed byte by byte, a piece
+// changes nothing before its last byte.
 fn is_decoded(
     rt: &impl Abort,
     alloc: Global,
@@ -51,8 +51,8 @@ fn is_decoded(
     assert!(rt; packets.as_slice() == wanted, "row {row}");
 }
 
-/// The stream of a table's row is answered so, and gives these packets, in one piece, and byte by byte with
-/// its last byte.
+/// Checks what the decoder returns for the stream of a table's row, and that it gives these packets, in one piece, and
+/// byte by byte with its last byte.
 pub(crate) fn is_one_frame(
     rt: &impl Abort,
     alloc: Global,
@@ -104,7 +104,7 @@ static STREAMS: [Stream; 5] = [
         &[(&BARRIER, Ok(()), 1), (&BARRIER_ACK, Ok(()), 2)],
         &[Sample::Barrier(1), Sample::BarrierAck(1, 1)],
     ),
-    // A fault is answered again.
+    // A fault is returned again.
     (
         false,
         &[(&FAULTY, FAULT, 1), (&BARRIER, FAULT, 1)],
@@ -121,7 +121,7 @@ static STREAMS: [Stream; 5] = [
     ),
 ];
 
-// The packets of these samples.
+// Makes the packets of these samples.
 fn all_of(rt: &impl Abort, alloc: Global, samples: &[Sample]) -> Vec<Packet> {
     let mut packets = Vec::new(alloc);
     for sample in samples {
@@ -141,7 +141,7 @@ fn a_stream_comes_in_any_pieces(rt: HostRuntime) {
     }
 }
 
-// In two pieces, cut here, the bytes are read as these packets.
+// Checks that the bytes are read as these packets in two pieces, cut here.
 fn is_read_in_two(rt: &impl Abort, alloc: Global, bytes: &[u8], cut: usize, wanted: &[Packet]) {
     assert!(rt; cut <= bytes.len());
     let (front, end) = bytes.split_at(cut);

@@ -19,26 +19,26 @@ fn mark_last(rt: &impl Abort, bitmap: &mut Bitmap) {
     bitmap.mark(range);
 }
 
-/// This many blocks are marked, and this is the first.
+/// Checks that this many blocks are marked, and that this is the first.
 fn has(rt: &impl Abort, bitmap: &Bitmap, count: u32, first: u64) {
     let found = (bitmap.count(), bitmap.first_from(Block(0)));
     assert_eq!(rt; found, (count, Some(Block(first))));
 }
 
-/// The last 32 blocks of the last extent are marked.
+/// Checks that the last 32 blocks of the last extent are marked.
 fn has_the_last_32(rt: &impl Abort, bitmap: &Bitmap) {
     has(rt, bitmap, 32, 262_112);
     let found = (bitmap.count_in(Extent(255)), bitmap.count_in(Extent(254)));
     assert_eq!(rt; found, (32, 0));
 }
 
-/// So the last word says.
+/// Checks that the last word of the bitmap says so.
 fn has_the_last_word(rt: &impl Abort, bitmap: &Bitmap) {
     let word = bitmap.words().get(4095).copied();
     assert_eq!(rt; word, Some(0xFFFF_FFFF_0000_0000));
 }
 
-/// The first of them is cleared.
+/// Clears the first of them, and checks that the others stay marked.
 fn clears_one(rt: &impl Abort, bitmap: &mut Bitmap) {
     assert_eq!(rt; bitmap.len(), 262_144);
     bitmap.clear(Block(262_112));
@@ -59,13 +59,13 @@ fn the_last_32_blocks_of_the_largest_device(rt: HostRuntime) {
     assert_eq!(rt; bitmap.count(), 262_144);
 }
 
-/// The lowest number that holds a block of this range, of a device of 2,048.
+/// Checks the lowest number that holds a block of this range, on a device of 2,048 blocks.
 fn conflicts(rt: &impl Abort, held: &Held, (first, count): (u64, u64), wanted: Option<u64>) {
     let range = Range::new(first, count, 2048).expect(rt, "a range");
     assert_eq!(rt; held.conflict(range), wanted, "{first} {count}");
 }
 
-/// A number holds a range that no other number touches.
+/// Has a number hold a range that no other number touches.
 fn holds(rt: &impl Abort, held: &mut Held, number: u64, range: Range) {
     assert_eq!(rt; held.conflict(range), None);
     assert!(rt; !held.is_held(number));
@@ -96,7 +96,7 @@ fn the_lowest_holder_of_a_block(rt: HostRuntime) {
     assert_eq!(rt; held.conflict(high), None);
 }
 
-/// A resync copies block 2 until that is acknowledged.
+/// Checks that a resync copies block 2 until that is acknowledged.
 fn copies_block_2(rt: &impl Abort) {
     let mut resync = Resync::new();
     resync.begin();

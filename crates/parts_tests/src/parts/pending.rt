@@ -3,7 +3,7 @@ use blocks::Refusal;
 use peerdisk::PeerDisk;
 use std::process::Abort;
 
-/// This item can start now, or none at this place.
+/// Checks that this item can start now, or that this refusal comes at this place.
 fn starts(rt: &impl Abort, disk: &PeerDisk<char>, place: u32, wanted: Result<char, Refusal>) {
     assert_eq!(rt; disk.start(place).copied(), wanted, "place {place}");
 }

@@ -1,4 +1,4 @@
-//! Frames over one connection after another.
+//! Tests of frames over one connection after another.
 ghost use Rattle.std.specs.Prelude.{◌≡◌, ◌<◌, None, IfOk};
 ghost use Rattle.packets.specs.Cutting.{IsCut};
 ghost use Rattle.packets.specs.Spelling.{IsSpellable};
@@ -15,7 +15,7 @@ use std::alloc::Global;
 use std::process::Abort;
 use std::sync::Wait;
 
-/// The frame of a packet is whole.
+/// Encodes a packet. The frame is whole.
 pub(crate) fn spelled(alloc: Global, packet: &Packet) -> Result<Frame, Refusal>
     requires { IsSpellable packet.now }
     ensures { IfOk result (λ frame. IsCut frame) }
@@ -23,7 +23,7 @@ pub(crate) fn spelled(alloc: Global, packet: &Packet) -> Result<Frame, Refusal>
     encode(alloc, packet)
 }
 
-/// The frame of a write of block 2.
+/// Makes the frame of a write of block 2.
 fn one_block_in(alloc: Global) -> Result<Frame, Refusal>
     ensures { IfOk result (λ frame. IsCut frame) }
 {
@@ -38,21 +38,21 @@ fn one_block_in(alloc: Global) -> Result<Frame, Refusal>
     )
 }
 
-/// The same, where there is memory for it.
+/// Makes the same frame, if there is memory for it.
 pub(crate) fn one_block(rt: &impl Abort, alloc: Global) -> Frame
     ensures { IsCut result }
 {
     one_block_in(alloc).expect(rt, "a write has a frame")
 }
 
-/// The frame of a barrier.
+/// Makes the frame of a barrier.
 pub(crate) fn barrier(rt: &impl Abort, alloc: Global, number: u32) -> Frame
     ensures { IsCut result }
 {
     spelled(alloc, &Packet::Barrier { number }).expect(rt, "a barrier has a frame")
 }
 
-/// The two ends of a link with a row for this many pieces.
+/// Makes the two ends of a link with a row for this many pieces.
 fn ends<R: Wait + Abort + Copy>(rt: R, alloc: Global, pieces: usize) -> (RuledOut<R>, RuledIn<R>)
     requires { 0 < pieces }
     ensures partly { result.0.partly ≡ None }
@@ -63,7 +63,7 @@ fn ends<R: Wait + Abort + Copy>(rt: R, alloc: Global, pieces: usize) -> (RuledOu
     (RuledOut::new(outward), inward)
 }
 
-/// A row does not hold a frame at once, which goes on from where it was.
+/// Checks that a frame that a row does not hold at once goes on from where it was.
 fn goes_on<O: FrameOut, I: FrameIn>(rt: &impl Abort, alloc: Global, outward: &mut O, inward: &mut I)
     requires { (O.state outward.old).partly ≡ None }
 {
@@ -77,7 +77,7 @@ fn a_full_row_is_gone_on_with(rt: HostRuntime) {
     goes_on(&rt, rt.alloc(), &mut outward, &mut inward);
 }
 
-/// The connection of a frame in part is over, and the next one has frames of its own.
+/// Ends a connection within a frame, and checks that the next one has frames of its own.
 fn begins_anew<O: FrameOut, I: FrameIn>(
     rt: &impl Abort,
     alloc: Global,
@@ -92,7 +92,7 @@ fn begins_anew<O: FrameOut, I: FrameIn>(
     gives_none(rt, inward);
     outward.restart(2);
     accepts(rt, outward, barrier(rt, alloc, 1));
-    // The piece of the second connection is in hand until that begins.
+    // The taking end keeps the piece of the second connection until that begins.
     gives_none(rt, inward);
     gives_none(rt, inward);
     inward.restart(2);
@@ -106,7 +106,7 @@ fn a_connection_ends_within_a_frame(rt: HostRuntime) {
     begins_anew(&rt, rt.alloc(), &mut outward, &mut inward);
 }
 
-/// Frames of three connections stand in a row; the taking end takes the last one.
+/// Puts frames of three connections into a row, and checks that the taking end takes the last one's.
 fn drops_earlier<O: FrameOut, I: FrameIn>(
     rt: &impl Abort,
     alloc: Global,

@@ -7,7 +7,7 @@ use link::{FrameIn, FrameOut};
 use packets::Frame;
 use std::process::Abort;
 
-/// The end accepts a frame.
+/// Checks that the end accepts a frame.
 pub(crate) fn accepts<O: FrameOut>(rt: &impl Abort, end: &mut O, frame: Frame)
     requires whole { IsCut frame }
     requires again { IfSome (O.state end.old).partly (λ begun. begun ≡ frame) }
@@ -17,7 +17,7 @@ pub(crate) fn accepts<O: FrameOut>(rt: &impl Abort, end: &mut O, frame: Frame)
     assert!(rt; end.offer(frame).is_ok());
 }
 
-/// The end is full, and hands the frame back.
+/// Checks that the end is full and hands the frame back.
 pub(crate) fn hands_back<O: FrameOut>(rt: &impl Abort, end: &mut O, frame: Frame) -> Frame
     requires whole { IsCut frame }
     requires again { IfSome (O.state end.old).partly (λ begun. begun ≡ frame) }
@@ -38,7 +38,7 @@ pub(crate) fn next<I: FrameIn>(end: &mut I) -> Result<Frame, Refusal>
     end.take()
 }
 
-/// The next frame has these bytes.
+/// Checks that the next frame has these bytes.
 pub(crate) fn gives<I: FrameIn>(rt: &impl Abort, end: &mut I, bytes: &[u8])
     ensures { (I.state end.new).number ≡ (I.state end.old).number }
 {
@@ -46,14 +46,14 @@ pub(crate) fn gives<I: FrameIn>(rt: &impl Abort, end: &mut I, bytes: &[u8])
     assert!(rt; frame.as_slice() == bytes);
 }
 
-/// There is no frame.
+/// Checks that there is no frame.
 pub(crate) fn gives_none<I: FrameIn>(rt: &impl Abort, end: &mut I)
     ensures { (I.state end.new).number ≡ (I.state end.old).number }
 {
     assert!(rt; matches!(next(end), Err(Refusal::NothingThere)));
 }
 
-/// A link in which there is no frame carries this one, and then has none again.
+/// Checks that a link in which there is no frame carries this one, and then has none again.
 pub(crate) fn carries<O: FrameOut, I: FrameIn>(
     rt: &impl Abort,
     outward: &mut O,

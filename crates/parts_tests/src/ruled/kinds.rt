@@ -21,12 +21,12 @@ const KINDS: [(&[u8], u8); 11] = [
     (&RS_WRITE_ACK, 0),
 ];
 
-/// The DATA frame of block 2.
+/// Makes the DATA frame of block 2.
 pub(crate) fn write(rt: &impl Abort, alloc: Global) -> Vec<u8> {
     with_blocks(rt, alloc, &WRITE, 1, 0xAA)
 }
 
-/// A frame of each kind.
+/// Makes a frame of each kind.
 pub(crate) fn frames(rt: &impl Abort, alloc: Global) -> Vec<Vec<u8>> {
     let mut frames = Vec::new(alloc);
     for (front, blocks) in KINDS {

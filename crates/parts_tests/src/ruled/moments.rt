@@ -1,4 +1,4 @@
-//! A row of whose moments a fact is kept.
+//! Tests of a row and of a link with an invariant.
 ghost use Rattle.std.specs.Prelude.{[]};
 
 use crate::ruled::connections::one_block;
@@ -10,13 +10,13 @@ use std::marker::Brand;
 use std::process::Abort;
 use std::sync::Wait;
 
-/// The first piece of the row has these bytes.
+/// Checks that the first piece of the row has these bytes.
 fn pops<R: Wait, M: RingInvariant>(abort: &impl Abort, row: &mut PieceIn<R, M>, bytes: &[u8]) {
     let piece = row.pop().expect(abort, "there is a piece");
     assert_eq!(abort; piece.bytes(), bytes);
 }
 
-/// A row that has one piece hands a second one back.
+/// Checks that a row that has one piece hands a second one back.
 fn hands_back<R: Wait, M: RingInvariant>(abort: &impl Abort, row: &mut PieceOut<R, M>) -> Piece {
     let second = row.push(Piece::new(b"second"));
     let second = second.expect_err(abort, "a row for one piece");
@@ -24,7 +24,7 @@ fn hands_back<R: Wait, M: RingInvariant>(abort: &impl Abort, row: &mut PieceOut<
     second
 }
 
-/// A row for one piece is empty and then full.
+/// Checks that a row for one piece is empty and then full.
 fn holds_one_piece<R: Wait, M: RingInvariant>(
     abort: &impl Abort,
     outward: &mut PieceOut<R, M>,
@@ -38,7 +38,7 @@ fn holds_one_piece<R: Wait, M: RingInvariant>(
     assert!(abort; outward.push(second).is_ok());
 }
 
-/// So is one of whose moments this is kept.
+/// Checks the same of a row with the invariant `M`.
 fn is_empty_and_then_full<M: RingInvariant, R: Wait + Abort + Copy>(rt: R, alloc: Global)
     requires { M.holds [] [] }
 {
@@ -54,7 +54,7 @@ fn a_row_with_an_invariant_is_empty_and_then_full(rt: HostRuntime) {
     is_empty_and_then_full::<Brand, &HostRuntime>(&rt, rt.alloc());
 }
 
-/// A frame goes through a link, which then has none.
+/// Checks that a frame goes through a link with the invariant `M`, which then has none.
 fn one_frame_goes_through<M: RingInvariant, R: Wait + Abort + Copy>(rt: R, alloc: Global)
     requires { M.holds [] [] }
 {

@@ -1,4 +1,4 @@
-//! Ends under the name of their direction.
+//! Tests of ends under the name of their direction.
 ghost use Rattle.std.specs.Prelude.{◌≡◌, None};
 ghost use Rattle.packets.specs.Cutting.{IsCut};
 ghost use Rattle.ruled_link.specs.Names.{row_of};

@@ -1,4 +1,4 @@
-//! Frames from pieces that are cut in any way, and the pieces of a frame.
+//! Tests of frames from pieces that are cut in any way, and of the pieces of a frame.
 ghost use Rattle.std.specs.Prelude.{◌<◌};
 
 use crate::ruled::connections::one_block;
@@ -11,7 +11,7 @@ use std::alloc::Global;
 use std::process::Abort;
 use std::sync::Wait;
 
-/// A row for this many pieces, and the end of a link that takes them.
+/// Makes a row for this many pieces, and the end of a link that takes them.
 fn taker<R: Wait + Abort + Copy>(rt: R, alloc: Global, pieces: usize) -> (PieceOut<R>, RuledIn<R>)
     requires { 0 < pieces }
 {
@@ -28,7 +28,7 @@ fn push<R: Wait>(rt: &impl Abort, row: &mut PieceOut<R>, bytes: &[u8], size: usi
     }
 }
 
-/// All frames come, whatever size the pieces of their bytes have.
+/// Checks that all frames come, whatever size the pieces of their bytes have.
 fn come_in_pieces<R: Wait, I: FrameIn>(
     rt: &impl Abort,
     alloc: Global,
@@ -53,7 +53,7 @@ fn frames_come_in_pieces_of_any_size(rt: HostRuntime) {
     come_in_pieces(&rt, rt.alloc(), &mut outward, &mut inward);
 }
 
-/// A header of another protocol is given as it is, and what is behind it is read on.
+/// Checks that a header of another protocol is given as it is, and that what follows it is read on.
 fn is_given_alone<R: Wait, I: FrameIn>(rt: &impl Abort, outward: &mut PieceOut<R>, inward: &mut I) {
     push(rt, outward, &OTHER_MAGIC, 3);
     push(rt, outward, &BARRIER[..15], 16);
@@ -69,14 +69,14 @@ fn a_header_that_is_none_is_a_frame_of_eight_bytes(rt: HostRuntime) {
     is_given_alone(&rt, &mut outward, &mut inward);
 }
 
-/// The end that pops the pieces of a write.
+/// Returns the end that pops the pieces of a write.
 fn popped_write<R: Wait + Abort + Copy>(rt: R, alloc: Global) -> PieceIn<R> {
     let (outward, inward) = row(rt, alloc, 94).expect(&rt, "there is a row");
     accepts(&rt, &mut RuledOut::new(outward), one_block(&rt, alloc));
     inward
 }
 
-/// A piece of this many bytes goes from one row to another.
+/// Passes a piece of this many bytes from one row to another.
 fn passes_on<R: Wait>(
     rt: &impl Abort,
     popped: &mut PieceIn<R>,
@@ -88,7 +88,7 @@ fn passes_on<R: Wait>(
     assert!(rt; pushed.push(piece).is_ok());
 }
 
-/// A write comes with the last of its three pieces.
+/// Checks that a write comes with the last of its three pieces.
 fn comes_with_the_last<R: Wait, I: FrameIn>(
     rt: &impl Abort,
     alloc: Global,

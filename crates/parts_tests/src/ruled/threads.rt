@@ -1,4 +1,4 @@
-//! The two ends in two threads.
+//! Tests of the two ends in two threads.
 ghost use Rattle.std.specs.Prelude.{◌≡◌, ◌<◌, None, IfOk};
 ghost use Rattle.packets.specs.Cutting.{IsCut};
 ghost use Rattle.packets.specs.Spelling.{IsSpellable};
@@ -17,7 +17,7 @@ use std::thread::{self, Threads};
 /// Frames of a run.
 const FRAMES: u32 = 20_000;
 
-/// A write of this many blocks, whose bytes are those of its place.
+/// Makes a write of this many blocks, filled with a byte of its place.
 fn data(alloc: Global, place: u32, blocks: usize) -> Result<Packet, Refusal>
     requires some { 0 < blocks }
     requires few { blocks < 33 }
@@ -32,7 +32,7 @@ fn data(alloc: Global, place: u32, blocks: usize) -> Result<Packet, Refusal>
     })
 }
 
-/// The packet at a place of the run: of mixed size, and with its place in it.
+/// Makes the packet at a place of the run: of mixed size, and with its place in it.
 fn packet_at(alloc: Global, place: u32) -> Result<Packet, Refusal>
     ensures { IfOk result (λ p. IsSpellable p) }
 {
@@ -66,7 +66,7 @@ fn send<R: Wait, O: FrameOut>(rt: &R, end: &mut O, frame: Frame)
     unreachable!()
 }
 
-/// The frame at a place of the run.
+/// Makes the frame at a place of the run.
 fn frame_at(alloc: Global, place: u32) -> Result<Frame, Refusal>
     ensures { IfOk result (λ frame. IsCut frame) }
 {
@@ -94,12 +94,12 @@ fn receive<R: Wait, I: FrameIn>(rt: &R, end: &mut I) -> Result<Frame, Refusal> {
     unreachable!()
 }
 
-/// Whether a frame is that of the run at this place.
+/// Returns whether a frame is that of the run at this place.
 fn is_at(alloc: Global, frame: Frame, place: u32) -> Result<bool, Refusal> {
     Ok(read(frame, None)? == packet_at(alloc, place)?)
 }
 
-/// Counts the frames that are those of the run, each at its place.
+/// Receives all frames. Returns how many are those of the run, each at its place.
 fn receive_all<R: Wait, I: FrameIn>(rt: &R, alloc: Global, end: &mut I) -> Result<u32, Refusal> {
     let mut same: u32 = 0;
     for place in 0..FRAMES {
@@ -110,7 +110,7 @@ fn receive_all<R: Wait, I: FrameIn>(rt: &R, alloc: Global, end: &mut I) -> Resul
     Ok(same)
 }
 
-/// Sends all frames in one thread and receives them in another, and says how many were those of the run.
+/// Sends all frames in one thread and receives them in another. Returns how many were those of the run.
 fn in_two_threads<R: Threads + Wait + Sync, O: FrameOut + Send, I: FrameIn>(
     rt: &R,
     alloc: Global,

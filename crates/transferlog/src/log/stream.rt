@@ -8,7 +8,7 @@ use crate::protocol::asks_answers;
 use blocks::Refusal;
 
 impl TransferLog {
-    /// A stream begins, on the connection with this number, which is counted from 1. It takes no memory.
+    /// Begins a stream, on the connection with this number, counted from 1. It takes no memory.
     pub fn connect(&mut self, connection: u32)
         requires counted { 0 < connection }
         requires closed { self.old.state.connection ≡ None }
@@ -21,8 +21,8 @@ impl TransferLog {
         self.epochs.restart();
     }
 
-    /// Puts a resync item into the stream. Answers its place. `NoMemory` (7) if there is no room for its
-    /// epoch, and never after `reserve`.
+    /// Puts a resync item into the stream. Returns its place. `NoMemory` (7) if there is no memory for its epoch, but
+    /// never after `reserve`.
     pub fn place_resync(&mut self) -> Result<u32, Refusal>
         requires { self.old.state.epochs.places < 4294967290 }
         ensures placed { IfOk result (λ place. (place, self.new.state) ≡ resync_placed self.old.state) }
@@ -36,8 +36,8 @@ impl TransferLog {
         Ok(place)
     }
 
-    /// The peer has applied the resync item under way. Answers the barrier that is appended, where it is in
-    /// the last epoch. It takes no memory.
+    /// Records that the peer has applied the resync item under way. Returns the barrier that is appended if the item
+    /// is in the last epoch. It takes no memory.
     pub fn resync_acked(&mut self) -> Option<u32>
         ensures { (result, self.new.state) ≡ resync_acked self.old.state }
     {
@@ -46,7 +46,7 @@ impl TransferLog {
         self.epochs.completed(0)
     }
 
-    /// Puts a SYNC_UUID or UUIDS item into the stream. Answers its place. It takes no memory.
+    /// Puts a SYNC_UUID or UUIDS item into the stream. Returns its place. It takes no memory.
     pub fn uuids(&mut self) -> u32
         requires { self.old.state.epochs.places < 4294967290 }
         ensures { (result, self.new.state) ≡ uuids_placed self.old.state }
@@ -56,11 +56,11 @@ impl TransferLog {
         self.epochs.uuids()
     }
 
-    /// The peer acknowledges an epoch. What is settled of it is released.
+    /// Records the peer's acknowledgement of an epoch. Releases the epoch's writes that the local disk is done with.
     ///
-    /// `BadBarrierAck` (24) unless the number is that of the oldest barrier that is not acknowledged, the
-    /// size is its epoch's, and, under protocols B and C, each write of the epoch is answered. It takes no
-    /// memory, and time for each write of the epoch.
+    /// `BadBarrierAck` (24) unless the number is that of the oldest unacknowledged barrier, the size is its epoch's,
+    /// and, under protocols B and C, each write of the epoch is answered. It takes no memory, and time for each write
+    /// of the epoch.
     pub fn barrier_acked(&mut self, number: u32, size: u32) -> Result<(), Refusal>
         ensures { (result, self.new.state) ≡ barrier_acked number size self.old.state }
     {
@@ -89,9 +89,9 @@ impl TransferLog {
         self.epochs.is_awaited(number, size) && !lacks
     }
 
-    /// The connection is closed: no stream stands any more, and no write has a connection. What is on the
-    /// local disk and was not completed is completed by that; what is settled is released, and clears
-    /// nothing. Answers how many writes it completed. It takes no memory, and time for each number from the
+    /// Ends the stream, as the connection is closed, and takes the connection from each write. Completes the writes
+    /// that are on the local disk and were not completed. Releases those that the local disk is done with, which
+    /// clears no marks. Returns how many writes it completed. It takes no memory, and time for each number from the
     /// first unreleased one on.
     pub fn drain(&mut self) -> u32
         ensures { (result, self.new.state) ≡ drained self.old.state }

@@ -16,8 +16,8 @@ use bytes::Bytes;
 use epochs::Epochs;
 
 impl TransferLog {
-    /// Makes room for one more item, a write or a resync item, and for its barrier. `NoMemory` (7) if it
-    /// cannot be had.
+    /// Makes room for another item, a write or a resync item, and for its barrier. `NoMemory` (7) if it cannot be
+    /// allocated.
     pub fn reserve(&mut self) -> Result<(), Refusal>
         ensures same { self.new.state ≡ self.old.state }
         ensures room { OnOk result (0 < self.new.spare) }
@@ -27,7 +27,7 @@ impl TransferLog {
         self.epochs.reserve()
     }
 
-    /// Whether another write is accepted. `LogFull` (3) if the backlog is full.
+    /// Checks whether another write may be accepted. `LogFull` (3) if the backlog is full.
     pub fn may_accept(&self) -> Result<(), Refusal>
         ensures full { IsErrOf result LogFull ↔ (self.now.state.backlog ≤ length self.now.state.writes) }
         ensures refused { IfErr result (λ e. e ≡ LogFull) }
@@ -38,10 +38,10 @@ impl TransferLog {
         Ok(())
     }
 
-    /// Accepts a write. Where a stream stands, it takes the next place there.
+    /// Accepts a write. If a stream is open, the write takes the next place there.
     ///
-    /// `LogFull` (3) if `backlog` writes are unreleased; `NoMemory` (7) if there is no room for the
-    /// write or for its epoch, and never after `reserve`.
+    /// `LogFull` (3) if `backlog` writes are unreleased; `NoMemory` (7) if there is no memory for the write or for
+    /// its epoch, but never after `reserve`.
     pub fn accept(&mut self, range: Range, contents: Bytes) -> Result<Accepted, Refusal>
         requires inside { range.first.0 + range.count ≤ length self.old.state.latest }
         requires few { self.old.state.accepted < 1048576 }
@@ -74,9 +74,9 @@ impl TransferLog {
         })
     }
 
-    /// The write's frame stands in the link's queue. Under protocol A it is answered by that. Answers the
-    /// barrier that is appended, where that completes the write and it is in the last epoch. A number that
-    /// is in the log no more changes no write. It takes no memory.
+    /// Records that the write's frame is in the link's queue; under protocol A that answers it. Returns the barrier
+    /// that is appended if this completes the write and the write is in the last epoch. A number that is not in the
+    /// log changes no write. It takes no memory.
     pub fn sent(&mut self, number: u64) -> Option<u32>
         ensures { (result, self.new.state) ≡ sent number self.old.state }
     {
@@ -84,8 +84,8 @@ impl TransferLog {
         self.change(number, Change::Sent(answers))
     }
 
-    /// The local disk has the write. Answers the barrier that is appended, where that completes the write
-    /// and it is in the last epoch. It takes no memory.
+    /// Records that the local disk has the write. Returns the barrier that is appended if this completes the write
+    /// and the write is in the last epoch. It takes no memory.
     pub fn local_done(&mut self, number: u64) -> Option<u32>
         requires { IsSomeAnd (write_at number self.old.state.writes) (λ w. w.local ≡ Waiting) }
         ensures { (result, self.new.state) ≡ local_done number self.old.state }
@@ -93,8 +93,8 @@ impl TransferLog {
         self.change(number, Change::OnDisk)
     }
 
-    /// The local disk failed the write, which is never completed then. Answers the barrier that is
-    /// appended, where it is in the last epoch. It takes no memory.
+    /// Records that the local disk failed the write, which is then never completed. Returns the barrier that is
+    /// appended if the write is in the last epoch. It takes no memory.
     pub fn local_fault(&mut self, number: u64) -> Option<u32>
         requires { IsSomeAnd (write_at number self.old.state.writes) (λ w. w.local ≡ Waiting) }
         ensures { (result, self.new.state) ≡ local_fault number self.old.state }
@@ -102,12 +102,11 @@ impl TransferLog {
         self.change(number, Change::Failed)
     }
 
-    /// The peer answers a write. Answers the barrier that is appended, where that completes the write and it
-    /// is in the last epoch.
+    /// Records the peer's answer to a write. Returns the barrier that is appended if this completes the write and the
+    /// write is in the last epoch.
     ///
-    /// `UnknownAck` (25) unless the protocol asks for this kind, and the write was sent on the connection
-    /// that stands, is not answered, and has exactly this number, place, first block and count. It takes no
-    /// memory.
+    /// `UnknownAck` (25) unless the protocol asks for this kind of answer, and the write was sent on the established
+    /// connection, is not answered, and has exactly this number, place, first block and count. It takes no memory.
     pub fn acked(&mut self, kind: Answer, of: Named) -> Result<Option<u32>, Refusal>
         ensures { (result, self.new.state) ≡ acked kind of self.old.state }
     {
@@ -140,7 +139,8 @@ impl TransferLog {
     }
 }
 
-// The home of the next write, and the barrier that follows it.
+// Places the write with this number in the open stream, if there is one. Returns its position there and the barrier
+// that follows it.
 fn home_in(
     connection: Option<u32>,
     number: u64,
@@ -161,7 +161,7 @@ fn home_in(
     Ok((Some(StreamPosition::new(connection, place)), barrier))
 }
 
-// The place of a home.
+// Returns the place of a stream position.
 fn place_in(home: &Option<StreamPosition>) -> Option<u32>
     ensures { result ≡ option_map (λ h. h.place) home.now }
 {
@@ -171,7 +171,7 @@ fn place_in(home: &Option<StreamPosition>) -> Option<u32>
     }
 }
 
-// Writes the number over so many others, from `at` on.
+// Overwrites `count` numbers with this one, from `at` on.
 fn put(numbers: &mut [u32], at: usize, count: usize, number: u32)
     requires { at + count ≤ length numbers.old }
     ensures { numbers.new ≡ take at numbers.old ++ replicate count number ++ drop (at + count) numbers.old }
