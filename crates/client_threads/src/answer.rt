@@ -1,4 +1,4 @@
-//! Doing requests together.
+//! Requests done together.
 use crate::client::Client;
 use crate::request::Job;
 use crate::service::Service;
@@ -10,7 +10,7 @@ use std::alloc::Global;
 use std::sync::{Arc, Wait};
 use std::time::Clock;
 
-/// How many requests a thread does together at most.
+/// The most requests that a thread does together.
 const TOGETHER: usize = 16;
 
 /// A request that was begun, and the client that waits for its reply.
@@ -22,8 +22,8 @@ struct Pending {
     syncs: bool,
 }
 
-/// Does a request, and those that wait behind it by now: begins all of them, then ends one after another, and then sends their
-/// replies. The receipts of their writes are appended.
+/// Does a request and those that already wait behind it: begins all of them, then ends one after another, and then
+/// sends their replies. Appends the receipts of their writes.
 pub(crate) fn answer<R: Wait + Clock>(
     rt: &R,
     service: &Service,
@@ -41,6 +41,10 @@ pub(crate) fn answer<R: Wait + Clock>(
     // There is room for all that is pushed here.
     let _ = begun.push(first);
     for _ in 1..TOGETHER {
+        // The other threads may have ended the session meanwhile: then its room is kept for what is begun.
+        if service.is_session_over() {
+            break;
+        }
         let Ok(job) = service.queue.try_recv(rt) else {
             break;
         };
@@ -66,7 +70,7 @@ fn begin<R: Wait + Clock>(rt: &R, service: &Service, device: &impl Device, job: 
     }
 }
 
-// Ends a request, and has its client's connection hold the reply.
+// Ends a request, and holds its reply at its client's connection.
 fn end<R: Wait + Clock>(
     rt: &R,
     service: &Service,

@@ -1,4 +1,4 @@
-//! A client's connection, as those share it that answer its requests.
+//! A client's connection, shared by the threads that answer its requests.
 ghost use Rattle.std.specs.Io.{ReadsAtMost};
 
 use crate::places::Places;
@@ -11,7 +11,7 @@ use std::net::{Shutdown, TcpStream};
 use std::sync::{Mutex, Wait};
 use std::time::Duration;
 
-/// How long a client may leave a reply unread, in seconds. Its connection is closed then.
+/// How long a client may leave a reply unread, in seconds. Then its connection is closed.
 const PATIENCE_S: u64 = 10;
 
 /// How long a read waits before its thread looks whether the server ends, in milliseconds.
@@ -24,13 +24,13 @@ const MOST_HELD: usize = 64 * 1024;
 #[derive(Drop)]
 pub(crate) struct Client {
     stream: TcpStream,
-    // Replies that leave together. Whoever has the lock writes, so a reply is written whole.
+    // Replies that are sent together. Only the thread that has the lock writes, so a reply is written whole.
     held: Mutex<Vec<u8>>,
     pub(crate) places: Places,
 }
 
 impl Client {
-    /// The client at the other end of a socket. `NoMemory` (7) if there is no memory.
+    /// Creates the client at the other end of a socket. `NoMemory` (7) if there is no memory.
     pub(crate) fn new(alloc: Global, stream: TcpStream) -> Result<Client, Refusal> {
         let places = Places::new(alloc)?;
         Ok(Client {
@@ -40,7 +40,7 @@ impl Client {
         })
     }
 
-    /// Sends without delay, and waits no longer than it should.
+    /// Makes the socket send without delay, and limits how long a read and a write wait.
     pub(crate) fn prepare(&self) -> io::Result<()> {
         self.stream.set_nodelay(true)?;
         self.stream
@@ -49,14 +49,15 @@ impl Client {
             .set_write_timeout(Some(Duration::from_secs(PATIENCE_S)))
     }
 
-    /// Writes bytes to the client, behind the replies that are held. If that fails, its connection is closed.
+    /// Writes bytes to the client, after the replies that are held. If that fails, closes its connection.
     pub(crate) fn send<R: Wait>(&self, rt: &R, bytes: &[u8]) {
         let mut held = self.held.lock(rt);
         self.write_held(&mut held);
         self.write(bytes);
     }
 
-    /// Holds a reply, and the data that follow it, until the next `send_held`. What is too long to hold is written at once.
+    /// Holds a reply, and the data that follow it, until the next `send_held`. What is too long to hold is written at
+    /// once, after the held replies.
     pub(crate) fn reply<R: Wait>(&self, rt: &R, header: &Reply, data: &[u8]) {
         let header = header.encode();
         let mut held = self.held.lock(rt);
@@ -82,7 +83,7 @@ impl Client {
         self.write_held(&mut held);
     }
 
-    // Writes the replies that are held, and holds none.
+    // Writes the replies that are held, and then holds none.
     fn write_held(&self, held: &mut Vec<u8>) {
         if !held.is_empty() {
             self.write(held.as_slice());
@@ -90,7 +91,7 @@ impl Client {
         }
     }
 
-    // Writes bytes. If that fails, the connection is closed.
+    // Writes bytes. If that fails, closes the connection.
     fn write(&self, bytes: &[u8]) {
         let mut stream = &self.stream;
         if stream.write_all(bytes).is_err() {

@@ -24,7 +24,7 @@ pub(crate) struct Door {
 }
 
 impl Door {
-    // Listens at this address; of port 0 the system picks one.
+    // Listens at this address; for port 0 the system picks one.
     fn at<H: Net<Listener = TcpListener, Stream = TcpStream>>(
         rt: &H,
         address: SocketAddr,
@@ -36,7 +36,7 @@ impl Door {
     }
 }
 
-// A listener at this address, and the address that it has.
+// Returns a listener at this address, and the address that it has.
 fn bound<H: Net<Listener = TcpListener, Stream = TcpStream>>(
     rt: &H,
     address: SocketAddr,
@@ -46,7 +46,7 @@ fn bound<H: Net<Listener = TcpListener, Stream = TcpStream>>(
     Ok((listener, address))
 }
 
-/// The door of block clients, and that of the status page, if there is to be one.
+/// The door of block clients, and that of the status page if there is one.
 #[derive(Drop)]
 pub struct Doors {
     pub(crate) clients: Door,
@@ -54,8 +54,8 @@ pub struct Doors {
 }
 
 impl Doors {
-    /// Listens at this address for block clients and, if a port is given, at that port of 127.0.0.1 for those of the status
-    /// page; of port 0 the system picks one.
+    /// Listens at this address for block clients and, if a port is given, at that port of 127.0.0.1 for clients of the
+    /// status page; for port 0 the system picks one.
     pub fn open<H: Net<Listener = TcpListener, Stream = TcpStream>>(
         rt: &H,
         clients: SocketAddr,
@@ -69,12 +69,12 @@ impl Doors {
         Ok(Doors { clients, page })
     }
 
-    /// The address of the block clients' door.
+    /// Returns the address of the block clients' door.
     pub fn client_address(&self) -> SocketAddr {
         self.clients.address
     }
 
-    /// The address of the status page, if there is one.
+    /// Returns the address of the status page, if there is one.
     pub fn page_address(&self) -> Option<SocketAddr> {
         self.page.as_ref().map(|door| door.address)
     }

@@ -8,14 +8,14 @@ use std::sync::atomic::{AtomicBool, Ordering};
 use std::thread;
 use std::time::{Clock, Duration};
 
-/// How often it looks, in milliseconds.
+/// The time between two looks, in milliseconds.
 const LOOK_MS: u64 = 20;
 
-/// How many looks make a second.
+/// Looks in a second.
 const LOOKS_A_SECOND: u64 = 50;
 
-/// Reconnects the link whenever it is down, cuts it every `cut_every` seconds if that is set, and gives reports, until the
-/// session is over.
+/// Reconnects the link whenever it is down, cuts it every `cut_every` seconds if that is set, and gives reports when
+/// they are asked for, until the session is over.
 pub(crate) fn keep<R: Wait + Clock>(
     rt: &R,
     service: &Service,
@@ -36,7 +36,7 @@ pub(crate) fn keep<R: Wait + Clock>(
             device.cut();
             looks = 0;
         }
-        // An end that is open, or a disk that has items to do, refuses this and changes nothing.
+        // While an end is open, or a disk has items to do, this is refused and changes nothing.
         if device.reconnect(words.0, words.1).is_ok() {
             words = service.words();
         }
@@ -51,12 +51,12 @@ pub(crate) fn keep<R: Wait + Clock>(
     }
 }
 
-// The most blocks that were marked since none was.
+// Returns the most blocks that were marked since none was.
 fn most_since(most: u32, marks: u32) -> u32 {
     if marks == 0 { 0 } else { most.max(marks) }
 }
 
-// What the session tells of its nodes. While blocks are marked and the link is up, a resync goes on.
+// Returns the session's report on its nodes. While blocks are marked and the link is up, a resync goes on.
 fn report(device: &impl Device, most: u32) -> Result<Report, Refusal> {
     let (primary, secondary) = device.status()?;
     let resync = if primary.as_str().starts_with("cs:SyncSource ") {

@@ -1,5 +1,5 @@
-//! The threads between block clients and a device, whichever session keeps it: who lets clients in, reads their requests and
-//! answers them, keeps the link up, and serves the status page.
+//! The threads between block clients and the device of any session: those that let clients in, read their requests and
+//! answer them, keep the link up, and serve the status page.
 #![tactic(auto)]
 
 mod answer;

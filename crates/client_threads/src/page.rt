@@ -34,7 +34,7 @@ pub(crate) fn serve_page<R: Wait + Clock>(
     }
 }
 
-// Tells one client.
+// Answers one client.
 fn tell<R: Wait + Clock>(
     rt: &R,
     service: &Service,

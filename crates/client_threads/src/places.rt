@@ -4,7 +4,7 @@ use crossbeam_channel::{Receiver, Sender, bounded};
 use std::alloc::Global;
 use std::sync::Wait;
 
-/// How many requests of one client may be under way at a time.
+/// The most requests of one client under way at a time.
 const PLACES: usize = 16;
 
 /// The places for requests under way: a channel holds a token for each place that is taken.
@@ -15,13 +15,13 @@ pub(crate) struct Places {
 }
 
 impl Places {
-    /// No request is under way. `NoMemory` (7) if there is no memory.
+    /// Creates the places, with no request under way. `NoMemory` (7) if there is no memory.
     pub(crate) fn new(alloc: Global) -> Result<Places, Refusal> {
         let (taken, freed) = bounded(alloc, PLACES)?;
         Ok(Places { taken, freed })
     }
 
-    /// Takes a place, as soon as there is one.
+    /// Takes a place; waits until there is one.
     pub(crate) fn take<R: Wait>(&self, rt: &R) {
         let _ = self.taken.send(rt, ());
     }

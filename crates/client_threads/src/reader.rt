@@ -8,11 +8,11 @@ use std::alloc::Global;
 use std::io::ErrorKind;
 use std::sync::{Arc, Wait};
 
-/// How many bytes are read at once: a request for the longest range and its payload.
+/// The most bytes that are read at once: a request for the longest range and its payload.
 const BUFFER_BYTES: usize = 132 * 1024;
 
-/// Takes the requests of a client until it leaves or the server ends. All that it asked for is answered when this
-/// returns.
+/// Takes the requests of a client until it leaves or the server ends. When this returns without a refusal, all of its
+/// requests are answered.
 pub(crate) fn serve_client<R: Wait>(
     rt: &R,
     service: &Service,
@@ -63,7 +63,7 @@ fn take<R: Wait>(
     Ok(!connection.is_closed())
 }
 
-// Whether a read that failed so is tried again.
+// Returns whether a read that failed with this error is tried again.
 fn is_passing(kind: ErrorKind) -> bool {
     matches!(
         kind,

@@ -1,4 +1,4 @@
-//! How the status page asks the session for a report.
+//! The channels by which the status page asks the session for a report.
 use blocks::Refusal;
 use crossbeam_channel::{Receiver, Sender, bounded};
 use status_page::Report;
@@ -6,11 +6,11 @@ use std::alloc::Global;
 use std::sync::Wait;
 use std::time::{Clock, Duration};
 
-/// How long the page waits for a report, in milliseconds. Between two sessions nobody gives one.
+/// How long the page waits for a report, in milliseconds. Between two sessions no thread gives one.
 const PATIENCE_MS: u64 = 2000;
 
 /// A question and its answer: the page's thread asks, and the thread that keeps the link up answers, since it knows the
-/// session that goes on.
+/// present session.
 #[derive(Drop)]
 pub(crate) struct Reports {
     asked: Sender<()>,
@@ -20,7 +20,7 @@ pub(crate) struct Reports {
 }
 
 impl Reports {
-    /// Nobody has asked. `NoMemory` (7) if there is no memory.
+    /// Creates the channels, with no question asked. `NoMemory` (7) if there is no memory.
     pub(crate) fn new(alloc: Global) -> Result<Reports, Refusal> {
         let (asked, questions) = bounded(alloc, 1)?;
         let (given, answers) = bounded(alloc, 1)?;
@@ -32,9 +32,9 @@ impl Reports {
         })
     }
 
-    /// Asks for a report, and waits for it; none if no session gives one in time.
+    /// Asks for a report, and waits for it. Returns `None` if no session gives one in time.
     pub(crate) fn ask<R: Wait + Clock>(&self, rt: &R) -> Option<Report> {
-        // What came too late for the one who asked before is old now.
+        // A report that came too late for the question before is old now.
         let _ = self.answers.try_recv(rt);
         let _ = self.asked.try_send(rt, ());
         self.answers
@@ -42,7 +42,7 @@ impl Reports {
             .ok()
     }
 
-    /// Whether a report is asked for. Each question is seen once.
+    /// Returns whether a report is asked for. Each question is seen once.
     pub(crate) fn is_asked<R: Wait>(&self, rt: &R) -> bool {
         self.questions.try_recv(rt).is_ok()
     }

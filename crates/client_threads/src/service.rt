@@ -7,16 +7,21 @@ use requests::Requests;
 use std::alloc::Global;
 use std::sync::atomic::{AtomicBool, AtomicU32, AtomicU64, Ordering};
 
-/// How many requests of all clients may wait for a thread that does them.
+/// The most requests of all clients that may wait for a thread that does them.
 const QUEUE: usize = 256;
 
-/// The first word of a connection that is no identifier of a disk at the start.
+/// The writes after which a session ends, and the next one begins. A session has room for 1,048,576, and each of the four
+/// threads may be in a request when the count gets there. Together these have at most 32,768 writes, since a WRITE_ZEROES
+/// over the largest device has 8,192 ranges.
+const SESSION_WRITES: u64 = 1_000_000;
+
+/// The first word that is given to a connection: it is no identifier of a disk at the start.
 const FIRST_WORD: u64 = 2;
 
-/// What all threads of a server share, whatever session goes on.
+/// The state that all threads of a server share, through all of its sessions.
 #[derive(Drop)]
 pub struct Service {
-    /// The memory that all of it takes.
+    /// The allocator of all of its memory.
     pub alloc: Global,
     /// Blocks of the device.
     pub blocks: u32,
@@ -25,7 +30,7 @@ pub struct Service {
     pub(crate) jobs: Sender<Job>,
     pub(crate) queue: Receiver<Job>,
     pub(crate) reports: Reports,
-    /// What clients ask of the device.
+    /// Does what clients ask of the device.
     pub requests: Requests,
     stop: AtomicBool,
     clients: AtomicU32,
@@ -33,7 +38,7 @@ pub struct Service {
 }
 
 impl Service {
-    /// A server of a device of `blocks` blocks. `NoMemory` (7) if there is no memory.
+    /// Creates the state of a server of a device of `blocks` blocks. `NoMemory` (7) if there is no memory.
     pub fn new(
         alloc: Global,
         blocks: u32,
@@ -56,17 +61,22 @@ impl Service {
         })
     }
 
-    /// Whether the server is to end.
+    /// Returns whether the server is to end.
     pub fn is_over(&self) -> bool {
         self.stop.load(Ordering::SeqCst)
     }
 
-    /// Ends the server: no more requests are taken.
+    /// Returns whether the session ends: it was asked for about a million writes, and a thread begins no further request.
+    pub(crate) fn is_session_over(&self) -> bool {
+        self.requests.writes() >= SESSION_WRITES
+    }
+
+    /// Ends the server: no further requests are taken.
     pub(crate) fn end(&self) {
         self.stop.store(true, Ordering::SeqCst);
     }
 
-    /// Counts a client that comes. Returns how many there were.
+    /// Counts a client that comes. Returns how many there were before.
     pub(crate) fn enter(&self) -> u32 {
         self.clients.fetch_add(1, Ordering::SeqCst)
     }
@@ -76,12 +86,12 @@ impl Service {
         self.clients.fetch_sub(1, Ordering::SeqCst);
     }
 
-    /// How many clients there are.
-    pub(crate) fn clients(&self) -> u32 {
+    /// Returns how many clients there are.
+    pub fn clients(&self) -> u32 {
         self.clients.load(Ordering::SeqCst)
     }
 
-    /// Two fresh words, for a connection.
+    /// Returns two fresh words, for a connection.
     pub fn words(&self) -> (u64, u64) {
         let word = self.next_word.fetch_add(2, Ordering::SeqCst);
         (word, word.wrapping_add(1))

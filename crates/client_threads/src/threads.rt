@@ -15,7 +15,7 @@ use std::{fmt, io, thread};
 /// Why the threads of a server could not be started.
 #[derive(Drop)]
 pub enum Unstarted {
-    /// The status page could not have secret keys.
+    /// There were no random bytes for the secret keys of the status page.
     NoKeys(io::Error),
     /// The system gave no thread.
     Unthreaded,
@@ -39,8 +39,9 @@ impl From<AllocError> for Unstarted {
     }
 }
 
-/// Starts the threads of a server that outlast its sessions: those that let clients in, that answer those of the status page,
-/// and that wait for the order to end. If one cannot be started, those that were run on.
+/// Starts the threads of a server that outlast its sessions: the one that lets clients in, the one that answers clients
+/// of the status page, and the one that waits for the order to end. If one cannot be started, those that were started
+/// go on.
 pub fn start_threads<
     H: Runtime + Net<Listener = TcpListener, Stream = TcpStream> + RandomSource,
     I: Read + Drop + Send + 'static,

@@ -5,13 +5,13 @@ use crate::service::Service;
 use blocks::Refusal;
 use halves::Runtime;
 use std::alloc::Global;
-use std::io::{BufRead, BufReader, Read};
+use std::io::{BufRead, BufReader, ErrorKind, Read};
 use std::net::{Net, SocketAddr, TcpListener, TcpStream};
 use std::sync::{Arc, Wait};
 use std::thread;
 use std::time::Duration;
 
-/// How many clients there may be at a time. Further ones are closed at once.
+/// The most clients at a time. Further ones are closed at once.
 const MAX_CLIENTS: u32 = 256;
 
 /// How long the thread that lets clients in waits after a failure, in milliseconds.
@@ -60,7 +60,8 @@ fn welcome<R: Runtime>(
     Ok(())
 }
 
-/// Waits for a line that says `quit`, and ends the server then, which listens at these addresses. The end of the input is no such line.
+/// Waits for a line `quit`, and then ends the server, which listens at these addresses. The end of the input is no such
+/// line.
 pub(crate) fn wait_for_quit<R: Wait + Net<Stream = TcpStream>, I: Read + Drop>(
     rt: &R,
     service: &Service,
@@ -74,7 +75,7 @@ pub(crate) fn wait_for_quit<R: Wait + Net<Stream = TcpStream>, I: Read + Drop>(
         match line {
             Ok(line) if line.as_str().trim() == QUIT => {
                 service.end();
-                // The threads that wait for clients look at each of them, and so at these, whether the server ends.
+                // The threads that wait for clients look at each client, and so at these, whether the server ends.
                 let _ = TcpStream::connect(rt, addresses.0);
                 if let Some(page) = addresses.1 {
                     let _ = TcpStream::connect(rt, page);
@@ -82,6 +83,8 @@ pub(crate) fn wait_for_quit<R: Wait + Net<Stream = TcpStream>, I: Read + Drop>(
                 return;
             }
             Ok(_) => {}
+            // The line is not UTF-8, so it is not the order.
+            Err(error) if error.kind() == ErrorKind::InvalidData => {}
             Err(_) => return,
         }
     }

@@ -10,22 +10,25 @@ use std::sync::{Mutex, Wait};
 use std::thread;
 use std::time::{Clock, Duration};
 
-/// How many threads do the requests of all clients, each of them some together.
+/// The threads that do the requests of all clients. Each does several together.
 const WORKERS: usize = 4;
 
 /// How long a thread waits for a request before it looks whether the session ends, in milliseconds.
 const LOOK_MS: u64 = 100;
 
-/// How many receipts a session can give: one for each write that it has room for.
+/// Looks without a block copied after which the link is cut: two seconds. The thread that keeps the link up then
+/// reconnects it, and the resync begins again.
+const LOOKS_TO_CUT: u32 = 20;
+
+/// Looks without a block copied after which a session ends with blocks still marked: ten seconds.
+const LOOKS_TO_LEAVE: u32 = 100;
+
+/// The most receipts of a session: one for each write that it has room for.
 const MOST_RECEIPTS: usize = 1_048_576;
 
-/// After how many writes a session ends, and the next one begins: a session has room for 1,048,576, and each of the
-/// requests that are under way then has at most 8,192 blocks in some 300 ranges.
-const SESSION_WRITES: u64 = 1_000_000;
-
 /// Does the requests of clients over this device until the server ends or the session has accepted about a million
-/// writes, and returns the receipts of all their writes. When it returns, both disks are alike and the link has
-/// nothing left to do, or the server ends.
+/// writes, and returns the receipts of all their writes. When it returns, both disks are alike and the link has nothing
+/// more to do, or no block was copied for ten seconds.
 pub fn work<R: Runtime>(
     rt: &R,
     service: &Service,
@@ -38,7 +41,7 @@ pub fn work<R: Runtime>(
         || { keep(rt, service, device, cut_every, &over) },
         || -> Result<Vec<Receipt>, Refusal> {
             let done = do_requests(rt, service, device);
-            rest(rt, service, device);
+            rest(rt, device);
             over.store(true, Ordering::SeqCst);
             done
         },
@@ -46,8 +49,8 @@ pub fn work<R: Runtime>(
     done
 }
 
-// Does requests in all threads, and gathers the receipts. Their room is made at once: if it grew, the memory of a session
-// would depend on those before it.
+// Does requests in all threads, and gathers the receipts. Their room is made at once: if it grew, the memory of a
+// session would depend on those before it.
 fn do_requests<R: Runtime>(
     rt: &R,
     service: &Service,
@@ -68,7 +71,7 @@ fn do_requests<R: Runtime>(
     Ok(all)
 }
 
-// Does requests, as they come. Returns the receipts for which there was no room among those that are gathered.
+// Does requests as they come. Returns the receipts for which `gathered` had no room.
 fn do_some<R: Wait + Clock>(
     rt: &R,
     service: &Service,
@@ -77,7 +80,7 @@ fn do_some<R: Wait + Clock>(
 ) -> Vec<Receipt> {
     let mut receipts = Vec::new(service.alloc);
     for _ in rt.forever() {
-        if service.requests.writes() >= SESSION_WRITES {
+        if service.is_session_over() {
             break;
         }
         match service
@@ -95,10 +98,26 @@ fn do_some<R: Wait + Clock>(
     receipts
 }
 
-// Waits until both disks are alike and the link has nothing left to do, or the server ends and the link is down.
-fn rest<R: Wait + Clock>(rt: &R, service: &Service, device: &impl Device) {
+// Waits until both disks are alike and the link has nothing more to do. Blocks that are not copied, as those of a write that
+// failed while the link was up, are tried again over a new connection. If that does not help, as with a disk that keeps
+// failing, they stay marked: the next session copies them.
+fn rest<R: Wait + Clock>(rt: &R, device: &impl Device) {
+    let mut marks = u32::MAX;
+    let mut looks = 0u32;
     for _ in rt.forever() {
-        if device.is_quiet() && (device.marks() == 0 || service.is_over()) {
+        let left = device.marks();
+        if left == 0 && device.is_quiet() {
+            break;
+        }
+        if left < marks {
+            looks = 0;
+        }
+        marks = left;
+        looks = looks.saturating_add(1);
+        if looks == LOOKS_TO_CUT {
+            device.cut();
+        }
+        if looks == LOOKS_TO_LEAVE {
             break;
         }
         thread::sleep(rt, Duration::from_millis(LOOK_MS));

@@ -7,8 +7,8 @@ use halves::{Begun, Device};
 use nbd::Errno;
 use primary::Receipt;
 
-/// Waits for all writes that were begun, one after another, and keeps their receipts. If any fails, the others are waited
-/// for too.
+/// Waits for all writes that were begun, one after another, and keeps their receipts. If any fails, waits for the
+/// others too.
 pub(crate) fn complete_all(
     device: &impl Device,
     begun: Vec<Begun>,

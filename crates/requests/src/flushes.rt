@@ -4,17 +4,17 @@ use std::sync::atomic::{AtomicU32, Ordering};
 use std::thread;
 use std::time::{Clock, Duration};
 
-/// How long whoever waits sleeps before it looks again, in milliseconds.
+/// How long a waiting thread sleeps before it looks again, in milliseconds.
 const PAUSE_MS: u64 = 1;
 
-/// How many flushes go on. While one does, no write begins, so that the peer can catch up.
+/// The flushes under way. While there is one, no write begins, so that the peer can catch up.
 #[derive(Drop)]
 pub(crate) struct Flushes {
     under_way: AtomicU32,
 }
 
 impl Flushes {
-    /// No flush goes on.
+    /// Creates the count without a flush.
     pub(crate) fn new() -> Flushes {
         Flushes {
             under_way: AtomicU32::new(0),
@@ -31,7 +31,7 @@ impl Flushes {
         self.under_way.fetch_sub(1, Ordering::SeqCst);
     }
 
-    /// Waits until no flush goes on.
+    /// Waits until no flush is under way.
     pub(crate) fn wait<R: Wait + Clock>(&self, rt: &R) {
         for _ in rt.forever() {
             if self.under_way.load(Ordering::SeqCst) == 0 {

@@ -1,8 +1,9 @@
-//! Requests of block clients, done over a device: reads, writes with their receipts, and flushes.
+//! Requests of block clients over a device: reads, writes with their receipts, and flushes.
 #![tactic(auto)]
 
 mod complete;
 mod flushes;
+mod medium;
 mod payload;
 mod perform;
 mod requests;

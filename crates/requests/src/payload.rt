@@ -1,4 +1,4 @@
-//! The bytes of what is written.
+//! Payloads of writes.
 ghost use Rattle.std.specs.Prelude.{◌≡◌, ◌*◌, length, IfOk};
 
 use blocks::BLOCK_BYTES;
@@ -6,8 +6,8 @@ use bytes::Bytes;
 use nbd::Errno;
 use std::alloc::Global;
 
-/// Takes the bytes of `count` blocks off a payload. `Invalid` if it has fewer, `NoMemory` if there is no memory to share
-/// them.
+/// Takes the bytes of `count` blocks off a payload. `Invalid` if it has fewer, `NoMemory` if there is no memory to
+/// share them.
 pub(crate) fn front(payload: &mut Bytes, count: u64) -> Result<Bytes, Errno>
     ensures { IfOk result (λ bytes. length bytes ≡ count * 4096) }
 {
@@ -23,7 +23,7 @@ pub(crate) fn front(payload: &mut Bytes, count: u64) -> Result<Bytes, Errno>
     }
 }
 
-/// `count` blocks of zeros. `Invalid` if their bytes cannot be counted, `NoMemory` if there is no memory.
+/// Returns `count` blocks of zeros. `Invalid` if their bytes cannot be counted, `NoMemory` if there is no memory.
 pub(crate) fn zeros(alloc: Global, count: u64) -> Result<Bytes, Errno>
     ensures { IfOk result (λ bytes. length bytes ≡ count * 4096) }
 {

@@ -35,7 +35,7 @@ pub(crate) fn read(
     Ok(data)
 }
 
-/// Begins to write the payload to these ranges, each from where the one before ends in it.
+/// Begins to write the payload to these ranges, each from the place in it where the one before ends.
 pub(crate) fn begin_write<R: Wait + Clock>(
     rt: &R,
     requests: &Requests,
@@ -98,7 +98,7 @@ fn begin_range<R: Wait + Clock>(
     }
 }
 
-/// What a client is told of a refusal.
+/// Returns the error that a client gets for a refusal.
 pub(crate) fn errno_of(refusal: Refusal) -> Errno {
     match refusal {
         Refusal::NoMemory => Errno::NoMemory,

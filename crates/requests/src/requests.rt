@@ -6,6 +6,7 @@ ghost use Rattle.requests.specs.Receipts.{HasBegun, HasMore, range_of};
 
 use crate::complete::complete_all;
 use crate::flushes::{Flushes, pause};
+use crate::medium::Medium;
 use crate::perform::{begin_write, begin_zeroes, read};
 use crate::under_way::UnderWay;
 use blocks::Protocol;
@@ -24,14 +25,13 @@ use std::time::Clock;
 pub struct Requests {
     pub(crate) alloc: Global,
     protocol: Protocol,
-    local: SyncHandle<File>,
-    peer: SyncHandle<File>,
+    medium: Medium,
     writes: AtomicU64,
     pub(crate) flushes: Flushes,
 }
 
 impl Requests {
-    /// Requests over sessions under this protocol, of two images that these handles sync.
+    /// Creates the requests over sessions under this protocol, of two images that these handles sync.
     pub fn new(
         alloc: Global,
         protocol: Protocol,
@@ -41,19 +41,18 @@ impl Requests {
         Requests {
             alloc,
             protocol,
-            local,
-            peer,
+            medium: Medium::new(local, peer),
             writes: AtomicU64::new(0),
             flushes: Flushes::new(),
         }
     }
 
-    /// How many writes the session that goes on was asked for: one for each range.
+    /// Returns how many writes the present session was asked for: one for each range.
     pub fn writes(&self) -> u64 {
         self.writes.load(Ordering::SeqCst)
     }
 
-    /// Begins to count writes anew, for the next session.
+    /// Restarts the count of writes, for the next session.
     pub fn forget_writes(&self) {
         self.writes.store(0, Ordering::SeqCst);
     }
@@ -63,8 +62,8 @@ impl Requests {
         self.writes.fetch_add(1, Ordering::SeqCst);
     }
 
-    /// Begins a request: the writes of a WRITE or WRITE_ZEROES, and nothing of any other command. Whoever has many requests
-    /// begins them all, and then ends one after another.
+    /// Begins a request: the writes of a WRITE or WRITE_ZEROES, and nothing for any other command. A caller with many
+    /// requests begins them all, and then ends one after another.
     pub fn begin<R: Wait + Clock>(&self, rt: &R, device: &impl Device, request: Request) -> UnderWay
         ensures { result ≡ request }
     {
@@ -77,13 +76,13 @@ impl Requests {
         }
     }
 
-    /// Ends a request, and returns it with the data of a READ, and no bytes for any other command. A WRITE or WRITE_ZEROES is
-    /// done once each of its ranges has its receipt, which is appended. With FUA, and for a FLUSH, both images are on
-    /// stable storage then, and the peer has all writes that were done before, unless the link is down.
+    /// Ends a request, and returns it with the data of a READ, and no bytes for any other command. A WRITE or
+    /// WRITE_ZEROES is done once each of its ranges has its receipt, which is appended. With FUA, and for a FLUSH, both
+    /// images are then on stable storage, and the peer has all writes that were done before, unless the link is down.
     ///
-    /// `Invalid` (EINVAL) for a range that the device refuses and for DISC, which is answered by nothing; `NoMemory` (ENOMEM)
-    /// if there is no memory; `InputOutput` (EIO) if a disk or a file failed, or the session has no room left. A part of the
-    /// ranges may be written then, and have its receipts.
+    /// `Invalid` (EINVAL) for a range that the device refuses and for DISC, which has no reply; `NoMemory` (ENOMEM) if
+    /// there is no memory; `InputOutput` (EIO) if a disk or a file failed, or the session has no room left. Then some
+    /// of the ranges may be written, and have their receipts.
     pub fn end<R: Wait + Clock>(
         &self,
         rt: &R,
@@ -133,7 +132,7 @@ impl Requests {
         }
     }
 
-    // Does what is left of a request once its writes are completed.
+    // Does the remaining part of a request once its writes are completed.
     fn finish<R: Wait + Clock>(
         &self,
         rt: &R,
@@ -157,8 +156,8 @@ impl Requests {
         Ok(Vec::new(self.alloc))
     }
 
-    // Has both images put on stable storage, once the peer has all that was answered before, unless the link is down. Under
-    // protocol C it has that already.
+    // Syncs both images to stable storage, once the peer has all writes that were answered before, unless the link is
+    // down. Under protocol C the peer has them already.
     fn sync<R: Wait + Clock>(&self, rt: &R, device: &impl Device) -> Result<(), Errno> {
         if self.protocol != Protocol::C {
             self.flushes.begin();
@@ -170,12 +169,11 @@ impl Requests {
             }
             self.flushes.end();
         }
-        self.local.sync().map_err(|_| Errno::InputOutput)?;
-        self.peer.sync().map_err(|_| Errno::InputOutput)
+        self.medium.sync(rt)
     }
 }
 
-// The ranges of a request. `Invalid` if its blocks cannot be counted.
+// Returns the ranges of a request. `Invalid` if its blocks cannot be counted.
 fn ranges_of(request: &Request) -> Result<Ranges, Errno>
     ensures { IfOk result (λ ranges. ranges ≡ pieces request.now.first_block request.now.block_count) }
 {

@@ -3,7 +3,7 @@ use halves::Begun;
 use nbd::{Errno, Request};
 use std::marker::Model;
 
-/// A request whose writes were begun. Invariant: if none was refused, what was begun is all that it writes.
+/// A request whose writes were begun. Invariant: if none was refused, the begun writes are all that it writes.
 #[derive(Debug, Drop)]
 pub struct UnderWay {
     pub(crate) request: Request,

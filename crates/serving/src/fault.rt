@@ -21,7 +21,7 @@ pub(crate) enum Fault<'a> {
 }
 
 impl Fault<'_> {
-    /// How the session ends with it.
+    /// Returns how the session ends with it.
     pub(crate) fn status(&self) -> SessionStatus {
         match self {
             Fault::Refused(refusal) => SessionStatus::of(*refusal),

@@ -1,4 +1,4 @@
-//! A server, from its images to its lines.
+//! A server, from its images to the lines that it prints.
 ghost use Rattle.std.specs.Prelude.{◌<◌, ◌≤◌, IfOk};
 
 use crate::fault::Fault;
@@ -24,9 +24,9 @@ use volume::{Host, Runtime};
 type Opened = (ImageStore<File>, SyncHandle<File>);
 
 /// Serves both images to block clients until `input` has a line `quit`, and prints `completed X`, `settled X` and
-/// `unmarked 0`, X being the number of ranges that clients wrote. Returns how it ended: `Done` if all is done;
-/// `Failed` if a file, an address, the output, memory or a thread failed; `Refused` for any other refusal. Then a line on
-/// `err` tells of it. The end of `input` is no order to end.
+/// `unmarked 0`, X being the number of ranges that clients wrote. Returns how it ended: `Done` if all is done; `Failed`
+/// if a file, an address, the output, memory or a thread failed; `Refused` for any other refusal. For the last two a
+/// line on `err` says why. The end of `input` is no order to end.
 pub fn serve<
     H: Host + Files<File = File> + Net<Listener = TcpListener, Stream = TcpStream> + RandomSource,
     I: Read + Drop + Send + 'static,
@@ -46,7 +46,7 @@ pub fn serve<
     }
 }
 
-// Serves both images. Returns what the sessions have come to.
+// Serves both images. Returns the results of the sessions.
 fn serve_images<
     'a,
     H: Host + Files<File = File> + Net<Listener = TcpListener, Stream = TcpStream> + RandomSource,
@@ -74,7 +74,7 @@ fn serve_images<
     }
 }
 
-// Starts the threads of a server of `blocks` blocks, and says where it is.
+// Starts the threads of a server of `blocks` blocks, and prints its addresses.
 fn begin<
     'a,
     H: Host + Net<Listener = TcpListener, Stream = TcpStream> + RandomSource,
@@ -114,7 +114,7 @@ fn finish<'a, H: Runtime>(
     }
 }
 
-// How many blocks the device has: as many as are asked for, else those of the local image.
+// Returns the device's size in blocks: as many as are asked for, else those of the local image.
 fn blocks_of<'a, H: Files>(rt: &H, options: &ServeOptions<'a>) -> Result<u32, Fault<'a>>
     ensures { IfOk result (λ blocks. (0 < blocks) × (blocks ≤ 262144)) }
 {
@@ -162,7 +162,7 @@ fn open<'a, H: Files<File = File> + AllocGlobal>(
     }
 }
 
-// What all threads share, in memory of its own.
+// Moves what all threads share to memory of its own.
 fn shared(service: Service) -> Result<Arc<Service, Global>, Refusal> {
     match Arc::new(service.alloc, service) {
         Ok(service) => Ok(service),

@@ -13,7 +13,7 @@ use volume::Parts;
 /// The disks of both nodes.
 pub(crate) type Disks = (ImageStore<File>, ImageStore<File>);
 
-/// What the sessions of a server have come to.
+/// The results of a server's sessions.
 #[derive(Clone, Copy, Debug, PartialEq, Eq)]
 pub(crate) struct Tally {
     /// Writes that were completed.
@@ -25,14 +25,14 @@ pub(crate) struct Tally {
 }
 
 impl Tally {
-    /// No session has come to anything.
+    /// The results before the first session.
     pub(crate) const NOTHING: Tally = Tally {
         completed: 0,
         confirmed: 0,
         unmarked: 0,
     };
 
-    /// Adds what one session has come to.
+    /// Adds the results of one session.
     fn and(&self, completed: usize, confirmed: u64, unmarked: u32) -> Tally {
         Tally {
             completed: self.completed.saturating_add(completed as u64),
@@ -42,7 +42,7 @@ impl Tally {
     }
 }
 
-/// What a session leaves.
+/// What a session leaves for the next one.
 #[derive(Drop)]
 pub(crate) struct Rest {
     pub(crate) disks: Disks,
@@ -50,8 +50,8 @@ pub(crate) struct Rest {
     pub(crate) tally: Tally,
 }
 
-/// Settles two nodes that are at rest with the receipts that their session gave, if none of its writes was refused, and takes
-/// from them what the next session starts from. The refusals are that of a write, and those of `settle` and `parts_after`.
+/// Settles two nodes at rest with the receipts that their session gave, if none of its writes was refused, and returns
+/// what the next session starts from. The refusals are that of a write, and those of `settle` and `parts_after`.
 pub(crate) fn bring_together(
     service: &Service,
     tally: Tally,
@@ -81,7 +81,7 @@ pub(crate) fn bring_together(
     }
 }
 
-// Settles both nodes. Returns the parts of the next session, and what the sessions have come to.
+// Settles both nodes. Returns the parts of the next session, and the results of the sessions so far.
 fn compare(
     service: &Service,
     tally: Tally,

@@ -39,8 +39,8 @@ pub(crate) fn run_session<R: Runtime>(
     }
 }
 
-// Both directions of a session's link. `BadSetting` (15) if a setting is out of its range, else `NoMemory` (7) if there is no
-// room for them.
+// Creates both directions of a session's link. `BadSetting` (15) if a setting is out of its range, else `NoMemory` (7)
+// if there is no memory for them.
 fn link<R: Wait + Copy>(
     rt: R,
     alloc: Global,
@@ -55,7 +55,7 @@ fn link<R: Wait + Copy>(
     Ok((there, back))
 }
 
-// All that the session is used for stands in one function over its link's name, which the caller picks.
+// Uses the session, from its start to its end, in one function over its link's name, which the caller picks.
 fn run_named<L: Linked + Send + Sync + 'static, R: Runtime>(
     rt: R,
     service: &Service,

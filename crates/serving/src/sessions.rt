@@ -6,7 +6,7 @@ use client_threads::Service;
 use volume::{Parts, Runtime};
 
 /// Runs sessions over these disks until the server ends, and returns what the last one leaves. If the disks differ at
-/// the start, nothing counts as known of the peer's, which is made like the local one.
+/// the start, the peer's counts as unknown, and is made like the local one.
 pub(crate) fn run_sessions<R: Runtime>(
     rt: R,
     service: &Service,
@@ -17,14 +17,15 @@ pub(crate) fn run_sessions<R: Runtime>(
     for _ in rt.forever() {
         service.requests.forget_writes();
         rest = run_session(rt, service, cut_every, rest)?;
-        if service.is_over() {
+        // Clients that are still here have requests that the next session answers.
+        if service.is_over() && service.clients() == 0 {
             break;
         }
     }
     Ok(rest)
 }
 
-// What the first session starts from.
+// Returns what the first session starts from.
 fn first_rest(service: &Service, disks: Disks) -> Result<Rest, Refusal> {
     let mut disks = disks;
     let first = Tuple::new(1, 0, 0, 0);
@@ -44,7 +45,7 @@ fn first_rest(service: &Service, disks: Disks) -> Result<Rest, Refusal> {
     }
 }
 
-// The parts of the first session, over disks with these identifiers.
+// Returns the parts of the first session, over disks with these identifiers.
 fn first_parts(service: &Service, own: Tuple, peer: Tuple) -> Result<Parts, Refusal> {
     let settings = Settings {
         protocol: service.protocol,
@@ -64,7 +65,7 @@ fn first_parts(service: &Service, own: Tuple, peer: Tuple) -> Result<Parts, Refu
     })
 }
 
-// Whether both disks have the same blocks.
+// Returns whether both disks have the same blocks.
 fn are_alike(disks: &mut Disks) -> bool {
     let blocks = disks.0.blocks();
     for number in 0..blocks {
@@ -75,7 +76,7 @@ fn are_alike(disks: &mut Disks) -> bool {
     disks.1.blocks() == blocks
 }
 
-// Whether both disks have this block, with the same bytes.
+// Returns whether both disks have this block, with the same bytes.
 fn is_alike<S: Store, T: Store>(local: &mut S, peer: &mut T, block: Block) -> bool {
     if block.0 >= u64::from(local.blocks()) || block.0 >= u64::from(peer.blocks()) {
         return false;
