@@ -1,4 +1,4 @@
-//! Words that are no order.
+//! Faults of a command line.
 use clap::Error;
 use clap::error::ErrorKind;
 use numbers::Status;
@@ -11,16 +11,23 @@ pub enum Fault<'a> {
     Words(Error),
     /// A server is to listen at this, which is no address with a port.
     Address(&'a str),
+    /// Both disks are to have this image.
+    SharedImage(&'a str),
 }
 
 impl Fault<'_> {
-    /// Prints help on `out` where it was asked for, and else what is wrong with the words on `err`. The program then ends
-    /// `Done` for help, `Failed` if it could not be written or there was no memory, and else `Misused`.
+    /// Prints help on `out` if it was asked for, and else what is wrong with the words on `err`. Returns how the
+    /// program then ends: `Done` for help, `Failed` if it could not be written or there was no memory, and else
+    /// `Misused`.
     pub fn tell<W: Write, E: Write>(&self, out: &mut W, err: &mut E) -> Status {
         match self {
             Fault::Words(error) => tell_words(error, out, err),
             Fault::Address(address) => {
                 let _ = writeln!(err, "error: {address} is no address with a port");
+                Status::Misused
+            }
+            Fault::SharedImage(image) => {
+                let _ = writeln!(err, "error: both disks cannot have the image {image}");
                 Status::Misused
             }
         }

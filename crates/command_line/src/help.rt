@@ -170,7 +170,8 @@ the server takes twice the device's size.
   nbdcopy disk.img nbd://127.0.0.1
 
 A line quit on standard input ends the server: it waits until its clients are
-answered and the disks are alike, and prints three lines:
+answered and the disks are alike, or until no block was copied for ten seconds,
+and prints three lines:
   completed X          ranges of at most 32 blocks that clients wrote
   settled X            those of them that the primary's journal confirms
   unmarked 0           blocks that differ and have no mark
@@ -275,8 +276,8 @@ impl Display for ServeHelp {
     }
 }
 
-// Whether a command of a script can be refused so. Its frames are those that the other node made, it asks for no receipt, and
-// both nodes of a pair have the same settings.
+// Returns whether a command of a script can have this refusal. Its frames are those that the other node made, it asks
+// for no receipt, and both nodes of a pair have the same settings.
 fn is_met_by_scripts(refusal: &Refusal) -> bool {
     !matches!(
         refusal,
@@ -293,7 +294,7 @@ fn is_met_by_scripts(refusal: &Refusal) -> bool {
     )
 }
 
-// A line for each refusal.
+// Writes a line for each refusal.
 fn write_refusals<W: fmt::Write>(f: &mut fmt::Formatter<W>) -> fmt::Result {
     for refusal in REFUSALS {
         writeln!(f, "  {:>2}  {refusal}", refusal.number())?;

@@ -1,4 +1,5 @@
-//! The program's words: what it may be asked to do, its help, and what is wrong with words that it does not know.
+//! The program's command line: what it may be asked to do, its help, and what is wrong with words that it does not
+//! know.
 #![tactic(auto)]
 
 mod fault;

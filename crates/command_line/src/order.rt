@@ -1,4 +1,4 @@
-//! The order that the program's words give.
+//! The order that a command line gives.
 use crate::fault::Fault;
 use crate::help::{RunHelp, ScriptHelp, ServeHelp, TcpHelp};
 use crate::{run, serve};
@@ -42,9 +42,10 @@ impl HelpTexts {
     }
 }
 
-/// Reads the program's words; the first one is its name. `progress` says whether a long run shows how far it is.
+/// Reads the program's words; the first one is its name. `progress` says whether a long run shows its progress.
 ///
-/// `Fault::Words` if they ask for help or are wrong, `Fault::Address` if a server is to listen at no address with a port.
+/// `Fault::Words` if they ask for help or are wrong, `Fault::SharedImage` if both disks are to have the same image,
+/// `Fault::Address` if a server is to listen at no address with a port.
 pub fn parse<'a, S: AsStr>(
     alloc: Global,
     helps: &'a HelpTexts,
@@ -57,7 +58,7 @@ pub fn parse<'a, S: AsStr>(
     }
 }
 
-// The command line.
+// Matches the words against the commands.
 fn matches_of<'a, S: AsStr>(
     alloc: Global,
     helps: &'a HelpTexts,
@@ -84,18 +85,36 @@ fn matches_of<'a, S: AsStr>(
 
 fn order_of<'a>(matches: &ArgMatches<'a>, progress: bool) -> Result<Order<'a>, Fault<'a>> {
     match matches.subcommand() {
-        Some(("run", words)) => Ok(run_of(words, Path::Link, progress)),
-        Some(("tcp", words)) => Ok(run_of(words, Path::Sockets, progress)),
-        Some(("serve", words)) => match serve::options(words) {
-            Some(options) => Ok(Order::Serve(options)),
-            None => Err(Fault::Address(serve::listen(words))),
-        },
+        Some(("run", words)) => run_of(words, Path::Link, progress),
+        Some(("tcp", words)) => run_of(words, Path::Sockets, progress),
+        Some(("serve", words)) => serve_of(words),
         Some((_, words)) => Ok(Order::Script(words.get_str("FILE").unwrap_or("-"))),
         None => Ok(Order::Script("-")),
     }
 }
 
-// A run whose frames go this way.
-fn run_of<'a>(words: &ArgMatches<'a>, path: Path, progress: bool) -> Order<'a> {
-    Order::Run(run::options(words, path, progress), run::images(words))
+// Returns the order for a run whose frames take this path.
+fn run_of<'a>(words: &ArgMatches<'a>, path: Path, progress: bool) -> Result<Order<'a>, Fault<'a>> {
+    match shared_image(words) {
+        Some(image) => Err(Fault::SharedImage(image)),
+        None => Ok(Order::Run(run::options(words, path, progress), run::images(words))),
+    }
+}
+
+// Returns the order for a server.
+fn serve_of<'a>(words: &ArgMatches<'a>) -> Result<Order<'a>, Fault<'a>> {
+    if let Some(image) = shared_image(words) {
+        return Err(Fault::SharedImage(image));
+    }
+    match serve::options(words) {
+        Some(options) => Ok(Order::Serve(options)),
+        None => Err(Fault::Address(serve::listen(words))),
+    }
+}
+
+// Returns the image that is named for both disks, if there is one.
+fn shared_image<'a>(words: &ArgMatches<'a>) -> Option<&'a str> {
+    let local = words.get_str("local")?;
+    let peer = words.get_str("peer")?;
+    if local == peer { Some(local) } else { None }
 }

@@ -12,7 +12,7 @@ const TCP_ABOUT: &str = "Runs a session whose nodes are connected by sockets on 
 /// The values of `--protocol`.
 const PROTOCOLS: [&str; 3] = ["A", "B", "C"];
 
-/// The command `run`, with this help below its usage.
+/// Creates the command `run`, with this help below its usage.
 pub(crate) fn run<'a>(alloc: Global, help: &'a str) -> Result<Command<'a>, Error> {
     let cuts = number(
         alloc,
@@ -27,7 +27,7 @@ pub(crate) fn run<'a>(alloc: Global, help: &'a str) -> Result<Command<'a>, Error
     with_options(alloc, command.arg(cuts)?)
 }
 
-/// The command `tcp`, with this help below its usage. It takes the options of `run` but for `--cuts`.
+/// Creates the command `tcp`, with this help below its usage. It takes the options of `run` except `--cuts`.
 pub(crate) fn tcp<'a>(alloc: Global, help: &'a str) -> Result<Command<'a>, Error> {
     with_options(
         alloc,
@@ -35,7 +35,7 @@ pub(crate) fn tcp<'a>(alloc: Global, help: &'a str) -> Result<Command<'a>, Error
     )
 }
 
-// The command with the options that `run` and `tcp` have alike.
+// Adds the options that `run` and `tcp` share to a command.
 fn with_options<'a>(alloc: Global, command: Command<'a>) -> Result<Command<'a>, Error> {
     let status = Arg::new(alloc, "status")
         .long("status")
@@ -65,7 +65,8 @@ fn with_options<'a>(alloc: Global, command: Command<'a>) -> Result<Command<'a>, 
     )
 }
 
-/// What a run is to do, whose frames go this way. `progress` says whether a long run is to show how far it is.
+/// Returns the options of a run whose frames take this path. `progress` says whether a long run is to show its
+/// progress.
 pub(crate) fn options(words: &ArgMatches<'_>, path: Path, progress: bool) -> RunOptions {
     let cuts = match path {
         Path::Link => words.get_one("cuts").unwrap_or(0),
@@ -85,7 +86,7 @@ pub(crate) fn options(words: &ArgMatches<'_>, path: Path, progress: bool) -> Run
     }
 }
 
-/// The files of both disks.
+/// Returns the files of both disks.
 pub(crate) fn images<'a>(words: &ArgMatches<'a>) -> Images<'a> {
     Images {
         local: words.get_str("local"),
@@ -93,7 +94,7 @@ pub(crate) fn images<'a>(words: &ArgMatches<'a>) -> Images<'a> {
     }
 }
 
-/// The option that says when a write is completed.
+/// Creates the option that says when a write is completed.
 pub(crate) fn protocol_option<'a>(alloc: Global) -> Arg<'a> {
     option(
         alloc,
@@ -105,7 +106,7 @@ pub(crate) fn protocol_option<'a>(alloc: Global) -> Arg<'a> {
     .default_value("C")
 }
 
-/// The protocol that was asked for.
+/// Returns the protocol that was asked for.
 pub(crate) fn protocol(words: &ArgMatches<'_>) -> Protocol {
     match words.get_str("protocol") {
         Some("A") => Protocol::A,
@@ -114,7 +115,7 @@ pub(crate) fn protocol(words: &ArgMatches<'_>) -> Protocol {
     }
 }
 
-/// An option with a value.
+/// Creates an option with a value.
 pub(crate) fn option<'a>(alloc: Global, name: &'a str, value: &'a str, help: &'a str) -> Arg<'a> {
     Arg::new(alloc, name)
         .long(name)
@@ -122,7 +123,7 @@ pub(crate) fn option<'a>(alloc: Global, name: &'a str, value: &'a str, help: &'a
         .help(help)
 }
 
-/// An option whose value is a number in this range.
+/// Creates an option whose value is a number in this range.
 pub(crate) fn number<'a>(
     alloc: Global,
     name: &'a str,

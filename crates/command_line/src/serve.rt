@@ -8,7 +8,7 @@ use std::net::SocketAddr;
 
 const ABOUT: &str = "Serves two mirrored images to clients of the network block device protocol";
 
-/// The command `serve`, with this help below its usage.
+/// Creates the command `serve`, with this help below its usage.
 pub(crate) fn serve<'a>(alloc: Global, help: &'a str) -> Result<Command<'a>, Error> {
     let command = Command::new(alloc, "serve")
         .about(ABOUT)
@@ -46,7 +46,7 @@ pub(crate) fn serve<'a>(alloc: Global, help: &'a str) -> Result<Command<'a>, Err
     Ok(command)
 }
 
-/// What the server is to do; none if where it is to listen is no address with a port.
+/// Returns what the server is to do; `None` if it is to listen at something that is no address with a port.
 pub(crate) fn options<'a>(words: &ArgMatches<'a>) -> Option<ServeOptions<'a>> {
     let Ok(listen) = SocketAddr::parse_ascii(listen(words).as_bytes()) else {
         return None;
@@ -62,12 +62,12 @@ pub(crate) fn options<'a>(words: &ArgMatches<'a>) -> Option<ServeOptions<'a>> {
     })
 }
 
-/// Where the server is to listen, as it was given.
+/// Returns where the server is to listen, as it was given.
 pub(crate) fn listen<'a>(words: &ArgMatches<'a>) -> &'a str {
     words.get_str("listen").unwrap_or("")
 }
 
-// The port of the status page, if there is to be one.
+// Returns the port of the status page, if there is to be one.
 fn status(words: &ArgMatches<'_>) -> Option<u16> {
     let port: u32 = words.get_one("status")?;
     u16::try_from(port).ok()

@@ -1,5 +1,5 @@
-//! `drbdpair` runs a pair of mirrored disks: from a script, and prints what each command of it did, or by threads, and
-//! prints what their session came to.
+//! `drbdpair` runs a pair of mirrored disks: from a script, and prints what each of its commands did, or by threads,
+//! and prints the outcome of their session.
 #![tactic(auto)]
 
 mod program;

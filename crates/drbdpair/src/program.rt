@@ -1,4 +1,4 @@
-//! The whole program over its words.
+//! The program, from its words to its exit status.
 ghost use Rattle.std.specs.Prelude.{◌≤◌};
 
 use command_line::{HelpTexts, Order, parse};
@@ -14,9 +14,9 @@ use std::net::{Net, TcpListener, TcpStream};
 use std::random::RandomSource;
 use std::rt::Files;
 
-/// The whole program over its words. The first is its name; then come `script FILE`, where `-` stands for `input`, or
-/// `run`, `tcp` or `serve` with its options; no words at all mean `script -`. It returns the exit status. A long run shows how far it is
-/// if `err` is a terminal.
+/// Runs the program over its words. The first is its name; then come `script FILE`, where `-` stands for `input`, or
+/// `run`, `tcp` or `serve` with its options; no words at all mean `script -`. Returns the exit status. A long run shows
+/// its progress if `err` is a terminal.
 pub fn run_on<
     S: AsStr,
     H: Host + Files<File = File> + Net<Listener = TcpListener, Stream = TcpStream> + RandomSource,
@@ -43,7 +43,7 @@ pub fn run_on<
     }
 }
 
-/// Does what was ordered.
+/// Carries out an order. Returns the exit status.
 fn carry_out<
     H: Host + Files<File = File> + Net<Listener = TcpListener, Stream = TcpStream> + RandomSource,
     I: Read + Drop + Send + 'static,

@@ -1,4 +1,4 @@
-//! The program's words.
+//! Tests of the program's words.
 use crate::program::run_on;
 use session_run::Host;
 use std::fs::File;
@@ -38,7 +38,7 @@ cs:Connected ro:Primary/Secondary ds:UpToDate/UpToDate pr:C pe:0 ap:0 ep:1 oos:0
 cs:Connected ro:Secondary/Primary ds:UpToDate/UpToDate pr:C pending:0 use:Yes whole:0
 ";
 
-/// A standard error that keeps what is written, and is no terminal.
+/// A standard error that keeps what is written, and is not a terminal.
 #[derive(Drop)]
 struct Said {
     bytes: Vec<u8>,
@@ -60,7 +60,7 @@ impl IsTerminal for Said {
     }
 }
 
-/// What the program writes and says, and its status.
+/// The program's exit status, standard output and standard error.
 #[derive(Drop)]
 struct Outcome {
     status: u8,
@@ -68,7 +68,7 @@ struct Outcome {
     said: Said,
 }
 
-/// Runs the program over these words, with this on its standard input.
+/// Runs the program over these words, with this text on its standard input.
 fn outcome_of<
     H: Host + Files<File = File> + Net<Listener = TcpListener, Stream = TcpStream> + RandomSource,
 >(rt: &H, words: &[&str], input: &'static str) -> Outcome {
@@ -84,7 +84,8 @@ fn outcome_of<
     }
 }
 
-/// Runs the program over these words with a script on its standard input.
+/// Runs the program over these words with a script on its standard input. Checks what it writes and its exit status,
+/// and that standard error is empty if that is 0, and only then.
 fn runs<
     H: Abort
         + Host
@@ -98,20 +99,20 @@ fn runs<
     assert_eq!(rt; outcome.said.bytes.is_empty(), status == 0);
 }
 
-/// Puts an image of `count` bytes, each this one, where the program looks for it.
+/// Writes an image of `count` bytes, each of them `byte`, where the program looks for it.
 fn put_image(rt: &(impl Abort + AllocGlobal + Files), name: &str, byte: u8, count: usize) {
     let image = Vec::from_elem(rt.alloc(), byte, count).expect(rt, "memory");
     fs::write(rt, name, image.as_slice()).expect(rt, "an image");
 }
 
-/// An image as the program left it, which goes.
+/// Returns an image as the program left it, and removes the file.
 fn take_image(rt: &(impl Abort + AllocGlobal + Files), name: &str) -> Vec<u8> {
     let image = fs::read(rt, name).expect(rt, "an image");
     fs::remove_file(rt, name).expect(rt, "an image");
     image
 }
 
-/// The program left an image of `count` bytes, each this one.
+/// Checks that the program left an image of `count` bytes, each of them `byte`, and removes the file.
 fn is_left(rt: &(impl Abort + AllocGlobal + Files), name: &str, byte: u8, count: usize) {
     let wanted = Vec::from_elem(rt.alloc(), byte, count).expect(rt, "memory");
     assert!(rt; take_image(rt, name) == wanted, "{name}");
@@ -126,7 +127,7 @@ fn words_choose_the_script(rt: HostRuntime) {
     runs(&rt, &["drbdpair", "print"], "", 2);
 }
 
-/// A script is read from a file that is there; of one that is not, one line tells.
+/// A script is read from its file. If there is no such file, the program writes one line to standard error.
 #[test]
 fn a_file_is_run(rt: HostRuntime) {
     fs::write(&rt, "one_write", ONE_WRITE).expect(&rt, "a script");
@@ -158,7 +159,7 @@ const HELP: [&str; 8] = [
     "\nExit statuses: 0 done",
 ];
 
-// Help is printed under the program's own name, whatever it is called by.
+// Help is printed under the program's own name, whatever name it is called by.
 #[test]
 fn help_is_asked_for(rt: HostRuntime) {
     for words in [
@@ -174,7 +175,7 @@ fn help_is_asked_for(rt: HostRuntime) {
     }
 }
 
-/// The same over sockets, which are not cut.
+/// A session over sockets completes and settles all writes, under each protocol; `--cuts` is wrong usage for it.
 #[test]
 fn a_session_is_run_over_sockets(rt: HostRuntime) {
     let words = ["drbdpair", "tcp", "--writers", "4", "--writes", "50"];
@@ -201,7 +202,7 @@ fn a_session_is_run_over_sockets(rt: HostRuntime) {
     runs(&rt, &["drbdpair", "tcp", "--cuts", "1"], "", 2);
 }
 
-/// Writers in threads of their own: all writes are completed and settled, also while the link is cut.
+/// Writers are in threads of their own, and all writes are completed and settled, also if the link is cut.
 #[test]
 fn a_session_is_run(rt: HostRuntime) {
     let words = ["drbdpair", "run", "--writers", "4", "--writes", "50"];
@@ -225,7 +226,7 @@ fn a_session_is_run(rt: HostRuntime) {
     runs(&rt, &words, "completed 4000\nsettled 4000\nunmarked 0\n", 0);
 }
 
-/// Both protocols that complete a write before the peer has it settle alike.
+/// Protocols A and B, which complete a write before the peer's disk has it, settle all writes too.
 #[test]
 fn a_session_is_run_under_each_protocol(rt: HostRuntime) {
     for protocol in ["A", "B"] {
@@ -234,7 +235,7 @@ fn a_session_is_run_under_each_protocol(rt: HostRuntime) {
     }
 }
 
-/// Values outside their ranges are wrong usage, before any file is read.
+/// Values outside their ranges, and one image for both disks, are wrong usage, before any file is read.
 #[test]
 fn a_run_has_ranges(rt: HostRuntime) {
     for (name, value) in [
@@ -256,9 +257,13 @@ fn a_run_has_ranges(rt: HostRuntime) {
             2,
         );
     }
+    for command in ["run", "tcp", "serve"] {
+        let words = ["drbdpair", command, "--local", "image", "--peer", "image"];
+        runs(&rt, &words, "", 2);
+    }
 }
 
-/// Both images hold what was written, and nothing is left beside them.
+/// Both images hold what was written, and no other file remains beside them.
 #[test]
 fn images_are_saved(rt: HostRuntime) {
     put_image(&rt, "saved_local", 0, 32_768);
@@ -281,7 +286,7 @@ fn images_are_saved(rt: HostRuntime) {
     assert!(rt; fs::metadata(&rt, "saved_peer.peer-new").is_err());
 }
 
-/// An image holds what one writer wrote.
+/// Checks that an image holds what one writer wrote.
 fn is_written(rt: &impl Abort, image: &[u8]) {
     assert_eq!(rt; image.len(), 32_768);
     let wanted = [9u8, 10, 3, 4, 5, 6, 7, 8];
@@ -290,7 +295,7 @@ fn is_written(rt: &impl Abort, image: &[u8]) {
     }
 }
 
-/// An image of another length is refused, and stays as it was; so is one that is not there. The local one is first.
+/// An image of another length is refused, and stays as it was. The local image is checked before the peer's.
 #[test]
 fn images_have_the_length_of_their_blocks(rt: HostRuntime) {
     put_image(&rt, "short_image", 0, 32_767);
@@ -311,7 +316,7 @@ fn images_have_the_length_of_their_blocks(rt: HostRuntime) {
     is_left(&rt, "short_image", 0, 32_767);
 }
 
-/// Images that differ are alike after a run: every block is copied, and those that are written hold what was written.
+/// Images that differ are equal after a run, and a block that nobody wrote is the local image's.
 #[test]
 fn images_that_differ_become_alike(rt: HostRuntime) {
     put_image(&rt, "differs_local", 1, 65_536);
@@ -335,12 +340,12 @@ fn images_that_differ_become_alike(rt: HostRuntime) {
     assert!(rt; local == peer);
 }
 
-/// A disk that cannot be saved is status 1, and both images are as they were.
+/// A disk that cannot be saved gives status 1, and both images stay as they were.
 #[test]
 fn a_failed_save_loses_nothing(rt: HostRuntime) {
     put_image(&rt, "unsaved_local", 0, 32_768);
     put_image(&rt, "unsaved_peer", 0, 32_768);
-    // A folder stands where the peer's disk is written first.
+    // A folder has the name of the file that the peer's disk is first written to.
     fs::create_dir(&rt, "unsaved_peer.peer-new").expect(&rt, "a folder");
     let words = [
         "drbdpair",
@@ -357,7 +362,7 @@ fn a_failed_save_loses_nothing(rt: HostRuntime) {
     fs::remove_dir(&rt, "unsaved_peer.peer-new").expect(&rt, "a folder");
 }
 
-/// The status lines come on standard error, the last two at the end; standard output has the three lines alone.
+/// The status lines of both nodes are on standard error; standard output has only its three lines.
 #[test]
 fn status_lines_are_shown(rt: HostRuntime) {
     let outcome = outcome_of(&rt, &["drbdpair", "run", "--status"], "");

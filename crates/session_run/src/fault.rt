@@ -9,20 +9,25 @@ use std::{fmt, io};
 pub(crate) enum Fault<'a> {
     /// The image could not be read.
     Unread(&'a str, io::Error),
-    /// The image has the first number of bytes, and not the second, which its blocks have.
+    /// The image has the first number of bytes instead of the second, which its blocks have.
     WrongLength(&'a str, u64, u64),
     /// The sockets could not be connected.
     Unconnected(io::Error),
+    /// A socket failed, and with it the link.
+    Lost,
     /// The start, a write or the settlement was refused, or there was no memory (7).
     Refused(Refusal),
     /// The image could not be saved; the file is as it was.
     Unsaved(&'a str, io::Error),
+    /// The peer's image could not be replaced, though the local one was; its new contents are in the file beside it
+    /// whose name has this ending.
+    Unreplaced(&'a str, &'static str, io::Error),
     /// The output could not be written.
     Unwritten(io::Error),
 }
 
 impl Fault<'_> {
-    /// How the session ends with it.
+    /// Returns how the session ends with it.
     pub(crate) fn status(&self) -> SessionStatus {
         match self {
             Fault::Refused(refusal) => SessionStatus::of(*refusal),
@@ -42,8 +47,15 @@ impl fmt::Display for Fault<'_> {
                 )
             }
             Fault::Unconnected(error) => write!(f, "the sockets could not be connected: {error}"),
+            Fault::Lost => write!(f, "a socket failed, and the link was lost"),
             Fault::Refused(refusal) => write!(f, "refused {}", refusal.number()),
             Fault::Unsaved(file, error) => write!(f, "{file} could not be saved: {error}"),
+            Fault::Unreplaced(file, ending, error) => {
+                write!(
+                    f,
+                    "{file} could not be replaced: {error}; its new contents are in {file}.{ending}"
+                )
+            }
             Fault::Unwritten(error) => write!(f, "the output could not be written: {error}"),
         }
     }

@@ -8,7 +8,7 @@ use std::io::Read;
 use std::rt::Files;
 use std::{fs, io};
 
-/// The bytes of a disk of `blocks` blocks: its file's, or zeros.
+/// Returns the bytes of a disk of `blocks` blocks: its file's, or zeros if it has no file.
 pub(crate) fn load<'a, H: Files + AllocGlobal>(
     rt: &H,
     file: Option<&'a str>,
@@ -29,7 +29,7 @@ pub(crate) fn load<'a, H: Files + AllocGlobal>(
     }
 }
 
-// Reads a file of just as many bytes as the buffer has. Of another file it reads nothing. Returns the file's length.
+// Reads a file that has exactly as many bytes as the buffer, and nothing of any other file. Returns the file's length.
 fn fill<H: Files>(rt: &H, file: &str, bytes: &mut [u8]) -> io::Result<u64> {
     let mut image = fs::open(rt, file)?;
     let length = image.metadata()?.len();

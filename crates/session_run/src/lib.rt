@@ -1,5 +1,5 @@
-//! A run of a session: writers in threads of their own over both nodes, a thread that cuts their link and
-//! reconnects it, and what the two disks have come to at its end.
+//! A run of a session: writers in threads of their own over both nodes, a thread that cuts their link and reconnects
+//! it, and the outcome for the two disks at its end.
 #![tactic(auto)]
 
 mod fault;

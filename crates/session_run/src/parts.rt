@@ -10,9 +10,10 @@ use volume::Parts;
 /// The disks of both nodes.
 pub(crate) type Disks = (MemStore, MemStore);
 
-/// What the session of these options over these images starts from, with the disks that hold them: no block is
-/// marked, and if the images differ, the peer's disk is one that nobody knows. `BadSetting` (15) if a setting is out of
-/// its range or an image has not its blocks, else `NoMemory` (7) if there is no room for the marks.
+/// Returns what a session of these options over these images starts from, with the disks that hold the images: no block
+/// is marked, and if the images differ, the peer's disk has the identifiers of an unknown disk (0,0,0,0). `BadSetting`
+/// (15) if a setting is out of its range, else `NoMemory` (7) if there is no memory for the marks, else `BadSetting`
+/// (15) if an image is not 1 to 262,144 whole blocks.
 pub(crate) fn parts(
     alloc: Global,
     options: &RunOptions,

@@ -10,7 +10,7 @@ use secondary::Secondary;
 use settle::{Settled, settle};
 use std::alloc::Global;
 
-/// What a session came to, with both disks.
+/// The outcome of a session, with both disks.
 #[derive(Drop)]
 pub(crate) struct Report {
     /// Writes that were completed.
@@ -19,15 +19,15 @@ pub(crate) struct Report {
     pub(crate) confirmed: u64,
     /// Blocks without a mark on which the disks differ.
     pub(crate) unmarked: u32,
-    /// The status lines of both nodes at the end, if they are wanted.
+    /// The status lines of both nodes at the end, if the options ask for them.
     pub(crate) status: Option<(String, String)>,
     pub(crate) local: MemStore,
     pub(crate) peer: MemStore,
 }
 
-/// The outcome of a session that ended so: its writers have these receipts, and these are its nodes at rest. If a write
-/// was refused, that is the refusal; else those come of the end and of `settle`, and `NoMemory` (7) if there is no room
-/// for the status lines.
+/// Returns the outcome of a session whose writers have the receipts `worked`, and whose nodes at rest are `ended`. If a
+/// write was refused, returns that refusal; else those of the end and of `settle`, and `NoMemory` (7) if there is no
+/// memory for the status lines.
 pub(crate) fn conclude<
     O: FrameOut + Drop,
     I: FrameIn + Drop,
@@ -63,7 +63,7 @@ pub(crate) fn conclude<
     })
 }
 
-// How many receipts there are, and what the settlement with them comes to.
+// Settles with the receipts. Returns how many there are, and the settlement.
 fn settled_by<O: FrameOut + Drop, I: FrameIn + Drop, P: FrameOut + Drop, J: FrameIn + Drop>(
     primary: &mut Primary<O, I, MemStore>,
     secondary: &mut Secondary<P, J, MemStore>,
@@ -75,7 +75,7 @@ fn settled_by<O: FrameOut + Drop, I: FrameIn + Drop, P: FrameOut + Drop, J: Fram
     Ok((receipts.len() as u64, settled))
 }
 
-// The status lines of both nodes, if they are wanted.
+// Returns the status lines of both nodes if the options ask for them.
 fn status<O: FrameOut + Drop, I: FrameIn + Drop, P: FrameOut + Drop, J: FrameIn + Drop>(
     alloc: Global,
     options: &RunOptions,

@@ -8,15 +8,19 @@ use std::io::{BufWriter, ErrorKind, Write};
 use std::rt::Files;
 use std::{fs, io};
 
-/// Where a disk is saved, if it has an image: beside that first, whose place it takes then.
+/// How the name of the file ends that the peer's disk is written to.
+const PEER_ENDING: &str = "peer-new";
+
+/// Where a disk is saved, if it has an image: first in a file beside the image, which then takes the image's place.
 #[derive(Drop)]
 struct Place<'a> {
     image: Option<&'a str>,
     beside: String,
 }
 
-/// Saves the disks that have images. Both are written beside their images before either takes its place, so a
-/// failed write changes no image; what was written is removed then.
+/// Saves the disks that have images. Both are written beside their images before either takes its place, so a failed
+/// write changes no image; the written files are then removed. If the peer's image cannot be replaced once the local one
+/// is, its new contents stay beside it.
 pub(crate) fn save<'a, H: Files + AllocGlobal>(
     rt: &H,
     images: &Images<'a>,
@@ -24,31 +28,60 @@ pub(crate) fn save<'a, H: Files + AllocGlobal>(
     peer: &mut MemStore,
 ) -> Result<(), Fault<'a>> {
     let local_place = Place::of(rt.alloc(), images.local, "local-new")?;
-    let peer_place = Place::of(rt.alloc(), images.peer, "peer-new")?;
-    let saved = save_at(rt, &local_place, local, &peer_place, peer);
-    if saved.is_err() {
-        local_place.clear(rt);
-        peer_place.clear(rt);
-    }
-    saved
+    let peer_place = Place::of(rt.alloc(), images.peer, PEER_ENDING)?;
+    write_both(rt, &local_place, local, &peer_place, peer)?;
+    replace_both(rt, &local_place, &peer_place)
 }
 
-// Writes both disks, and then moves both to their places.
-fn save_at<'a, H: Files + AllocGlobal>(
+// Writes both disks beside their images. If that fails, removes what was written.
+fn write_both<'a, H: Files + AllocGlobal>(
     rt: &H,
     local_place: &Place<'a>,
     local: &mut MemStore,
     peer_place: &Place<'a>,
     peer: &mut MemStore,
 ) -> Result<(), Fault<'a>> {
-    local_place.write(rt, local)?;
-    peer_place.write(rt, peer)?;
-    local_place.take(rt)?;
-    peer_place.take(rt)
+    let mut written = local_place.write(rt, local);
+    if written.is_ok() {
+        written = peer_place.write(rt, peer);
+        if written.is_err() {
+            peer_place.clear(rt);
+        }
+    }
+    if written.is_err() {
+        local_place.clear(rt);
+    }
+    written
+}
+
+// Moves both written files to the places of their images. If the first cannot be moved, removes both.
+fn replace_both<'a, H: Files>(
+    rt: &H,
+    local_place: &Place<'a>,
+    peer_place: &Place<'a>,
+) -> Result<(), Fault<'a>> {
+    let replaced = local_place.take(rt);
+    if replaced.is_err() {
+        local_place.clear(rt);
+        peer_place.clear(rt);
+        return replaced;
+    }
+    match peer_place.take(rt) {
+        // The local image is replaced, so what its mirror had is not to be lost.
+        Err(Fault::Unsaved(image, error)) if local_place.image.is_some() => {
+            Err(Fault::Unreplaced(image, PEER_ENDING, error))
+        }
+        replaced => {
+            if replaced.is_err() {
+                peer_place.clear(rt);
+            }
+            replaced
+        }
+    }
 }
 
 impl<'a> Place<'a> {
-    /// The place of an image, if there is one.
+    /// Returns the place of an image, if there is one.
     fn of(alloc: Global, image: Option<&'a str>, ending: &str) -> Result<Place<'a>, AllocError> {
         let beside = match image {
             Some(image) => format!(in alloc; "{image}.{ending}")?,
@@ -57,7 +90,7 @@ impl<'a> Place<'a> {
         Ok(Place { image, beside })
     }
 
-    /// Writes the disk beside its image, down to the medium, with the image's permissions.
+    /// Writes the disk to the file beside its image, down to the medium, with the image's permissions.
     fn write<H: Files + AllocGlobal>(&self, rt: &H, disk: &mut MemStore) -> Result<(), Fault<'a>> {
         let Some(image) = self.image else {
             return Ok(());
@@ -68,7 +101,7 @@ impl<'a> Place<'a> {
         }
     }
 
-    /// Puts what was written in the place of the image.
+    /// Moves the written file to the place of the image.
     fn take<H: Files>(&self, rt: &H) -> Result<(), Fault<'a>> {
         let Some(image) = self.image else {
             return Ok(());
@@ -79,7 +112,7 @@ impl<'a> Place<'a> {
         }
     }
 
-    /// Removes what was written.
+    /// Removes the written file.
     fn clear<H: Files>(&self, rt: &H) {
         if self.image.is_some() {
             let _ = fs::remove_file(rt, self.beside.as_str());

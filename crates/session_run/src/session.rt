@@ -15,9 +15,9 @@ use std::marker::Brand;
 use volume::{Linked, Parts, Runtime, Session};
 
 /// Runs a session over the images of two disks: starts it, makes all writes while the link is cut, ends it, and
-/// settles. On `err` it tells what the options want.
+/// settles. Reports on `err` what the options ask for.
 ///
-/// `BadSetting` (15) if a setting is out of its range or an image has not its blocks; else the refusals of
+/// `BadSetting` (15) if a setting is out of its range or an image does not have its blocks; else the refusals of
 /// `Session::start`, of `Device::write`, of `Session::finish` and of `settle`, in this order.
 pub(crate) fn run_session<R: Runtime, E: Write + Send>(
     rt: R,
@@ -34,7 +34,7 @@ pub(crate) fn run_session<R: Runtime, E: Write + Send>(
     run_named::<Brand, R, E>(rt, alloc, options, there, back, disks, parts, err)
 }
 
-// All that the session is used for stands in one function over its link's name, which the caller picks.
+// Uses the session, from its start to its end, in one function over its link's name, which the caller picks.
 fn run_named<L: Linked + Send + Sync + 'static, R: Runtime, E: Write + Send>(
     rt: R,
     alloc: Global,

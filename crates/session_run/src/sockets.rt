@@ -11,10 +11,10 @@ use std::io::Write;
 use volume::Runtime;
 use wire_session::{Socket, WireSession};
 
-/// Runs a session over the images of two disks and these sockets: starts it, makes all writes, ends it, and settles. On
-/// `err` it tells what the options want.
+/// Runs a session over the images of two disks and these sockets: starts it, makes all writes, ends it, and settles.
+/// Reports on `err` what the options ask for.
 ///
-/// `BadSetting` (15) if a setting is out of its range or an image has not its blocks; else the refusals of
+/// `BadSetting` (15) if a setting is out of its range or an image does not have its blocks; else the refusals of
 /// `WireSession::start_over`, of `Device::write`, of `WireSession::finish` and of `settle`, in this order.
 pub(crate) fn run_over<R: Runtime, E: Write + Send>(
     rt: R,

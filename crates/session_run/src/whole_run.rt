@@ -1,10 +1,11 @@
-//! A run, from its images to its lines.
+//! A run, from its images to the lines that it prints.
 use crate::fault::Fault;
 use crate::images::load;
 use crate::report::Report;
 use crate::saving::save;
 use crate::session::run_session;
 use crate::sockets::run_over;
+use blocks::Refusal;
 use numbers::SessionStatus;
 use options::{Images, Path, RunOptions};
 use run_threads::tell_status;
@@ -14,13 +15,13 @@ use std::rt::Files;
 use volume::Host;
 use wire_session::loopback;
 
-/// Runs a session with these options over these images, saves both disks, and prints `completed X`, `settled X`
-/// and `unmarked 0`, X being the number of writes. Returns how it ended: `Done` if all is done; `Failed` if a
-/// file, the output or memory failed, or an image has not as many bytes as its blocks; `Refused` for any other refusal.
+/// Runs a session with these options over these images, saves both disks, and prints `completed X`, `settled X` and
+/// `unmarked 0`, X being the number of writes. Returns how it ended: `Done` if all is done; `Failed` if a file, the
+/// output or memory failed, or an image does not have as many bytes as its blocks; `Refused` for any other refusal.
 ///
 /// Faults are found in this order: options out of their ranges (15), the local image, the peer's, the sockets, the
-/// start, the writes, saving. Then a line on `err` tells of the first, which for a refusal R is `refused R`; nothing is
-/// printed, and if the fault came before saving, no image is changed. What the options want told goes to `err` too.
+/// start, the writes, saving. Then a line on `err` reports the first, which for a refusal R is `refused R`; nothing is
+/// printed, and if the fault came before saving, no image is changed. What the options ask for goes to `err` too.
 pub fn run<
     H: Host + Files + Net<Listener = TcpListener, Stream = TcpStream>,
     W: Write,
@@ -77,6 +78,8 @@ fn run_disks<'a, H: Host + Net<Listener = TcpListener, Stream = TcpStream>, E: W
     };
     match report {
         Ok(report) => Ok(report),
+        // Over sockets the link is lost only if one of them fails.
+        Err(Refusal::NotConnected) if options.path == Path::Sockets => Err(Fault::Lost),
         Err(refusal) => Err(Fault::Refused(refusal)),
     }
 }

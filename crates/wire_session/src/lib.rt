@@ -1,4 +1,4 @@
-//! A session over streams of bytes, as sockets are: both nodes behind locks of their own, worked by threads, and pumps
+//! A session over streams of bytes, such as sockets: each node under a lock of its own, worked by threads, and pumps
 //! that carry their frames.
 #![tactic(auto)]
 

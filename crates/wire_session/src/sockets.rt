@@ -1,13 +1,17 @@
 //! Sockets of this machine.
 use session_threads::Way;
 use std::io;
+use std::io::ErrorKind;
 use std::net::{Ipv4Addr, Net, TcpListener, TcpStream};
+
+/// The most connections of others that the listener passes over for the one that it waits for.
+const MAX_STRANGERS: u32 = 256;
 
 /// A direction of a link: a socket's two ends.
 pub type Socket = Way<TcpStream, TcpStream>;
 
-/// Both directions of a link over 127.0.0.1, each over a socket of its own. Each sends without delay. It returns the system's
-/// error if a socket cannot be had; then none is left open.
+/// Connects both directions of a link over 127.0.0.1, each over a socket of its own that sends without delay. Returns
+/// the system's error if a socket cannot be made; then none stays open.
 pub fn loopback<R: Net<Listener = TcpListener, Stream = TcpStream>>(
     rt: &R,
 ) -> io::Result<(Socket, Socket)> {
@@ -17,13 +21,19 @@ pub fn loopback<R: Net<Listener = TcpListener, Stream = TcpStream>>(
     Ok((there, back))
 }
 
-// One direction: a connection to the listener, whose one end is written and whose other end is read.
+// Connects one direction: the connecting end is written, and the end that the listener accepts is read.
 fn way<R: Net<Listener = TcpListener, Stream = TcpStream>>(
     rt: &R,
     listener: &TcpListener,
 ) -> io::Result<Socket> {
     let writer = TcpStream::connect(rt, listener.local_addr()?)?;
     writer.set_nodelay(true)?;
-    let (reader, _) = listener.accept()?;
-    Ok(Way { writer, reader })
+    let own = writer.local_addr()?;
+    for _ in 0..MAX_STRANGERS {
+        let (reader, from) = listener.accept()?;
+        if from == own {
+            return Ok(Way { writer, reader });
+        }
+    }
+    Err(io::Error::from(ErrorKind::ConnectionRefused))
 }

@@ -1,4 +1,4 @@
-//! A session whose frames go over streams of bytes, as sockets are.
+//! A session whose frames go over streams of bytes, such as sockets.
 ghost use Rattle.std.specs.Prelude.{◌<◌, ◌≤◌, IfOk};
 ghost use Rattle.session_nodes.specs.Primaries.{PrimaryIsHad};
 ghost use Rattle.session_nodes.specs.Secondaries.{SecondaryIsHad};
@@ -22,7 +22,7 @@ pub type WireLocal<R, S> = LocalHalf<R, RuledOut<R>, RuledIn<R>, S>;
 /// The secondary's half of a session over streams.
 pub type WirePeer<R, T> = PeerHalf<R, RuledOut<R>, RuledIn<R>, T>;
 
-/// What any number of threads may share of a session over streams.
+/// The mirror of a session over streams, which any number of threads may share.
 pub type WireMirror<R, S, T> = Mirror<R, WireLocal<R, S>, WirePeer<R, T>>;
 
 /// The primary of a session over streams.
@@ -41,12 +41,12 @@ impl<
     S: Store + Drop + Send + 'static,
     T: Store + Drop + Send + 'static,
 > WireSession<R, S, T> {
-    /// Starts a session over two disks and two ways, one for each direction of its link: starts a pump at each end of
-    /// a way, does the hello, and starts the threads. A pump that ends drops its writer or reader, and then both ends
-    /// of the link close.
+    /// Starts a session over two disks and two ways, one for each direction of its link: starts a pump at each end of a
+    /// way, exchanges the hellos, and starts the threads. A pump that ends drops its writer or reader, and then both
+    /// ends of the link close.
     ///
     /// `BadSetting` (15), `UsedIdentifier` (33) and the refusals of the hello (30 to 33) come as for the nodes;
-    /// `NotConnected` (12) if a way ends during the hello; 20 to 25, 34 or 35 if foreign bytes come in it;
+    /// `NotConnected` (12) if a way ends during the hello; 20 to 25, 34 or 35 if foreign bytes arrive over it;
     /// `NoMemory` (7) if there is no memory, and if a thread cannot be started. Then nothing runs, and all that was
     /// handed over is dropped.
     pub fn start_over<W: Sink, D: Source, V: Sink, E: Source>(
@@ -84,7 +84,7 @@ impl<
     }
 }
 
-// The primary's half over rows of its own, and the pumps' ends of these.
+// Creates the primary's half over rows of its own. Returns it with the pumps' ends of these.
 fn open_local<R: Wait + Copy + Drop, S: Store + Drop>(
     rt: R,
     alloc: Global,
@@ -103,7 +103,7 @@ fn open_local<R: Wait + Copy + Drop, S: Store + Drop>(
     }
 }
 
-// The secondary's.
+// Creates the secondary's half like `open_local`.
 fn open_peer<R: Wait + Copy + Drop, T: Store + Drop>(
     rt: R,
     alloc: Global,
@@ -121,17 +121,17 @@ fn open_peer<R: Wait + Copy + Drop, T: Store + Drop>(
 }
 
 impl<R: Threads + Wait + Clock + Drop, S: Store + Drop, T: Store + Drop> WireSession<R, S, T> {
-    /// What any number of threads may share.
+    /// Returns the mirror, which any number of threads may share.
     pub fn mirror(&self) -> &WireMirror<R, S, T> {
         self.running.mirror()
     }
 
-    /// Ends the session: closes both ends, lets the disks end all that is unfinished, stops the threads, and gives
-    /// both nodes back. `NotDrained` (36) if a node cannot be had back, which needs a thread that still shares it.
+    /// Ends the session: closes both ends, lets the disks finish all pending work, stops the threads, and returns both
+    /// nodes. `NotDrained` (36) if a thread still shares a node.
     ///
-    /// Each node has a history whose connections all went over its own ends. Whether what one took begins what the
-    /// other pushed is the streams' affair, and no contract can speak of them. No connection of the secondary has a
-    /// number above the primary's last one, or 36 is returned, which no session brings about.
+    /// Each node has a history whose connections all used its own ends. Whether what one took begins what the other
+    /// pushed depends on the streams, and no contract can speak of them. No connection of the secondary has a number
+    /// above the primary's last one; else 36 is returned, which no session brings about.
     pub fn finish(self) -> Result<(WirePrimary<R, S>, WireSecondary<R, T>), Refusal>
         ensures had { IfOk result (λ nodes. PrimaryIsHad nodes.0 × SecondaryIsHad nodes.1) }
         ensures numbered { IfOk result (λ nodes. nodes.1.core.number ≤ nodes.0.core.connections) }
