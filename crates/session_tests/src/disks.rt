@@ -25,7 +25,7 @@ pub(crate) struct Signals {
 }
 
 impl Signals {
-    /// Makes signals of which none is set yet.
+    /// Makes signals, none of them set yet.
     pub(crate) fn new() -> Signals {
         Signals {
             began: AtomicBool::new(false),

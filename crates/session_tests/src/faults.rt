@@ -17,7 +17,7 @@ enum Fault {
     PeerWrite(u64),
 }
 
-// Runs a session of four writers over two disks, one of which fails once. A write that fails is on the disk all the
+// Runs a session of four writers over two disks. One of them fails once. A write that fails is on the disk all the
 // same, if its number is odd.
 fn over_failing<R: Abort + Runtime>(
     rt: R,

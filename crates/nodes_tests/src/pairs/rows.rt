@@ -93,7 +93,7 @@ pub(crate) static WRITE: [Part; 2] = [
     },
 ];
 
-/// Two writes of one epoch, the second of which is completed first, and one of the next epoch, which waits for the
+/// Two writes of one epoch, whose second is completed first, and one of the next epoch, which waits for the
 /// first at the peer's disk.
 pub(crate) static EPOCHS: [Part; 3] = [
     CONNECTED,
