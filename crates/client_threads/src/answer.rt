@@ -33,7 +33,7 @@ pub(crate) fn answer<R: Wait + Clock>(
 ) {
     let mut begun = Vec::new(service.alloc);
     let mut answered = Vec::new(service.alloc);
-    let first = begin(rt, service, device, job);
+    let first = begin(service, device, job);
     if begun.try_reserve(TOGETHER).is_err() || answered.try_reserve(TOGETHER).is_err() {
         release(rt, &end(rt, service, device, first, receipts));
         return;
@@ -48,7 +48,7 @@ pub(crate) fn answer<R: Wait + Clock>(
         let Ok(job) = service.queue.try_recv(rt) else {
             break;
         };
-        let _ = begun.push(begin(rt, service, device, job));
+        let _ = begun.push(begin(service, device, job));
     }
     for pending in begun {
         if pending.syncs {
@@ -60,11 +60,11 @@ pub(crate) fn answer<R: Wait + Clock>(
 }
 
 // Begins a request.
-fn begin<R: Wait + Clock>(rt: &R, service: &Service, device: &impl Device, job: Job) -> Pending {
+fn begin(service: &Service, device: &impl Device, job: Job) -> Pending {
     let Job { request, client } = job;
     let syncs = request.fua || request.command == Command::Flush;
     Pending {
-        under_way: service.requests.begin(rt, device, request),
+        under_way: service.requests.begin(device, request),
         client,
         syncs,
     }

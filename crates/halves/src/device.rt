@@ -63,7 +63,10 @@ pub trait Device {
     /// no block is marked, and every epoch is acknowledged.
     fn is_quiet(&self) -> bool;
 
-    /// Returns whether the peer has acknowledged every epoch, so that its disk has all that was written, or the
-    /// primary's end is closed.
-    fn is_acknowledged(&self) -> bool;
+    /// Returns how many writes were accepted, which is the number of the last one.
+    fn accepted(&self) -> u64;
+
+    /// Returns whether each write up to this number is released: the local disk has done it, and the peer's disk has
+    /// its whole epoch, unless the write has no connection.
+    fn is_released(&self, number: u64) -> bool;
 }

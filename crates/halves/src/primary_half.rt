@@ -43,8 +43,11 @@ pub trait PrimaryHalf {
     /// is marked, and every epoch is acknowledged.
     fn is_quiet(&self) -> bool;
 
-    /// Returns whether the peer has acknowledged every epoch, or the end is closed.
-    fn is_acknowledged(&self) -> bool;
+    /// Returns how many writes were accepted, which is the number of the last one.
+    fn accepted(&self) -> u64;
+
+    /// Returns whether each write up to this number is released.
+    fn is_released(&self, number: u64) -> bool;
 
     /// Returns how many blocks are marked.
     fn marks(&self) -> u32;

@@ -119,10 +119,15 @@ impl<R: Wait + Drop, O: FrameOut + Drop, I: FrameIn + Drop, S: Store + Drop> Pri
         !node.is_open() || (node.is_established() && node.marks() == 0 && node.open_epochs() == 0)
     }
 
-    fn is_acknowledged(&self) -> bool {
-        let local = self.node.lock(&self.rt);
-        let node = local.node();
-        !node.is_open() || node.open_epochs() == 0
+    fn accepted(&self) -> u64 {
+        self.node.lock(&self.rt).node().accepted()
+    }
+
+    fn is_released(&self, number: u64) -> bool {
+        match self.node.lock(&self.rt).node().first_unreleased() {
+            Some(first) => number < first,
+            None => true,
+        }
     }
 
     fn marks(&self) -> u32 {

@@ -268,6 +268,10 @@ is_released h accepted = not (is_waiting accepted.outcome) && (is_confirmed h ac
 abbrev pub unreleased : PrimaryHistory → List Accepted
 unreleased h = filter (λ accepted. not (is_released h accepted)) h.writes
 
+-- the number of the first write that is not released
+abbrev pub first_unreleased : PrimaryHistory → Option ℕ
+first_unreleased h = option_map (λ accepted. accepted.write.number) (find (λ accepted. not (is_released h accepted)) h.writes)
+
 -- the accepted writes that are neither completed nor failed
 abbrev pub open_writes : PrimaryHistory → List Accepted
 open_writes h = filter (is_open h) h.writes

@@ -1,5 +1,5 @@
 -- Worked examples of writes over an established connection.
-use Rattle.std.specs.Prelude.{◌≡◌, List, [], ◌∷◌, ◌++◌}
+use Rattle.std.specs.Prelude.{◌≡◌, List, [], ◌∷◌, ◌++◌, Some}
 use Rattle.blocks.specs.declared.settings.Settings.{Settings}
 use Rattle.blocks.specs.declared.settings.Protocol.TheVariants as protocol
 use Rattle.blocks.specs.declared.refusal.Refusal.TheVariants as refusal
@@ -10,6 +10,7 @@ use Rattle.blocks.specs.declared.command.Command.TheVariants as command
 use Rattle.blocks.specs.SettingsRange.{standard}
 use Rattle.model.specs.Pair.{Event, OpenEvent, LocalEvent, SendEvent, ReceiveEvent, PeerEvent, PeerFaultEvent, AckOutEvent, AckInEvent, ClosePrimaryEvent}
 use Rattle.model.specs.Pair.{tuples, marked, differing}
+use Rattle.model.specs.Primary.{first_unreleased}
 use Rattle.model.specs.Rows.{words, fresh, connected, connect, connecting, replies, after, fill, refused, done, accepted, item, frame, decided, completing}
 use Rattle.model.specs.Rows.{with_barrier}
 use Rattle.model.specs.Status.{primary_line, secondary_line, linked_primary, linked_secondary}
@@ -39,11 +40,13 @@ one_at_a_time = record standard { backlog = 1 }
 abbrev pub two_in_turn : List Event
 two_in_turn = one_write ++ fill 3 1 187 ∷ SendEvent ∷ ReceiveEvent ∷ AckOutEvent ∷ AckInEvent ∷ fill 3 1 187 ∷ []
 
--- the replies, and the blocks on which the disks differ then
+-- the replies, the first write that is not released before and after, and the blocks on which the disks differ then
 pub record TwoInTurn : Type 0 where
   pub answers : replies two_in_turn (connected one_at_a_time)
       ≡ one_write_replies ++ refused refusal.LogFull ∷ item command.Barrier 1 ∷ item command.Barrier 1 ∷ frame command.BarrierAck ∷ frame command.BarrierAck ∷
       accepted 2 ∷ []
+  pub unreleased : first_unreleased (after one_write (connected one_at_a_time)).primary ≡ Some 1
+  pub next : first_unreleased (after two_in_turn (connected one_at_a_time)).primary ≡ Some 2
   pub same : differing (after two_in_turn (connected one_at_a_time)) ≡ []
   pub local : replies (LocalEvent 2 ∷ []) (after two_in_turn (connected one_at_a_time)) ≡ done ∷ []
   pub ahead : differing (after (two_in_turn ++ LocalEvent 2 ∷ []) (connected one_at_a_time)) ≡ 3 ∷ []

@@ -1,7 +1,7 @@
 //! Read-only accessors.
 ghost use Rattle.std.specs.Prelude.{◌≡◌, length, not};
 ghost use Rattle.model.specs.Headline.{is_marked};
-ghost use Rattle.model.specs.Primary.{PrimaryHistory, items_sent, marked_blocks, primary_connection, resync_runs, is_established};
+ghost use Rattle.model.specs.Primary.{PrimaryHistory, first_unreleased, items_sent, marked_blocks, primary_connection, resync_runs, is_established};
 ghost use Rattle.model.specs.Status.{incomplete, open_epochs, unanswered};
 ghost use Rattle.primary_protocol.specs.Node.{NodeHas};
 ghost use Rattle.primary.specs.State.{node};
@@ -109,6 +109,14 @@ impl<O: FrameOut + Drop, I: FrameIn + Drop, S: Store + Drop> Primary<O, I, S> {
         ensures { (h : PrimaryHistory) → NodeHas (node self.now) h → result ≡ unanswered h }
     {
         self.core.unanswered_writes()
+    }
+
+    /// Returns the number of the first write that is not released, if there is one. A write is released once the local
+    /// disk has done it, and the peer has acknowledged its epoch or the write has no connection. It takes constant time.
+    pub fn first_unreleased(&self) -> Option<u64>
+        ensures { (h : PrimaryHistory) → NodeHas (node self.now) h → result ≡ first_unreleased h }
+    {
+        self.core.first_unreleased()
     }
 
     /// Returns how many epochs of the stream have a write or a resync block and are not acknowledged.

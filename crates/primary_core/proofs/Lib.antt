@@ -1,6 +1,7 @@
 pub mod Entries
 pub mod SoundLog
 pub mod Epochs
+pub mod FirstWrite
 pub mod Found
 pub mod Held
 pub mod Sound

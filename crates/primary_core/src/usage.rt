@@ -1,5 +1,5 @@
 //! Read-only accessors.
-ghost use Rattle.std.specs.Prelude.{◌≡◌, filter, is_some, length, option_map};
+ghost use Rattle.std.specs.Prelude.{◌≡◌, filter, is_some, length, option_map, slice_get};
 ghost use Rattle.epochs.specs.Epochs.{unacknowledged};
 ghost use Rattle.transferlog.specs.Writes.{is_open, is_unanswered};
 ghost use Rattle.bitmap.specs.Marks.{count, marked};
@@ -147,10 +147,10 @@ impl PrimaryCore {
         self.log.open_epochs()
     }
 
-    /// Returns how many writes are not released.
-    pub fn unreleased(&self) -> u32
-        ensures { result ≡ length self.now.state.log.writes }
+    /// Returns the number of the first write that is not released, if there is one. It takes constant time.
+    pub fn first_unreleased(&self) -> Option<u64>
+        ensures { result ≡ option_map (λ w. w.number) (slice_get self.now.state.log.writes 0) }
     {
-        self.log.len()
+        Some(self.log.unreleased_from(0)?.number())
     }
 }

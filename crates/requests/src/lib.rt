@@ -2,10 +2,10 @@
 #![tactic(auto)]
 
 mod complete;
-mod flushes;
 mod medium;
 mod payload;
 mod perform;
+mod release;
 mod requests;
 mod under_way;
 

@@ -10,8 +10,6 @@ use bytes::Bytes;
 use halves::{Begun, Device};
 use nbd::{Errno, Ranges};
 use std::alloc::Global;
-use std::sync::Wait;
-use std::time::Clock;
 
 /// Reads these ranges, which have `count` blocks together.
 pub(crate) fn read(
@@ -36,8 +34,7 @@ pub(crate) fn read(
 }
 
 /// Begins to write the payload to these ranges, each from the place in it where the one before ends.
-pub(crate) fn begin_write<R: Wait + Clock>(
-    rt: &R,
+pub(crate) fn begin_write(
     requests: &Requests,
     device: &impl Device,
     ranges: Ranges,
@@ -49,14 +46,13 @@ pub(crate) fn begin_write<R: Wait + Clock>(
     let mut payload = payload;
     for range in ranges {
         let bytes = front(&mut payload, range.count)?;
-        begin_range(rt, requests, device, range, &bytes, begun)?;
+        begin_range(requests, device, range, &bytes, begun)?;
     }
     Ok(())
 }
 
 /// Begins to write zeros to these ranges.
-pub(crate) fn begin_zeroes<R: Wait + Clock>(
-    rt: &R,
+pub(crate) fn begin_zeroes(
     requests: &Requests,
     device: &impl Device,
     ranges: Ranges,
@@ -66,14 +62,13 @@ pub(crate) fn begin_zeroes<R: Wait + Clock>(
 {
     for range in ranges {
         let bytes = zeros(requests.alloc, range.count)?;
-        begin_range(rt, requests, device, range, &bytes, begun)?;
+        begin_range(requests, device, range, &bytes, begun)?;
     }
     Ok(())
 }
 
 // Begins to write one range.
-fn begin_range<R: Wait + Clock>(
-    rt: &R,
+fn begin_range(
     requests: &Requests,
     device: &impl Device,
     range: Range,
@@ -83,7 +78,6 @@ fn begin_range<R: Wait + Clock>(
     requires { length bytes.now ≡ range.count * 4096 }
     ensures { OnOk result (HasMore span_of (pair_of range ∷ []) begun.old.items begun.new.items) }
 {
-    requests.flushes.wait(rt);
     requests.count_write();
     if begun.try_reserve(1).is_err() {
         return Err(Errno::NoMemory);

@@ -5,9 +5,9 @@ ghost use Rattle.nbd.specs.declared.command.Command.TheVariants as command;
 ghost use Rattle.requests.specs.Receipts.{HasBegun, HasMore, range_of};
 
 use crate::complete::complete_all;
-use crate::flushes::{Flushes, pause};
 use crate::medium::Medium;
 use crate::perform::{begin_write, begin_zeroes, read};
+use crate::release::wait_for_release;
 use crate::under_way::UnderWay;
 use blocks::Protocol;
 use halves::{Begun, Device};
@@ -27,7 +27,6 @@ pub struct Requests {
     protocol: Protocol,
     medium: Medium,
     writes: AtomicU64,
-    pub(crate) flushes: Flushes,
 }
 
 impl Requests {
@@ -43,7 +42,6 @@ impl Requests {
             protocol,
             medium: Medium::new(local, peer),
             writes: AtomicU64::new(0),
-            flushes: Flushes::new(),
         }
     }
 
@@ -64,11 +62,11 @@ impl Requests {
 
     /// Begins a request: the writes of a WRITE or WRITE_ZEROES, and nothing for any other command. A caller with many
     /// requests begins them all, and then ends one after another.
-    pub fn begin<R: Wait + Clock>(&self, rt: &R, device: &impl Device, request: Request) -> UnderWay
+    pub fn begin(&self, device: &impl Device, request: Request) -> UnderWay
         ensures { result ≡ request }
     {
         let mut begun = Vec::new(self.alloc);
-        let begins = self.begin_writes(rt, device, &request, &mut begun);
+        let begins = self.begin_writes(device, &request, &mut begun);
         UnderWay {
             request,
             begun,
@@ -78,7 +76,8 @@ impl Requests {
 
     /// Ends a request, and returns it with the data of a READ, and no bytes for any other command. A WRITE or
     /// WRITE_ZEROES is done once each of its ranges has its receipt, which is appended. With FUA, and for a FLUSH, both
-    /// images are then on stable storage, and the peer has all writes that were done before, unless the link is down.
+    /// images are then on stable storage, and the peer's has each write that was answered before, unless that has no
+    /// connection: its blocks are marked.
     ///
     /// `Invalid` (EINVAL) for a range that the device refuses and for DISC, which has no reply; `NoMemory` (ENOMEM) if
     /// there is no memory; `InputOutput` (EIO) if a disk or a file failed, or the session has no room left. Then some
@@ -111,9 +110,8 @@ impl Requests {
     }
 
     // Begins the writes of a request, in order, until one is refused.
-    fn begin_writes<R: Wait + Clock>(
+    fn begin_writes(
         &self,
-        rt: &R,
         device: &impl Device,
         request: &Request,
         begun: &mut Vec<Begun>,
@@ -125,9 +123,9 @@ impl Requests {
             Command::Write => {
                 let ranges = ranges_of(request)?;
                 let payload = request.payload.clone().map_err(|_| Errno::NoMemory)?;
-                begin_write(rt, self, device, ranges, payload, begun)
+                begin_write(self, device, ranges, payload, begun)
             }
-            Command::WriteZeroes => begin_zeroes(rt, self, device, ranges_of(request)?, begun),
+            Command::WriteZeroes => begin_zeroes(self, device, ranges_of(request)?, begun),
             Command::Read | Command::Flush | Command::Disconnect => Ok(()),
         }
     }
@@ -156,18 +154,11 @@ impl Requests {
         Ok(Vec::new(self.alloc))
     }
 
-    // Syncs both images to stable storage, once the peer has all writes that were answered before, unless the link is
-    // down. Under protocol C the peer has them already.
+    // Syncs both images to stable storage, once the peer's disk has each write that was answered before, unless that
+    // has no connection. Under protocol C the peer's disk has it already.
     fn sync<R: Wait + Clock>(&self, rt: &R, device: &impl Device) -> Result<(), Errno> {
         if self.protocol != Protocol::C {
-            self.flushes.begin();
-            for _ in rt.forever() {
-                if device.is_acknowledged() {
-                    break;
-                }
-                pause(rt);
-            }
-            self.flushes.end();
+            wait_for_release(rt, device);
         }
         self.medium.sync(rt)
     }

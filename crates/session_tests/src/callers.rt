@@ -31,7 +31,7 @@ pub(crate) enum Work {
     /// One caller writes a thousand times, and cuts and reconnects the link after every tenth write.
     CutEveryTenth,
     /// One caller writes block 0; once the peer's disk has begun that, another caller writes block 1. If
-    /// `receipt_opens`, the receipt of the second write lets the first one end.
+    /// `receipt_opens`, the receipt of the second write lets the first one end, and only then are both released.
     Gate { receipt_opens: bool },
     /// Nothing is written until the peer's disk has done `writes` writes.
     Resync { writes: u64 },
@@ -218,8 +218,8 @@ fn gate<R: Abort + Runtime>(
             }
             wait_until_begun(signals);
             let receipt = write(alloc, mirror, 1, 0xBB);
-            if receipt_opens && receipt.is_ok() {
-                signals.may_end.store(true, Ordering::SeqCst);
+            if receipt_opens && receipt.is_ok() && !is_released_by_the_peer(mirror, signals) {
+                return Err(Refusal::NotCompleted);
             }
             receipt
         },
@@ -233,6 +233,20 @@ fn gate<R: Abort + Runtime>(
         answers.complaints = answers.complaints.saturating_add(1);
     }
     answers
+}
+
+// Lets the peer's disk end the first write. Returns whether the device has released neither write before that, and both
+// after it, although both have their receipts.
+fn is_released_by_the_peer(mirror: &impl Device, signals: &Signals) -> bool {
+    let is_held = mirror.accepted() == 2 && !mirror.is_released(1);
+    signals.may_end.store(true, Ordering::SeqCst);
+    for _ in 0..LOOKS {
+        if mirror.is_released(2) {
+            return is_held;
+        }
+        thread::yield_now();
+    }
+    false
 }
 
 // Looks until the peer's disk has begun the write of block 0, or gives up.

@@ -74,8 +74,12 @@ impl<R: Wait + Clock, A: PrimaryHalf, B: SecondaryHalf> Device for Mirror<R, A, 
         self.shared.local.is_quiet()
     }
 
-    fn is_acknowledged(&self) -> bool {
-        self.shared.local.is_acknowledged()
+    fn accepted(&self) -> u64 {
+        self.shared.local.accepted()
+    }
+
+    fn is_released(&self, number: u64) -> bool {
+        self.shared.local.is_released(number)
     }
 }
 

@@ -6,7 +6,7 @@ pub returns-clause-one_write : goal.returns-clause-one_write
 returns-clause-one_write c = record { connects = refl; answers = refl; identifiers = refl; primary = refl; secondary = refl }
 
 pub returns-clause-two_in_turn : goal.returns-clause-two_in_turn
-returns-clause-two_in_turn c = record { answers = refl; same = refl; local = refl; ahead = refl }
+returns-clause-two_in_turn c = record { answers = refl; unreleased = refl; next = refl; same = refl; local = refl; ahead = refl }
 
 pub returns-clause-asynchronous : goal.returns-clause-asynchronous
 returns-clause-asynchronous c = record { sent_first = refl; written_first = refl }

@@ -149,7 +149,7 @@ impl Stepped for PrimaryCore {
             Fact::OpenWrites(wanted) => self.open_writes() == wanted,
             Fact::Unanswered(wanted) => self.unanswered_writes() == wanted,
             Fact::OpenEpochs(wanted) => self.open_epochs() == wanted,
-            Fact::Unreleased(wanted) => self.unreleased() == wanted,
+            Fact::FirstUnreleased(wanted) => self.first_unreleased() == wanted,
             Fact::Places(wanted) => self.places() == wanted,
             Fact::Unsent(wanted) => self.unsent() == wanted,
         }

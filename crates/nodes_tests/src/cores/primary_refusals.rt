@@ -171,7 +171,10 @@ static REFUSALS: [Case<Start, Part>; 8] = [
             ..START
         },
         before: &[CONNECTED],
-        parts: &[Part::Rows(&ONE_WRITE), Part::Holds(&[Fact::Unreleased(1)])],
+        parts: &[
+            Part::Rows(&ONE_WRITE),
+            Part::Holds(&[Fact::FirstUnreleased(Some(1))]),
+        ],
     },
     Case {
         name: "a failed write is never completed",

@@ -37,7 +37,7 @@ const BEGUN: [Part; 5] = [
     Part::Holds(&[
         Fact::Resync(true),
         Fact::Tuple(RESYNCING),
-        Fact::Unreleased(0),
+        Fact::FirstUnreleased(None),
     ]),
 ];
 

@@ -42,11 +42,15 @@ const COMPLETED: [Fact; 7] = [
     Fact::Unanswered(0),
     Fact::OpenWrites(0),
     Fact::OpenEpochs(1),
-    Fact::Unreleased(1),
+    Fact::FirstUnreleased(Some(1)),
     Fact::Places(2),
 ];
 
-const ALL_FREED: [Fact; 3] = [Fact::OpenEpochs(0), Fact::Unreleased(0), Fact::Accepted(1)];
+const ALL_FREED: [Fact; 3] = [
+    Fact::OpenEpochs(0),
+    Fact::FirstUnreleased(None),
+    Fact::Accepted(1),
+];
 
 /// Under A a write is completed once the local disk has it and it was sent.
 const SENT_FIRST: [Row; 3] = [
@@ -80,7 +84,7 @@ const COMPLETED_UNANSWERED: [Part; 3] = [
     Part::Holds(&[
         Fact::Unanswered(0),
         Fact::OpenWrites(0),
-        Fact::Unreleased(1),
+        Fact::FirstUnreleased(Some(1)),
     ]),
     Part::Marks(&[]),
 ];
@@ -246,7 +250,7 @@ static WRITES: [Case<Start, Part>; 7] = [
         before: &[CONNECTED],
         parts: &[
             Part::Rows(&EPOCHS),
-            Part::Holds(&[Fact::Unreleased(1), Fact::OpenEpochs(1)]),
+            Part::Holds(&[Fact::FirstUnreleased(Some(3)), Fact::OpenEpochs(1)]),
         ],
     },
     Case {

@@ -97,7 +97,7 @@ pub(crate) enum Fact {
     OpenWrites(u32),
     Unanswered(u32),
     OpenEpochs(u64),
-    Unreleased(u32),
+    FirstUnreleased(Option<u64>),
     Places(u32),
     Unsent(usize),
 }

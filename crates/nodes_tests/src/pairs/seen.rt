@@ -45,6 +45,7 @@ struct PrimarySeen {
     incomplete: u32,
     unanswered: u32,
     open_epochs: u64,
+    first_unreleased: Option<u64>,
     next_local: Option<u64>,
     items_sent: u32,
     /// How many frames went into the link, the hello's among them.
@@ -142,6 +143,7 @@ impl PrimarySeen {
             incomplete: primary.incomplete(),
             unanswered: primary.unanswered(),
             open_epochs: primary.open_epochs(),
+            first_unreleased: primary.first_unreleased(),
             next_local: primary.next_local(),
             items_sent: primary.items_sent(),
             frames_sent: primary.outgoing().map(|end| end.pushed()),

@@ -8,7 +8,7 @@ use Rattle.std.proofs.lemmas.Option.{slice_get_past}
 use Rattle.blocks.specs.Ranges.{below}
 use Rattle.bitmap.specs.Marks as bits
 use Rattle.model.specs.Headline.{is_marked}
-use Rattle.model.specs.Primary.{Accepted, PrimaryHistory, is_waiting, is_failed, is_open, is_released, unreleased, next_local, marked_blocks}
+use Rattle.model.specs.Primary.{Accepted, PrimaryHistory, first_unreleased, is_waiting, is_failed, is_open, is_released, unreleased, next_local, marked_blocks}
 use Rattle.model.specs.Status.{incomplete}
 use Rattle.transferlog.specs.Writes as log
 use Rattle.transferlog.specs.Writes.{LogWrite}
@@ -46,6 +46,27 @@ says-next s h left =
     twice : (v : Option Accepted) → option_map (λ (w : LogWrite). w.number) (option_map (logged_of h) v) ≡ option_map (λ (a : Accepted). a.write.number) v
     twice None = refl
     twice (Some a) = refl
+
+-- The first write that is not released.
+pub says-unreleased : (s : PrimaryState) (h : PrimaryHistory) → Leaves s h → option_map (λ (w : LogWrite). w.number) (slice_get s.log.writes 0) ≡ first_unreleased h
+says-unreleased s h left = ap (λ (l : List LogWrite). option_map (λ (w : LogWrite). w.number) (slice_get l 0)) left.rest.log.writes ∙ first h.writes
+  where
+    kept : List Accepted → List Accepted
+    kept = filter (λ (a : Accepted). not (is_released h a))
+
+    found : List Accepted → Option Accepted
+    found = find (λ (a : Accepted). not (is_released h a))
+
+    Same : List Accepted → Option Accepted → Type 0
+    Same writes v = option_map (λ (w : LogWrite). w.number) (slice_get (map (logged_of h) writes) 0) ≡ option_map (λ (a : Accepted). a.write.number) v
+
+    first : (writes : List Accepted) → Same (kept writes) (found writes)
+    first [] = refl
+    first (a ∷ writes) = go (first writes) (not (is_released h a))
+      where
+        go : Same (kept writes) (found writes) → (b : Bool) → Same (cond b (a ∷ kept writes) (kept writes)) (cond b (Some a) (found writes))
+        go rest true = refl
+        go rest false = rest
 
 -- How many writes are open.
 pub says-incomplete : (s : PrimaryState) (h : PrimaryHistory) → IsReached h → Leaves s h → length (filter log.is_open s.log.writes) ≡ incomplete h
