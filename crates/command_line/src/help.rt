@@ -109,7 +109,9 @@ being W * K:
 An image is a file of N * 4096 bytes, which the run reads at its start, and
 replaces at its end by what the disk holds then. A disk with no image is filled
 with zeros, and is not saved. If the disks differ at the start, the secondary
-counts as fresh, and every block is copied to it.
+counts as fresh, and every block is copied to it. Images are locked meanwhile:
+one that another run or a server uses is refused. A symbolic link stays, and the
+file that it names is replaced.
 
 With --cuts C, a further thread cuts the link and reconnects it, C times, while
 the writers go on: the blocks that they write meanwhile are marked, and copied
@@ -131,8 +133,9 @@ three lines; then no image is changed. R is one of these:
 
 /// The exit statuses of a run.
 const RUN_STATUSES: &str = "
-Exit statuses: 0 done; 1 a file, a socket, the output or memory failed, or an
-image is of another length; 2 wrong usage; 3 a refusal other than 7.
+Exit statuses: 0 done; 1 a file, a socket, the output or memory failed, an image
+is in use or of another length, or the disks of a run differ without a mark;
+2 wrong usage; 3 a refusal other than 7.
 ";
 
 /// What a run over sockets does.
@@ -164,7 +167,8 @@ protocol says:
   C                    once it is in both images
 A flush has the system put both images on stable storage. If the images differ
 at the start, the peer's is made like the local one. Both lie in memory, too:
-the server takes twice the device's size.
+the server takes twice the device's size. Both images are locked meanwhile: one
+that another server or a run uses is refused.
 
   drbdpair serve --local a.img --peer b.img
   nbdcopy disk.img nbd://127.0.0.1

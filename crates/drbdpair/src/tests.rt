@@ -1,9 +1,10 @@
 //! Tests of the program's words.
 use crate::program::run_on;
 use session_run::Host;
-use std::fs::File;
+use std::fs::{File, OpenOptions};
 use std::io::{IsTerminal, Write};
 use std::net::{Net, TcpListener, TcpStream};
+use std::os::unix::fs::symlink;
 use std::process::Abort;
 use std::random::RandomSource;
 use std::rt::Files;
@@ -284,6 +285,90 @@ fn images_are_saved(rt: HostRuntime) {
     }
     assert!(rt; fs::metadata(&rt, "saved_local.local-new").is_err());
     assert!(rt; fs::metadata(&rt, "saved_peer.peer-new").is_err());
+}
+
+/// A run follows a link to an image in another folder: the link stays, its target is replaced, and the folder has no
+/// other file than the images.
+#[test]
+fn a_link_to_an_image_is_followed(rt: HostRuntime) {
+    fs::create_dir(&rt, "linked").expect(&rt, "a folder");
+    put_image(&rt, "linked/local", 0, 32_768);
+    put_image(&rt, "linked/peer", 0, 32_768);
+    symlink(&rt, "linked/local", "link_to_local").expect(&rt, "a link");
+    let words = [
+        "drbdpair",
+        "run",
+        "--writers",
+        "1",
+        "--local",
+        "link_to_local",
+        "--peer",
+        "linked/peer",
+    ];
+    runs(&rt, &words, "completed 10\nsettled 10\nunmarked 0\n", 0);
+    let link = fs::symlink_metadata(&rt, "link_to_local").expect(&rt, "a link");
+    assert!(rt; link.is_symlink());
+    for name in ["linked/local", "linked/peer"] {
+        is_written(&rt, &take_image(&rt, name));
+    }
+    fs::remove_file(&rt, "link_to_local").expect(&rt, "a link");
+    // Only an empty folder is removed.
+    fs::remove_dir(&rt, "linked").expect(&rt, "an empty folder");
+}
+
+/// An image that is locked, or is the local one under another path, is refused by each command, and both images stay as
+/// they were. Once it is free again it is used.
+#[test]
+fn an_image_in_use_is_refused(rt: HostRuntime) {
+    put_image(&rt, "free_image", 0, 32_768);
+    put_image(&rt, "used_image", 0, 32_768);
+    symlink(&rt, "free_image", "free_link").expect(&rt, "a link");
+    let other = OpenOptions::new().write(true).open(&rt, "used_image");
+    let other = other.expect(&rt, "an image");
+    assert!(rt; other.try_lock().is_ok());
+    for (command, local, peer, line) in [
+        (
+            "run",
+            "used_image",
+            "free_image",
+            "used_image: the image is in use, by another process or under another path\n",
+        ),
+        (
+            "tcp",
+            "free_image",
+            "used_image",
+            "used_image: the image is in use, by another process or under another path\n",
+        ),
+        (
+            "run",
+            "free_image",
+            "./free_image",
+            "./free_image: the image is in use, by another process or under another path\n",
+        ),
+        (
+            "serve",
+            "used_image",
+            "free_image",
+            "used_image: the image is in use, by another process or under another path\n",
+        ),
+        (
+            "serve",
+            "free_image",
+            "free_link",
+            "free_link: the image is in use, by another process or under another path\n",
+        ),
+    ] {
+        let words = ["drbdpair", command, "--local", local, "--peer", peer];
+        let outcome = outcome_of(&rt, &words, "");
+        assert_eq!(rt; (outcome.status, outcome.written.is_empty()), (1, true));
+        assert_eq!(rt; outcome.said.bytes.as_slice(), line.as_bytes());
+    }
+    drop(other);
+    let words = ["drbdpair", "run", "--writers", "1", "--local", "used_image"];
+    runs(&rt, &words, "completed 10\nsettled 10\nunmarked 0\n", 0);
+    is_written(&rt, &take_image(&rt, "used_image"));
+    is_left(&rt, "free_image", 0, 32_768);
+    fs::remove_file(&rt, "free_link").expect(&rt, "a link");
 }
 
 /// Checks that an image holds what one writer wrote.

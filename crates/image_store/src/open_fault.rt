@@ -2,15 +2,18 @@
 use std::io;
 use thiserror::Error;
 
-/// Why an image file did not become a disk.
+/// Why an image file did not become a disk, or was not locked.
 #[derive(Debug, Drop, Error)]
 pub enum OpenFault {
     /// The file has `found` bytes, and the requested device has `wanted`.
     #[error("the image has {found} bytes, and an image of this device has {wanted}")]
     WrongLength { found: u64, wanted: u64 },
-    /// The file cannot be opened for reading and writing, is not read to its end, or gives no second handle.
+    /// The file cannot be opened for reading and writing, locked, or read to its end, or gives no second handle.
     #[error("the image could not be opened and read: {0}")]
     Unread(io::Error),
+    /// A lock on the image is kept.
+    #[error("the image is in use, by another process or under another path")]
+    InUse,
     /// There is no memory for the device's bytes.
     #[error("out of memory")]
     NoMemory,

@@ -6,7 +6,7 @@ use crate::rest::{Disks, Tally};
 use crate::sessions::run_sessions;
 use blocks::{BLOCK_BYTES, MAX_BLOCKS, Refusal};
 use client_threads::{Doors, Service, start_threads};
-use image_store::{ImageStore, OpenFault, SyncHandle};
+use image_store::{ImageLock, ImageStore, OpenFault, SyncHandle};
 use numbers::SessionStatus;
 use options::ServeOptions;
 use requests::Requests;
@@ -24,9 +24,9 @@ use volume::{Host, Runtime};
 type Opened = (ImageStore<File>, SyncHandle<File>);
 
 /// Serves both images to block clients until `input` has a line `quit`, and prints `completed X`, `settled X` and
-/// `unmarked 0`, X being the number of ranges that clients wrote. Returns how it ended: `Done` if all is done; `Failed`
-/// if a file, an address, the output, memory or a thread failed; `Refused` for any other refusal. For the last two a
-/// line on `err` says why. The end of `input` is no order to end.
+/// `unmarked 0`, X being the number of ranges that clients wrote. Locks both images meanwhile. Returns how it ended:
+/// `Done` if all is done; `Failed` if a file, an address, the output, memory or a thread failed, or an image is in use;
+/// `Refused` for any other refusal. For the last two a line on `err` says why. The end of `input` is no order to end.
 pub fn serve<
     H: Host + Files<File = File> + Net<Listener = TcpListener, Stream = TcpStream> + RandomSource,
     I: Read + Drop + Send + 'static,
@@ -46,8 +46,21 @@ pub fn serve<
     }
 }
 
-// Serves both images. Returns the results of the sessions.
+// Serves both images under their locks. Returns the results of the sessions.
 fn serve_images<
+    'a,
+    H: Host + Files<File = File> + Net<Listener = TcpListener, Stream = TcpStream> + RandomSource,
+    I: Read + Drop + Send + 'static,
+    E: Write,
+>(rt: &H, options: &ServeOptions<'a>, input: I, err: &mut E) -> Result<Tally, Fault<'a>> {
+    let locks = lock_both(rt, options)?;
+    let served = serve_locked(rt, options, input, err);
+    drop(locks);
+    served
+}
+
+// Serves both images. Returns the results of the sessions.
+fn serve_locked<
     'a,
     H: Host + Files<File = File> + Net<Listener = TcpListener, Stream = TcpStream> + RandomSource,
     I: Read + Drop + Send + 'static,
@@ -129,6 +142,28 @@ fn blocks_of<'a, H: Files>(rt: &H, options: &ServeOptions<'a>) -> Result<u32, Fa
         return Err(Fault::Refused(Refusal::BadSetting));
     }
     Ok(blocks as u32)
+}
+
+// Locks both images, the local one first.
+fn lock_both<'a, H: Files<File = File>>(
+    rt: &H,
+    options: &ServeOptions<'a>,
+) -> Result<(ImageLock, ImageLock), Fault<'a>> {
+    match lock(rt, options.local) {
+        Ok(local) => match lock(rt, options.peer) {
+            Ok(peer) => Ok((local, peer)),
+            Err(fault) => Err(fault),
+        },
+        Err(fault) => Err(fault),
+    }
+}
+
+// Locks an image.
+fn lock<'a, H: Files<File = File>>(rt: &H, file: &'a str) -> Result<ImageLock, Fault<'a>> {
+    match ImageLock::take(rt, file) {
+        Ok(lock) => Ok(lock),
+        Err(fault) => Err(Fault::Unopened(file, fault)),
+    }
 }
 
 // Opens both images as disks of `blocks` blocks, the local one first.

@@ -1,10 +1,10 @@
-//! Tests of a disk over an image file, by whole calls over files of their own. No contract says what a file holds.
+//! Tests of a disk over an image file, and of its lock, by whole calls over files of their own. No contract says what a file holds.
 use blocks::{BLOCK_BYTES, Block, MemStore, Range, Refusal, Store, StoreFault};
-use image_store::{ImageStore, OpenFault};
+use image_store::{ImageLock, ImageStore, OpenFault};
 use std::alloc::{AllocError, Global};
 use std::cell::Cell;
 use std::fs::{File, Files, OpenFile};
-use std::os::unix::fs::FileExt;
+use std::os::unix::fs::{FileExt, symlink};
 use std::process::Abort;
 use std::sync::Arc;
 use std::{fs, io, thread};
@@ -135,6 +135,38 @@ fn a_missing_file_is_unread(rt: HostRuntime) {
         matches!(&fault, Some(OpenFault::Unread(error)) if error.kind() == io::ErrorKind::NotFound)
     );
     assert!(rt; fs::metadata(&rt, "no_image").is_err());
+}
+
+// Returns why the image at this path is not locked.
+fn lock_fault(rt: &impl Files<File = File>, path: &str) -> Option<OpenFault> {
+    match ImageLock::take(rt, path) {
+        Ok(_) => None,
+        Err(fault) => Some(fault),
+    }
+}
+
+// An image has one lock, whatever path names it, and is free again once that is dropped. The locked image still opens
+// as a disk. A file that does not exist is not created.
+#[test]
+fn an_image_is_locked_once(rt: HostRuntime) {
+    make_image(&rt, "locked", 1, 4096);
+    symlink(&rt, "locked", "locked_link").expect(&rt, "a link");
+    let lock = ImageLock::take(&rt, "locked").expect(&rt, "a lock");
+    for path in ["locked", "./locked", "locked_link"] {
+        assert!(rt;
+            matches!(&lock_fault(&rt, path), Some(OpenFault::InUse)),
+            "{path}"
+        );
+    }
+    assert!(rt; ImageStore::open(&rt, "locked", 1).is_ok());
+    drop(lock);
+    assert!(rt; lock_fault(&rt, "locked_link").is_none());
+    assert!(rt;
+        matches!(&lock_fault(&rt, "no_image"), Some(OpenFault::Unread(error)) if error.kind() == io::ErrorKind::NotFound)
+    );
+    assert!(rt; fs::metadata(&rt, "no_image").is_err());
+    fs::remove_file(&rt, "locked_link").expect(&rt, "a link");
+    fs::remove_file(&rt, "locked").expect(&rt, "a file");
 }
 
 // Makes a file of 16 MiB of zeros.

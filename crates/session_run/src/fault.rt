@@ -1,5 +1,6 @@
 //! Failures of a run.
 use blocks::Refusal;
+use image_store::OpenFault;
 use numbers::SessionStatus;
 use std::alloc::AllocError;
 use std::{fmt, io};
@@ -7,6 +8,8 @@ use std::{fmt, io};
 /// Why a run failed, with the file that it is about.
 #[derive(Drop)]
 pub(crate) enum Fault<'a> {
+    /// The image could not be locked.
+    Unlocked(&'a str, OpenFault),
     /// The image could not be read.
     Unread(&'a str, io::Error),
     /// The image has the first number of bytes instead of the second, which its blocks have.
@@ -17,11 +20,14 @@ pub(crate) enum Fault<'a> {
     Lost,
     /// The start, a write or the settlement was refused, or there was no memory (7).
     Refused(Refusal),
+    /// The disks differ on this many blocks without a mark.
+    Unmarked(u32),
     /// The image could not be saved; the file is as it was.
     Unsaved(&'a str, io::Error),
-    /// The peer's image could not be replaced, though the local one was; its new contents are in the file beside it
-    /// whose name has this ending.
-    Unreplaced(&'a str, &'static str, io::Error),
+    /// The peer's image could not be replaced, though the local one was; its new contents are in this file beside it.
+    Unreplaced(&'a str, String, io::Error),
+    /// The image was replaced, and its folder could not be put on stable storage.
+    Unsynced(&'a str, io::Error),
     /// The output could not be written.
     Unwritten(io::Error),
 }
@@ -39,6 +45,7 @@ impl Fault<'_> {
 impl fmt::Display for Fault<'_> {
     fn fmt<W: fmt::Write>(&self, f: &mut fmt::Formatter<W>) -> fmt::Result {
         match self {
+            Fault::Unlocked(file, fault) => write!(f, "{file}: {fault}"),
             Fault::Unread(file, error) => write!(f, "{file} could not be read: {error}"),
             Fault::WrongLength(file, found, wanted) => {
                 write!(
@@ -49,11 +56,23 @@ impl fmt::Display for Fault<'_> {
             Fault::Unconnected(error) => write!(f, "the sockets could not be connected: {error}"),
             Fault::Lost => write!(f, "a socket failed, and the link was lost"),
             Fault::Refused(refusal) => write!(f, "refused {}", refusal.number()),
-            Fault::Unsaved(file, error) => write!(f, "{file} could not be saved: {error}"),
-            Fault::Unreplaced(file, ending, error) => {
+            Fault::Unmarked(count) => {
                 write!(
                     f,
-                    "{file} could not be replaced: {error}; its new contents are in {file}.{ending}"
+                    "{count} blocks differ without a mark; no image was changed"
+                )
+            }
+            Fault::Unsaved(file, error) => write!(f, "{file} could not be saved: {error}"),
+            Fault::Unreplaced(file, beside, error) => {
+                write!(
+                    f,
+                    "{file} could not be replaced: {error}; its new contents are in {beside}"
+                )
+            }
+            Fault::Unsynced(file, error) => {
+                write!(
+                    f,
+                    "{file} was replaced, and may not be on stable storage yet: {error}"
                 )
             }
             Fault::Unwritten(error) => write!(f, "the output could not be written: {error}"),

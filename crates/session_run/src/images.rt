@@ -2,16 +2,17 @@
 ghost use Rattle.std.specs.Prelude.{◌≡◌, ◌*◌, ◌<◌, ◌≤◌, vec_len, IfOk};
 
 use crate::fault::Fault;
+use crate::locked_image::LockedImage;
 use blocks::BLOCK_BYTES;
 use std::fs::OpenFile;
 use std::io::Read;
 use std::rt::Files;
 use std::{fs, io};
 
-/// Returns the bytes of a disk of `blocks` blocks: its file's, or zeros if it has no file.
+/// Returns the bytes of a disk of `blocks` blocks: its image's, or zeros if it has no image.
 pub(crate) fn load<'a, H: Files + AllocGlobal>(
     rt: &H,
-    file: Option<&'a str>,
+    image: &Option<LockedImage<'a>>,
     blocks: u32,
 ) -> Result<Vec<u8>, Fault<'a>>
     requires { blocks ≤ 262144 }
@@ -19,13 +20,13 @@ pub(crate) fn load<'a, H: Files + AllocGlobal>(
 {
     let wanted = blocks as usize * BLOCK_BYTES;
     let mut bytes = Vec::from_elem(rt.alloc(), 0u8, wanted)?;
-    let Some(file) = file else {
+    let Some(image) = image else {
         return Ok(bytes);
     };
-    match fill(rt, file, &mut bytes) {
+    match fill(rt, image.real.as_str(), &mut bytes) {
         Ok(found) if found == wanted as u64 => Ok(bytes),
-        Ok(found) => Err(Fault::WrongLength(file, found, wanted as u64)),
-        Err(error) => Err(Fault::Unread(file, error)),
+        Ok(found) => Err(Fault::WrongLength(image.named, found, wanted as u64)),
+        Err(error) => Err(Fault::Unread(image.named, error)),
     }
 }
 

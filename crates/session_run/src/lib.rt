@@ -4,7 +4,9 @@
 
 mod fault;
 mod images;
+mod locked_image;
 mod parts;
+mod place;
 mod report;
 mod saving;
 mod session;

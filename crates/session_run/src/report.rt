@@ -1,6 +1,7 @@
 //! The outcome of a session.
-ghost use Rattle.std.specs.Prelude.{◌≡◌, ◌*◌, length, vec_len, IfOk};
+ghost use Rattle.std.specs.Prelude.{◌≡◌, ◌*◌, ◌↔◌, length, vec_len, IfOk, IsOk};
 
+use crate::fault::Fault;
 use blocks::{MemStore, Refusal};
 use link::{FrameIn, FrameOut};
 use node_lines::{primary_line, secondary_line};
@@ -23,6 +24,18 @@ pub(crate) struct Report {
     pub(crate) status: Option<(String, String)>,
     pub(crate) local: MemStore,
     pub(crate) peer: MemStore,
+}
+
+impl Report {
+    /// Returns `Unmarked` if the disks differ on a block without a mark.
+    pub(crate) fn check_marks<'a>(&self) -> Result<(), Fault<'a>>
+        ensures { IsOk result ↔ (self.now.unmarked ≡ 0) }
+    {
+        if self.unmarked > 0 {
+            return Err(Fault::Unmarked(self.unmarked));
+        }
+        Ok(())
+    }
 }
 
 /// Returns the outcome of a session whose writers have the receipts `worked`, and whose nodes at rest are `ended`. If a

@@ -1,36 +1,24 @@
 //! Saving both disks.
 use crate::fault::Fault;
-use blocks::{BLOCK_BYTES, Block, MemStore, Store};
-use options::Images;
-use std::alloc::{AllocError, Global};
-use std::fs::OpenFile;
-use std::io::{BufWriter, ErrorKind, Write};
+use crate::locked_image::LockedImage;
+use crate::place::Place;
+use blocks::MemStore;
 use std::rt::Files;
-use std::{fs, io};
 
-/// How the name of the file ends that the peer's disk is written to.
-const PEER_ENDING: &str = "peer-new";
-
-/// Where a disk is saved, if it has an image: first in a file beside the image, which then takes the image's place.
-#[derive(Drop)]
-struct Place<'a> {
-    image: Option<&'a str>,
-    beside: String,
-}
-
-/// Saves the disks that have images. Both are written beside their images before either takes its place, so a failed
-/// write changes no image; the written files are then removed. If the peer's image cannot be replaced once the local one
-/// is, its new contents stay beside it.
+/// Saves the disks that have images, the local one first in `images`. Both are written beside their images before either
+/// takes its place, so a failed write changes no image; the written files are then removed. If the peer's image cannot
+/// be replaced once the local one is, its new contents stay beside it. Once both are replaced, their folders are put on
+/// stable storage. Frees the images at its end.
 pub(crate) fn save<'a, H: Files + AllocGlobal>(
     rt: &H,
-    images: &Images<'a>,
+    images: (Option<LockedImage<'a>>, Option<LockedImage<'a>>),
     local: &mut MemStore,
     peer: &mut MemStore,
 ) -> Result<(), Fault<'a>> {
-    let local_place = Place::of(rt.alloc(), images.local, "local-new")?;
-    let peer_place = Place::of(rt.alloc(), images.peer, PEER_ENDING)?;
+    let local_place = Place::of(rt.alloc(), images.0, "local-new")?;
+    let peer_place = Place::of(rt.alloc(), images.1, "peer-new")?;
     write_both(rt, &local_place, local, &peer_place, peer)?;
-    replace_both(rt, &local_place, &peer_place)
+    replace_both(rt, &local_place, peer_place)
 }
 
 // Writes both disks beside their images. If that fails, removes what was written.
@@ -54,11 +42,12 @@ fn write_both<'a, H: Files + AllocGlobal>(
     written
 }
 
-// Moves both written files to the places of their images. If the first cannot be moved, removes both.
+// Moves both written files to the places of their images, and then puts the folders on stable storage. If the first
+// cannot be moved, removes both.
 fn replace_both<'a, H: Files>(
     rt: &H,
     local_place: &Place<'a>,
-    peer_place: &Place<'a>,
+    peer_place: Place<'a>,
 ) -> Result<(), Fault<'a>> {
     let replaced = local_place.take(rt);
     if replaced.is_err() {
@@ -67,77 +56,32 @@ fn replace_both<'a, H: Files>(
         return replaced;
     }
     match peer_place.take(rt) {
+        Ok(()) => sync_folders(rt, local_place, &peer_place),
         // The local image is replaced, so what its mirror had is not to be lost.
-        Err(Fault::Unsaved(image, error)) if local_place.image.is_some() => {
-            Err(Fault::Unreplaced(image, PEER_ENDING, error))
+        Err(Fault::Unsaved(image, error)) if local_place.has_image() => {
+            let _ = sync_folders(rt, local_place, &peer_place);
+            Err(Fault::Unreplaced(image, peer_place.into_beside(), error))
         }
-        replaced => {
-            if replaced.is_err() {
-                peer_place.clear(rt);
-            }
-            replaced
-        }
-    }
-}
-
-impl<'a> Place<'a> {
-    /// Returns the place of an image, if there is one.
-    fn of(alloc: Global, image: Option<&'a str>, ending: &str) -> Result<Place<'a>, AllocError> {
-        let beside = match image {
-            Some(image) => format!(in alloc; "{image}.{ending}")?,
-            None => String::new(alloc),
-        };
-        Ok(Place { image, beside })
-    }
-
-    /// Writes the disk to the file beside its image, down to the medium, with the image's permissions.
-    fn write<H: Files + AllocGlobal>(&self, rt: &H, disk: &mut MemStore) -> Result<(), Fault<'a>> {
-        let Some(image) = self.image else {
-            return Ok(());
-        };
-        match write_disk(rt, image, self.beside.as_str(), disk) {
-            Ok(()) => Ok(()),
-            Err(error) => Err(Fault::Unsaved(image, error)),
-        }
-    }
-
-    /// Moves the written file to the place of the image.
-    fn take<H: Files>(&self, rt: &H) -> Result<(), Fault<'a>> {
-        let Some(image) = self.image else {
-            return Ok(());
-        };
-        match fs::rename(rt, self.beside.as_str(), image) {
-            Ok(()) => Ok(()),
-            Err(error) => Err(Fault::Unsaved(image, error)),
-        }
-    }
-
-    /// Removes the written file.
-    fn clear<H: Files>(&self, rt: &H) {
-        if self.image.is_some() {
-            let _ = fs::remove_file(rt, self.beside.as_str());
+        Err(fault) => {
+            peer_place.clear(rt);
+            Err(fault)
         }
     }
 }
 
-fn write_disk<H: Files + AllocGlobal>(
+// Puts the folders of both images on stable storage, one folder once. Returns the first failure.
+fn sync_folders<'a, H: Files>(
     rt: &H,
-    image: &str,
-    beside: &str,
-    disk: &mut MemStore,
-) -> io::Result<()> {
-    let permissions = fs::metadata(rt, image)?.permissions();
-    let mut file = fs::create(rt, beside)?;
-    file.set_permissions(permissions)?;
-    let mut writer = BufWriter::new(rt.alloc(), &mut file)?;
-    let mut block = [0u8; BLOCK_BYTES];
-    for number in 0..disk.blocks() {
-        if disk.read(Block(u64::from(number)), &mut block).is_err() {
-            return Err(io::Error::from(ErrorKind::Other));
-        }
-        writer.write_all(&block)?;
+    local_place: &Place<'a>,
+    peer_place: &Place<'a>,
+) -> Result<(), Fault<'a>> {
+    let local_synced = local_place.sync_folder(rt);
+    if local_place.folder() == peer_place.folder() {
+        return local_synced;
     }
-    writer.flush()?;
-    drop(writer);
-    file.sync_all()
+    let peer_synced = peer_place.sync_folder(rt);
+    if local_synced.is_err() {
+        return local_synced;
+    }
+    peer_synced
 }

@@ -1,6 +1,7 @@
 //! A run, from its images to the lines that it prints.
 use crate::fault::Fault;
 use crate::images::load;
+use crate::locked_image::LockedImage;
 use crate::report::Report;
 use crate::saving::save;
 use crate::session::run_session;
@@ -9,6 +10,7 @@ use blocks::Refusal;
 use numbers::SessionStatus;
 use options::{Images, Path, RunOptions};
 use run_threads::tell_status;
+use std::fs::File;
 use std::io::Write;
 use std::net::{Net, TcpListener, TcpStream};
 use std::rt::Files;
@@ -16,14 +18,16 @@ use volume::Host;
 use wire_session::loopback;
 
 /// Runs a session with these options over these images, saves both disks, and prints `completed X`, `settled X` and
-/// `unmarked 0`, X being the number of writes. Returns how it ended: `Done` if all is done; `Failed` if a file, the
-/// output or memory failed, or an image does not have as many bytes as its blocks; `Refused` for any other refusal.
+/// `unmarked 0`, X being the number of writes. Locks the images meanwhile. Returns how it ended: `Done` if all is done;
+/// `Failed` if a file, the output or memory failed, an image is in use or does not have as many bytes as its blocks, or
+/// the disks differ on a block without a mark; `Refused` for any other refusal.
 ///
 /// Faults are found in this order: options out of their ranges (15), the local image, the peer's, the sockets, the
-/// start, the writes, saving. Then a line on `err` reports the first, which for a refusal R is `refused R`; nothing is
-/// printed, and if the fault came before saving, no image is changed. What the options ask for goes to `err` too.
+/// start, the writes, blocks without a mark, saving. Then a line on `err` reports the first, which for a refusal R is
+/// `refused R`; nothing is printed, and if the fault came before saving, no image is changed. What the options ask for
+/// goes to `err` too.
 pub fn run<
-    H: Host + Files + Net<Listener = TcpListener, Stream = TcpStream>,
+    H: Host + Files<File = File> + Net<Listener = TcpListener, Stream = TcpStream>,
     W: Write,
     E: Write + Send,
 >(rt: &H, options: &RunOptions, images: &Images<'_>, out: &mut W, err: &mut E) -> SessionStatus {
@@ -38,7 +42,7 @@ pub fn run<
 
 fn run_images<
     'a,
-    H: Host + Files + Net<Listener = TcpListener, Stream = TcpStream>,
+    H: Host + Files<File = File> + Net<Listener = TcpListener, Stream = TcpStream>,
     W: Write,
     E: Write + Send,
 >(
@@ -49,13 +53,21 @@ fn run_images<
     err: &mut E,
 ) -> Result<(), Fault<'a>> {
     options.settings().check()?;
-    let local = load(rt, images.local, options.blocks)?;
-    let peer = load(rt, images.peer, options.blocks)?;
+    let local_image = LockedImage::take(rt, images.local)?;
+    let local = load(rt, &local_image, options.blocks)?;
+    let peer_image = LockedImage::take(rt, images.peer)?;
+    let peer = load(rt, &peer_image, options.blocks)?;
     let mut report = run_disks(rt, options, (local, peer), err)?;
     if let Some(lines) = &report.status {
         let _ = tell_status(lines, err);
     }
-    save(rt, images, &mut report.local, &mut report.peer)?;
+    report.check_marks()?;
+    save(
+        rt,
+        (local_image, peer_image),
+        &mut report.local,
+        &mut report.peer,
+    )?;
     match print(&report, out) {
         Ok(()) => Ok(()),
         Err(error) => Err(Fault::Unwritten(error)),

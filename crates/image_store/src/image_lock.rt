@@ -1,0 +1,46 @@
+//! The lock on an image.
+use crate::OpenFault;
+use std::fs::{File, OpenOptions, TryLockError};
+use std::os::unix::fs::MetadataExt;
+use std::rt::Files;
+use std::{fs, io};
+
+/// An image that no other process of this program uses while the lock is kept. The lock is advisory: it keeps out those
+/// who take it, and nobody else. Dropping it frees the image.
+#[derive(Drop)]
+pub struct ImageLock {
+    file: File,
+}
+
+impl ImageLock {
+    /// Opens the image at `path` for reading and writing, and locks it. Follows links, so two paths of one file have one
+    /// lock. Does not wait, creates no file, and changes none.
+    ///
+    /// `InUse` comes if a lock on the image is kept, by another process or by this one, or if another file has taken its
+    /// place meanwhile; `Unread` if the system refuses to open, lock or find it.
+    pub fn take<H: Files<File = File>>(rt: &H, path: &str) -> Result<ImageLock, OpenFault> {
+        let file = OpenOptions::new()
+            .read(true)
+            .write(true)
+            .open(rt, path)
+            .map_err(OpenFault::Unread)?;
+        match file.try_lock() {
+            Ok(()) => {}
+            Err(TryLockError::WouldBlock) => return Err(OpenFault::InUse),
+            Err(TryLockError::Error(error)) => return Err(OpenFault::Unread(error)),
+        }
+        match is_at(rt, path, &file) {
+            Ok(true) => Ok(ImageLock { file }),
+            Ok(false) => Err(OpenFault::InUse),
+            Err(error) => Err(OpenFault::Unread(error)),
+        }
+    }
+}
+
+// Returns whether the path names this file. A run replaces its image before it frees the lock, so a lock taken then may
+// be one on the old file, which keeps nobody out.
+fn is_at<H: Files<File = File>>(rt: &H, path: &str, file: &File) -> io::Result<bool> {
+    let locked = file.metadata()?;
+    let named = fs::metadata(rt, path)?;
+    Ok((locked.dev(), locked.ino()) == (named.dev(), named.ino()))
+}
