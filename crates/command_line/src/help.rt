@@ -134,8 +134,8 @@ three lines; then no image is changed. R is one of these:
 /// The exit statuses of a run.
 const RUN_STATUSES: &str = "
 Exit statuses: 0 done; 1 a file, a socket, the output or memory failed, an image
-is in use or of another length, or the disks of a run differ without a mark;
-2 wrong usage; 3 a refusal other than 7.
+is in use or of another length, or the disks differ without a mark; 2 wrong
+usage; 3 a refusal other than 7.
 ";
 
 /// What a run over sockets does.

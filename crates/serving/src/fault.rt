@@ -16,6 +16,8 @@ pub(crate) enum Fault<'a> {
     Refused(Refusal),
     /// Its threads could not be started.
     Unstarted(Unstarted),
+    /// The disks differ on this many blocks without a mark.
+    Unmarked(u32),
     /// The output could not be written.
     Unwritten(io::Error),
 }
@@ -37,6 +39,7 @@ impl fmt::Display for Fault<'_> {
             Fault::Unbound(unbound) => write!(f, "{unbound}"),
             Fault::Refused(refusal) => write!(f, "refused {}", refusal.number()),
             Fault::Unstarted(unstarted) => write!(f, "{unstarted}"),
+            Fault::Unmarked(count) => write!(f, "{count} blocks differ without a mark"),
             Fault::Unwritten(error) => write!(f, "the output could not be written: {error}"),
         }
     }
