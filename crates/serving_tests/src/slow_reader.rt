@@ -77,7 +77,8 @@ fn take_all(rt: &impl Abort, stream: &mut TcpStream) {
         stream.read_exact(&mut header).expect(rt, "a header");
         let cookie = header[15];
         assert_eq!(rt; header, told(0, cookie), "a header");
-        seen[usize::from(cookie)] += 1;
+        let place = usize::from(cookie);
+        seen[place] = seen[place].saturating_add(1);
         for number in 0..BLOCKS {
             stream.read_exact(&mut block).expect(rt, "a block");
             let wanted = if number == 1 { AB_BLOCK } else { ZERO_BLOCK };
