@@ -1,5 +1,6 @@
 //! Requests done together.
 use crate::client::Client;
+use crate::places::places_of;
 use crate::request::Job;
 use crate::service::Service;
 use halves::Device;
@@ -35,7 +36,7 @@ pub(crate) fn answer<R: Wait + Clock>(
     let mut answered = Vec::new(service.alloc);
     let first = begin(service, device, job);
     if begun.try_reserve(TOGETHER).is_err() || answered.try_reserve(TOGETHER).is_err() {
-        release(rt, &end(rt, service, device, first, receipts));
+        end(rt, service, device, first, receipts).send_held(rt);
         return;
     }
     // There is room for all that is pushed here.
@@ -52,11 +53,11 @@ pub(crate) fn answer<R: Wait + Clock>(
     }
     for pending in begun {
         if pending.syncs {
-            release_all(rt, &mut answered);
+            send_all(rt, &mut answered);
         }
         let _ = answered.push(end(rt, service, device, pending, receipts));
     }
-    release_all(rt, &mut answered);
+    send_all(rt, &mut answered);
 }
 
 // Begins a request.
@@ -84,25 +85,23 @@ fn end<R: Wait + Clock>(
         ..
     } = pending;
     let (request, done) = service.requests.end(rt, device, under_way, receipts);
+    let places = places_of(&request);
     match done {
-        Ok(data) => client.reply(rt, &request.reply(None), data.as_slice()),
-        Err(errno) => client.reply(rt, &request.reply(Some(errno)), &[]),
+        Ok(data) => client.reply(rt, &request.reply(None), data, places),
+        Err(errno) => {
+            let header = request.reply(Some(errno));
+            client.reply(rt, &header, Vec::new(service.alloc), places);
+        }
     }
     client
 }
 
-// Sends the replies that these clients wait for, and frees the places of their requests.
-fn release_all<R: Wait>(rt: &R, answered: &mut Vec<Arc<Client, Global>>) {
+// Sends the replies that these clients wait for.
+fn send_all<R: Wait + Clock>(rt: &R, answered: &mut Vec<Arc<Client, Global>>) {
     for _ in 0..answered.len() {
         let Some(client) = answered.pop() else {
             break;
         };
-        release(rt, &client);
+        client.send_held(rt);
     }
-}
-
-// Sends the replies that a client waits for, and frees the place of a request.
-fn release<R: Wait>(rt: &R, client: &Client) {
-    client.send_held(rt);
-    client.places.free(rt);
 }

@@ -1,102 +1,168 @@
 //! A client's connection, shared by the threads that answer its requests.
 ghost use Rattle.std.specs.Io.{ReadsAtMost};
 
+use crate::outbox::Outbox;
 use crate::places::Places;
-use blocks::Refusal;
+use crate::timed_writer::Outcome;
 use nbd::Reply;
 use std::alloc::Global;
-use std::io;
-use std::io::{Read, Write};
+use std::io::Read;
 use std::net::{Shutdown, TcpStream};
+use std::sync::atomic::{AtomicBool, Ordering};
 use std::sync::{Mutex, Wait};
-use std::time::Duration;
+use std::time::{Clock, Duration};
+use std::{io, mem};
 
-/// How long a client may leave a reply unread, in seconds. Then its connection is closed.
-const PATIENCE_S: u64 = 10;
+/// How long a client has for each MiB of replies that it begins, in milliseconds. If it is slower, its connection is
+/// closed.
+const PATIENCE_MS: u16 = 10_000;
+
+/// How long it has while a thread writes to it that also answers others. If it is slower, its own thread goes on.
+const SHORT_PATIENCE_MS: u16 = 20;
 
 /// How long a read waits before its thread looks whether the server ends, in milliseconds.
 const LOOK_MS: u64 = 250;
 
-/// The most bytes of replies that are held before they are sent.
-const MOST_HELD: usize = 64 * 1024;
-
-/// A client's connection.
+/// A client's connection. Threads that answer requests write to it only while it takes bytes at once, so that no client
+/// waits for another one. If it does not, the client's own thread writes, and the others leave their replies to it.
 #[derive(Drop)]
 pub(crate) struct Client {
     stream: TcpStream,
-    // Replies that are sent together. Only the thread that has the lock writes, so a reply is written whole.
-    held: Mutex<Vec<u8>>,
-    pub(crate) places: Places,
+    // Whole replies, and at the front what is left of one that was written in part.
+    outbox: Mutex<Outbox>,
+    // Whether only the client's own thread writes. It changes under the lock of `outbox`.
+    is_late: AtomicBool,
+    // Whether the connection failed. Then nothing more is written.
+    is_closed: AtomicBool,
+    places: Places,
+    alloc: Global,
 }
 
 impl Client {
-    /// Creates the client at the other end of a socket. `NoMemory` (7) if there is no memory.
-    pub(crate) fn new(alloc: Global, stream: TcpStream) -> Result<Client, Refusal> {
-        let places = Places::new(alloc)?;
-        Ok(Client {
+    /// Creates the client at the other end of a socket.
+    pub(crate) fn new(alloc: Global, stream: TcpStream) -> Client {
+        Client {
             stream,
-            held: Mutex::new(Vec::new(alloc)),
-            places,
-        })
+            outbox: Mutex::new(Outbox::new(alloc)),
+            is_late: AtomicBool::new(false),
+            is_closed: AtomicBool::new(false),
+            places: Places::new(),
+            alloc,
+        }
     }
 
-    /// Makes the socket send without delay, and limits how long a read and a write wait.
+    /// Makes the socket send without delay, and limits how long a read waits.
     pub(crate) fn prepare(&self) -> io::Result<()> {
         self.stream.set_nodelay(true)?;
         self.stream
-            .set_read_timeout(Some(Duration::from_millis(LOOK_MS)))?;
-        self.stream
-            .set_write_timeout(Some(Duration::from_secs(PATIENCE_S)))
+            .set_read_timeout(Some(Duration::from_millis(LOOK_MS)))
     }
 
-    /// Writes bytes to the client, after the replies that are held. If that fails, closes its connection.
-    pub(crate) fn send<R: Wait>(&self, rt: &R, bytes: &[u8]) {
-        let mut held = self.held.lock(rt);
-        self.write_held(&mut held);
-        self.write(bytes);
-    }
-
-    /// Holds a reply, and the data that follow it, until the next `send_held`. What is too long to hold is written at
-    /// once, after the held replies.
-    pub(crate) fn reply<R: Wait>(&self, rt: &R, header: &Reply, data: &[u8]) {
-        let header = header.encode();
-        let mut held = self.held.lock(rt);
-        if held.len() > MOST_HELD
-            || data.len() > MOST_HELD
-            || held
-                .try_reserve(header.as_slice().len() + data.len())
-                .is_err()
+    /// Holds a reply to a request that has so many places, and the data that follow it, until the next `send_held`. If
+    /// much is held, sends it at once. If there is no memory to hold it, closes the connection.
+    pub(crate) fn reply<R: Wait + Clock>(
+        &self,
+        rt: &R,
+        header: &Reply,
+        data: Vec<u8>,
+        places: u32,
+    ) {
+        let mut outbox = self.outbox.lock(rt);
+        if outbox
+            .put(header.encode().as_slice(), data, places)
+            .is_err()
         {
-            self.write_held(&mut held);
-            self.write(header.as_slice());
-            self.write(data);
-            return;
-        }
-        // There is room for both.
-        let _ = held.extend_from_slice(header.as_slice());
-        let _ = held.extend_from_slice(data);
-    }
-
-    /// Writes the replies that are held.
-    pub(crate) fn send_held<R: Wait>(&self, rt: &R) {
-        let mut held = self.held.lock(rt);
-        self.write_held(&mut held);
-    }
-
-    // Writes the replies that are held, and then holds none.
-    fn write_held(&self, held: &mut Vec<u8>) {
-        if !held.is_empty() {
-            self.write(held.as_slice());
-            held.clear();
-        }
-    }
-
-    // Writes bytes. If that fails, closes the connection.
-    fn write(&self, bytes: &[u8]) {
-        let mut stream = &self.stream;
-        if stream.write_all(bytes).is_err() {
             self.close();
         }
+        let is_full = outbox.is_full();
+        drop(outbox);
+        if is_full {
+            self.send_held(rt);
+        }
+    }
+
+    /// Sends the replies that are held, and frees the places of their requests. If the client does not take them at once,
+    /// leaves the rest to its own thread. If the connection fails, closes it and drops them.
+    pub(crate) fn send_held<R: Wait + Clock>(&self, rt: &R) {
+        let mut outbox = self.outbox.lock(rt);
+        if self.is_late.load(Ordering::SeqCst) || outbox.is_empty() {
+            return;
+        }
+        let freed = match self.write(rt, &mut outbox, SHORT_PATIENCE_MS) {
+            Outcome::Done => outbox.clear(),
+            Outcome::Late => {
+                self.is_late.store(true, Ordering::SeqCst);
+                0
+            }
+            Outcome::Failed => {
+                self.close();
+                outbox.clear()
+            }
+        };
+        drop(outbox);
+        self.places.free(rt, freed);
+    }
+
+    /// Writes bytes to the client, after the replies that wait. For the client's own thread.
+    pub(crate) fn send<R: Wait + Clock>(&self, rt: &R, bytes: &[u8]) {
+        let mut outbox = self.outbox.lock(rt);
+        if outbox.put(bytes, Vec::new(self.alloc), 0).is_err() {
+            self.close();
+        }
+        self.is_late.store(true, Ordering::SeqCst);
+        drop(outbox);
+        self.send_late(rt);
+    }
+
+    /// Writes the replies that were left to the client's own thread, which calls this, until there are none, and frees
+    /// the places of their requests. If the client is too slow or the connection fails, closes it and drops them.
+    pub(crate) fn send_late<R: Wait + Clock>(&self, rt: &R) {
+        if !self.is_late.load(Ordering::SeqCst) {
+            return;
+        }
+        for _ in rt.forever() {
+            let Some(mut waiting) = self.take_late(rt) else {
+                break;
+            };
+            if self.write(rt, &mut waiting, PATIENCE_MS) != Outcome::Done {
+                self.close();
+            }
+            self.places.free(rt, waiting.clear());
+        }
+    }
+
+    // Takes all that waits. If nothing does, lets any thread write again.
+    fn take_late<R: Wait>(&self, rt: &R) -> Option<Outbox> {
+        let mut outbox = self.outbox.lock(rt);
+        if outbox.is_empty() {
+            self.is_late.store(false, Ordering::SeqCst);
+            return None;
+        }
+        Some(mem::replace(&mut *outbox, Outbox::new(self.alloc)))
+    }
+
+    // Writes what waits, unless the connection is closed.
+    fn write<R: Wait + Clock>(&self, rt: &R, outbox: &mut Outbox, ms_per_mib: u16) -> Outcome {
+        if self.is_closed() {
+            return Outcome::Failed;
+        }
+        outbox.write(rt, &self.stream, ms_per_mib)
+    }
+
+    /// Takes so many places for a request; waits until they are free. Meanwhile writes what is left to the client's own
+    /// thread, which calls this.
+    pub(crate) fn take_places<R: Wait + Clock>(&self, rt: &R, count: u32) {
+        for _ in rt.forever() {
+            if self.places.take(rt, count) {
+                break;
+            }
+            self.send_late(rt);
+        }
+    }
+
+    /// Returns whether the connection is closed, so that no reply is written.
+    pub(crate) fn is_closed(&self) -> bool {
+        self.is_closed.load(Ordering::SeqCst)
     }
 
     /// Reads what the client has sent.
@@ -109,6 +175,7 @@ impl Client {
 
     /// Closes the connection, both ways.
     pub(crate) fn close(&self) {
+        self.is_closed.store(true, Ordering::SeqCst);
         let _ = self.stream.shutdown(Shutdown::Both);
     }
 }

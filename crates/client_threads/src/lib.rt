@@ -6,13 +6,17 @@ mod answer;
 mod client;
 mod doors;
 mod keeper;
+mod outbox;
+mod pace;
 mod page;
+mod piece;
 mod places;
 mod reader;
 mod reports;
 mod request;
 mod service;
 mod threads;
+mod timed_writer;
 mod waiter;
 mod workers;
 

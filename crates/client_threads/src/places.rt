@@ -1,40 +1,74 @@
 //! The limit on a client's requests under way.
-use blocks::Refusal;
-use crossbeam_channel::{Receiver, Sender, bounded};
-use std::alloc::Global;
-use std::sync::Wait;
+ghost use Rattle.std.specs.Prelude.{◌≡◌, ◌+◌, ◌/◌, min, max};
 
-/// The most requests of one client under way at a time.
-const PLACES: usize = 16;
+use nbd::{Command, Request};
+use std::sync::{Condvar, Mutex, Wait};
+use std::time::{Clock, Duration};
 
-/// The places for requests under way: a channel holds a token for each place that is taken.
+/// The places of a client. A request has one for each 2 MiB of its data, so those under way are 16 at most, with 32 MiB of
+/// data together.
+pub(crate) const PLACES: u32 = 16;
+
+/// Blocks of data for each place: 2 MiB.
+const BLOCKS_A_PLACE: u32 = 512;
+
+/// How long a thread waits for places before it looks whether it has anything else to do, in milliseconds.
+const LOOK_MS: u64 = 20;
+
+/// The places for requests under way.
 #[derive(Drop)]
 pub(crate) struct Places {
-    taken: Sender<()>,
-    freed: Receiver<()>,
+    free: Mutex<u32>,
+    freed: Condvar,
 }
 
 impl Places {
-    /// Creates the places, with no request under way. `NoMemory` (7) if there is no memory.
-    pub(crate) fn new(alloc: Global) -> Result<Places, Refusal> {
-        let (taken, freed) = bounded(alloc, PLACES)?;
-        Ok(Places { taken, freed })
-    }
-
-    /// Takes a place; waits until there is one.
-    pub(crate) fn take<R: Wait>(&self, rt: &R) {
-        let _ = self.taken.send(rt, ());
-    }
-
-    /// Frees a place.
-    pub(crate) fn free<R: Wait>(&self, rt: &R) {
-        let _ = self.freed.try_recv(rt);
-    }
-
-    /// Waits until no request is under way, and then lets none begin.
-    pub(crate) fn take_all<R: Wait>(&self, rt: &R) {
-        for _ in 0..PLACES {
-            self.take(rt);
+    /// Creates the places, with no request under way.
+    pub(crate) fn new() -> Places {
+        Places {
+            free: Mutex::new(PLACES),
+            freed: Condvar::new(),
         }
     }
+
+    /// Takes so many places, or none. Returns whether it took them: they were free, or became free in a moment.
+    pub(crate) fn take<R: Wait + Clock>(&self, rt: &R, count: u32) -> bool {
+        let mut free = self.free.lock(rt);
+        if *free < count {
+            let look = Duration::from_millis(LOOK_MS);
+            free = self.freed.wait_timeout(rt, free, look).0;
+        }
+        match free.checked_sub(count) {
+            Some(left) => {
+                *free = left;
+                true
+            }
+            None => false,
+        }
+    }
+
+    /// Frees so many places.
+    pub(crate) fn free<R: Wait>(&self, rt: &R, count: u32) {
+        if count > 0 {
+            let mut free = self.free.lock(rt);
+            *free = free.saturating_add(count);
+            drop(free);
+            self.freed.notify_one();
+        }
+    }
+}
+
+/// Returns how many places a request has: one for each 2 MiB begun of the data that it reads or writes, at least one.
+pub(crate) fn places_of(request: &Request) -> u32 {
+    match request.command {
+        Command::Read | Command::Write => places_for(request.block_count),
+        Command::WriteZeroes | Command::Flush | Command::Disconnect => 1,
+    }
+}
+
+// Returns how many places a request has that reads or writes this many blocks.
+fn places_for(block_count: u32) -> u32
+    ensures { result ≡ max 1 (min ((block_count + 511) / 512) 16) }
+{
+    block_count.div_ceil(BLOCKS_A_PLACE).min(PLACES).max(1)
 }

@@ -1,19 +1,21 @@
 //! The thread of a client, which takes its requests.
 use crate::client::Client;
+use crate::places::{PLACES, places_of};
 use crate::request::Job;
 use crate::service::Service;
+use crate::timed_writer::is_passing;
 use blocks::Refusal;
 use nbd::{Connection, Export, Output, greeting};
 use std::alloc::Global;
-use std::io::ErrorKind;
 use std::sync::{Arc, Wait};
+use std::time::Clock;
 
 /// The most bytes that are read at once: a request for the longest range and its payload.
 const BUFFER_BYTES: usize = 132 * 1024;
 
 /// Takes the requests of a client until it leaves or the server ends. When this returns without a refusal, all of its
 /// requests are answered.
-pub(crate) fn serve_client<R: Wait>(
+pub(crate) fn serve_client<R: Wait + Clock>(
     rt: &R,
     service: &Service,
     client: &Arc<Client, Global>,
@@ -27,6 +29,7 @@ pub(crate) fn serve_client<R: Wait>(
         if service.is_over() {
             break;
         }
+        client.send_late(rt);
         let count = match client.read(&mut buffer) {
             Ok(count) => count,
             Err(error) if is_passing(error.kind()) => continue,
@@ -36,12 +39,13 @@ pub(crate) fn serve_client<R: Wait>(
             break;
         }
     }
-    client.places.take_all(rt);
+    // No request is under way once all places are taken.
+    client.take_places(rt, PLACES);
     Ok(())
 }
 
 // Takes the client's next bytes. Returns whether the connection goes on.
-fn take<R: Wait>(
+fn take<R: Wait + Clock>(
     rt: &R,
     service: &Service,
     client: &Arc<Client, Global>,
@@ -55,18 +59,13 @@ fn take<R: Wait>(
     }
     for request in out.requests {
         let client = Arc::try_clone(client)?;
-        client.places.take(rt);
+        if client.is_closed() {
+            return Ok(false);
+        }
+        client.take_places(rt, places_of(&request));
         if service.jobs.send(rt, Job { request, client }).is_err() {
             return Ok(false);
         }
     }
     Ok(!connection.is_closed())
-}
-
-// Returns whether a read that failed with this error is tried again.
-fn is_passing(kind: ErrorKind) -> bool {
-    matches!(
-        kind,
-        ErrorKind::WouldBlock | ErrorKind::TimedOut | ErrorKind::Interrupted
-    )
 }

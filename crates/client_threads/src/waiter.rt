@@ -42,7 +42,7 @@ fn welcome<R: Runtime>(
     service: &Arc<Service, Global>,
     stream: TcpStream,
 ) -> Result<(), Refusal> {
-    let client = Arc::new(service.alloc, Client::new(service.alloc, stream)?)?;
+    let client = Arc::new(service.alloc, Client::new(service.alloc, stream))?;
     let shared = Arc::try_clone(service)?;
     if shared.enter() >= MAX_CLIENTS || client.prepare().is_err() {
         shared.leave();

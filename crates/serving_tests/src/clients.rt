@@ -19,28 +19,28 @@ const IMAGE_BYTES: usize = 32_768;
 /// How often a client tries to connect.
 const LOOKS: u32 = 1000;
 
-const GREETING: [u8; 18] = *b"NBDMAGICIHAVEOPT\0\x03";
+pub(crate) const GREETING: [u8; 18] = *b"NBDMAGICIHAVEOPT\0\x03";
 
 /// The client's flags: fixed newstyle and no zeros.
-const FLAGS: [u8; 4] = [0, 0, 0, 3];
+pub(crate) const FLAGS: [u8; 4] = [0, 0, 0, 3];
 
 /// GO for the default export, with a request for NBD_INFO_BLOCK_SIZE.
-const GO: [u8; 24] = *b"IHAVEOPT\0\0\0\x07\0\0\0\x08\0\0\0\0\0\x01\0\x03";
+pub(crate) const GO: [u8; 24] = *b"IHAVEOPT\0\0\0\x07\0\0\0\x08\0\0\0\0\0\x01\0\x03";
 
 /// The answer to GO: NBD_INFO_EXPORT of 32,768 bytes, NBD_INFO_BLOCK_SIZE and NBD_REP_ACK.
-const GO_ANSWER: [u8; 86] = [
+pub(crate) const GO_ANSWER: [u8; 86] = [
     0x00, 0x03, 0xE8, 0x89, 0x04, 0x55, 0x65, 0xA9, 0, 0, 0, 7, 0, 0, 0, 3, 0, 0, 0, 12, 0, 0, 0,
     0, 0, 0, 0, 0, 0x80, 0, 0x01, 0x4D, 0x00, 0x03, 0xE8, 0x89, 0x04, 0x55, 0x65, 0xA9, 0, 0, 0, 7,
     0, 0, 0, 3, 0, 0, 0, 14, 0, 3, 0, 0, 0x10, 0, 0, 0, 0x10, 0, 0, 2, 0, 0, 0x00, 0x03, 0xE8,
     0x89, 0x04, 0x55, 0x65, 0xA9, 0, 0, 0, 7, 0, 0, 0, 1, 0, 0, 0, 0,
 ];
 
-const AB_BLOCK: [u8; 4096] = [0xAB; 4096];
+pub(crate) const AB_BLOCK: [u8; 4096] = [0xAB; 4096];
 
-const ZERO_BLOCK: [u8; 4096] = [0; 4096];
+pub(crate) const ZERO_BLOCK: [u8; 4096] = [0; 4096];
 
 /// Makes the header of a request.
-fn ask(kind: u8, cookie: u8, offset: [u8; 2], length: [u8; 2]) -> [u8; 28] {
+pub(crate) fn ask(kind: u8, cookie: u8, offset: [u8; 2], length: [u8; 2]) -> [u8; 28] {
     [
         0x25, 0x60, 0x95, 0x13, 0, 0, 0, kind, 0, 0, 0, 0, 0, 0, 0, cookie, 0, 0, 0, 0, 0, 0,
         offset[0], offset[1], 0, 0, length[0], length[1],
@@ -48,7 +48,7 @@ fn ask(kind: u8, cookie: u8, offset: [u8; 2], length: [u8; 2]) -> [u8; 28] {
 }
 
 /// Makes the header of a reply.
-fn told(error: u8, cookie: u8) -> [u8; 16] {
+pub(crate) fn told(error: u8, cookie: u8) -> [u8; 16] {
     [
         0x67, 0x44, 0x66, 0x98, 0, 0, 0, error, 0, 0, 0, 0, 0, 0, 0, cookie,
     ]
@@ -56,10 +56,10 @@ fn told(error: u8, cookie: u8) -> [u8; 16] {
 
 /// A standard input whose line `quit` comes after a client has done its work.
 #[derive(Drop)]
-struct Order<R: Drop> {
-    rt: R,
-    is_done: Arc<AtomicBool, Global>,
-    is_given: bool,
+pub(crate) struct Order<R: Drop> {
+    pub(crate) rt: R,
+    pub(crate) is_done: Arc<AtomicBool, Global>,
+    pub(crate) is_given: bool,
 }
 
 impl<R: Wait + Clock + Drop> Read for Order<R> {
@@ -79,7 +79,7 @@ impl<R: Wait + Clock + Drop> Read for Order<R> {
 }
 
 // Sends bytes. Returns whether the wanted ones come back.
-fn exchange(
+pub(crate) fn exchange(
     alloc: Global,
     stream: &mut TcpStream,
     asked: &[&[u8]],
@@ -104,7 +104,7 @@ fn comes(alloc: Global, stream: &mut TcpStream, wanted: &[u8]) -> io::Result<boo
 }
 
 // Connects to the server, when it listens.
-fn connect<R: Net<Stream = TcpStream> + Clock>(
+pub(crate) fn connect<R: Net<Stream = TcpStream> + Clock>(
     rt: &R,
     address: SocketAddr,
 ) -> io::Result<TcpStream> {
@@ -244,7 +244,7 @@ fn is_shown<R: Net<Stream = TcpStream> + Clock>(
 }
 
 // Returns two addresses at which nothing listens.
-fn free_addresses<R: Abort + Net<Listener = TcpListener, Stream = TcpStream>>(
+pub(crate) fn free_addresses<R: Abort + Net<Listener = TcpListener, Stream = TcpStream>>(
     rt: &R,
 ) -> (SocketAddr, SocketAddr) {
     let one = TcpListener::bind(rt, (Ipv4Addr::LOCALHOST, 0)).expect(rt, "a listener");
@@ -256,7 +256,11 @@ fn free_addresses<R: Abort + Net<Listener = TcpListener, Stream = TcpStream>>(
 }
 
 // Returns the options under which the images are served.
-fn options_of(protocol: Protocol, listen: SocketAddr, page: SocketAddr) -> ServeOptions<'static> {
+pub(crate) fn options_of(
+    protocol: Protocol,
+    listen: SocketAddr,
+    page: SocketAddr,
+) -> ServeOptions<'static> {
     ServeOptions {
         local: "serving_local",
         peer: "serving_peer",

@@ -7,3 +7,5 @@ mod clients;
 mod images;
 #[cfg(test)]
 mod page;
+#[cfg(test)]
+mod slow_reader;
