@@ -36,9 +36,20 @@ fn open<R: Abort + Net<Stream = TcpStream> + Clock>(
     address: SocketAddr,
 ) -> TcpStream {
     let mut stream = connect(rt, address).expect(rt, "a connection");
-    let is_open = exchange(alloc, &mut stream, &[&FLAGS, &GO], &[&GREETING, &GO_ANSWER]);
-    assert!(rt; is_open.expect(rt, "an export"), "an export");
+    gets(
+        rt,
+        alloc,
+        &mut stream,
+        &[&FLAGS, &GO],
+        &[&GREETING, &GO_ANSWER],
+    );
     stream
+}
+
+// Sends bytes, and sees that the wanted ones come back.
+fn gets(rt: &impl Abort, alloc: Global, stream: &mut TcpStream, asked: &[&[u8]], wanted: &[&[u8]]) {
+    let is_right = exchange(alloc, stream, asked, wanted).expect(rt, "a reply");
+    assert!(rt; is_right, "a reply");
 }
 
 // Writes block 1, reads it and flushes, and sees that each is answered.
@@ -46,16 +57,9 @@ fn take_turn(rt: &impl Abort, alloc: Global, stream: &mut TcpStream) {
     let write = ask(1, 1, [0x10, 0], [0x10, 0]);
     let read = ask(0, 2, [0x10, 0], [0x10, 0]);
     let flush = ask(3, 3, [0, 0], [0, 0]);
-    let (written, shown, flushed) = (told(0, 1), told(0, 2), told(0, 3));
-    let turns: [(&[&[u8]], &[&[u8]]); 3] = [
-        (&[&write, &AB_BLOCK], &[&written]),
-        (&[&read], &[&shown, &AB_BLOCK]),
-        (&[&flush], &[&flushed]),
-    ];
-    for (asked, wanted) in turns {
-        let is_right = exchange(alloc, stream, asked, wanted).expect(rt, "a reply");
-        assert!(rt; is_right, "a reply");
-    }
+    gets(rt, alloc, stream, &[&write, &AB_BLOCK], &[&told(0, 1)]);
+    gets(rt, alloc, stream, &[&read], &[&told(0, 2), &AB_BLOCK]);
+    gets(rt, alloc, stream, &[&flush], &[&told(0, 3)]);
 }
 
 // Asks for all blocks, again and again, and reads no reply.
