@@ -7,7 +7,6 @@ mod client;
 mod doors;
 mod keeper;
 mod outbox;
-mod pace;
 mod page;
 mod piece;
 mod places;

@@ -1,6 +1,6 @@
 //! Writing to a client for as long as it takes bytes fast enough.
-use crate::pace::time_left;
 use crate::piece::Piece;
+use requests::time_left;
 use std::io;
 use std::io::{ErrorKind, Write};
 use std::net::TcpStream;

@@ -190,7 +190,7 @@ drbdpair script --help explains them, and the same as JSON.
   curl http://127.0.0.1:PORT/
   curl http://127.0.0.1:PORT/status.json
 
-A refused start prints refused R on standard error. R is one of these:
+A refused start prints a line on standard error that says why.
 ";
 
 /// The refusals in the order of their numbers.
@@ -275,7 +275,6 @@ impl Display for TcpHelp {
 impl Display for ServeHelp {
     fn fmt<W: fmt::Write>(&self, f: &mut fmt::Formatter<W>) -> fmt::Result {
         f.write_str(SERVE)?;
-        write_refusals(f)?;
         f.write_str(RUN_STATUSES)
     }
 }

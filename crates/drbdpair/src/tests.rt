@@ -316,12 +316,13 @@ fn a_link_to_an_image_is_followed(rt: HostRuntime) {
     fs::remove_dir(&rt, "linked").expect(&rt, "an empty folder");
 }
 
-/// An image that is locked, or is the local one under another path, is refused by each command, and both images stay as
-/// they were. Once it is free again it is used.
+/// An image that is locked, is the local one under another path, or has no block, is refused, and both images stay as they
+/// were. Once it is free again it is used.
 #[test]
-fn an_image_in_use_is_refused(rt: HostRuntime) {
+fn an_image_that_cannot_be_used_is_refused(rt: HostRuntime) {
     put_image(&rt, "free_image", 0, 32_768);
     put_image(&rt, "used_image", 0, 32_768);
+    put_image(&rt, "empty_image", 0, 0);
     symlink(&rt, "free_image", "free_link").expect(&rt, "a link");
     let other = OpenOptions::new().write(true).open(&rt, "used_image");
     let other = other.expect(&rt, "an image");
@@ -353,6 +354,12 @@ fn an_image_in_use_is_refused(rt: HostRuntime) {
         ),
         (
             "serve",
+            "empty_image",
+            "free_image",
+            "empty_image: an image has 1 to 262144 blocks of 4096 bytes\n",
+        ),
+        (
+            "serve",
             "free_image",
             "free_link",
             "free_link: the image is in use, by another process or under another path\n",
@@ -368,6 +375,7 @@ fn an_image_in_use_is_refused(rt: HostRuntime) {
     runs(&rt, &words, "completed 10\nsettled 10\nunmarked 0\n", 0);
     is_written(&rt, &take_image(&rt, "used_image"));
     is_left(&rt, "free_image", 0, 32_768);
+    fs::remove_file(&rt, "empty_image").expect(&rt, "an image");
     fs::remove_file(&rt, "free_link").expect(&rt, "a link");
 }
 

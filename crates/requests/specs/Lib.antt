@@ -1,2 +1,3 @@
--- What a request writes.
+-- What a request writes, and how long a client may take for its replies.
 pub mod Receipts
+pub mod Pace

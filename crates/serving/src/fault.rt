@@ -1,5 +1,5 @@
 //! Failures of a server.
-use blocks::Refusal;
+use blocks::{BLOCK_BYTES, MAX_BLOCKS, Refusal};
 use client_threads::{Unbound, Unstarted};
 use image_store::OpenFault;
 use numbers::SessionStatus;
@@ -10,6 +10,8 @@ use std::{fmt, io};
 pub(crate) enum Fault<'a> {
     /// The image could not be opened.
     Unopened(&'a str, OpenFault),
+    /// No device has as many bytes as the image.
+    NoDevice(&'a str),
     /// Nothing can listen at the address.
     Unbound(Unbound),
     /// The session was refused, or there was no memory (7).
@@ -36,8 +38,12 @@ impl fmt::Display for Fault<'_> {
     fn fmt<W: fmt::Write>(&self, f: &mut fmt::Formatter<W>) -> fmt::Result {
         match self {
             Fault::Unopened(file, fault) => write!(f, "{file}: {fault}"),
+            Fault::NoDevice(file) => write!(
+                f,
+                "{file}: an image has 1 to {MAX_BLOCKS} blocks of {BLOCK_BYTES} bytes"
+            ),
             Fault::Unbound(unbound) => write!(f, "{unbound}"),
-            Fault::Refused(refusal) => write!(f, "refused {}", refusal.number()),
+            Fault::Refused(refusal) => write!(f, "refused {}: {refusal}", refusal.number()),
             Fault::Unstarted(unstarted) => write!(f, "{unstarted}"),
             Fault::Unmarked(count) => write!(f, "{count} blocks differ without a mark"),
             Fault::Unwritten(error) => write!(f, "the output could not be written: {error}"),

@@ -139,7 +139,10 @@ fn blocks_of<'a, H: Files>(rt: &H, options: &ServeOptions<'a>) -> Result<u32, Fa
         },
     };
     if blocks == 0 || blocks > u64::from(MAX_BLOCKS) {
-        return Err(Fault::Refused(Refusal::BadSetting));
+        return Err(match options.blocks {
+            Some(_) => Fault::Refused(Refusal::BadSetting),
+            None => Fault::NoDevice(options.local),
+        });
     }
     Ok(blocks as u32)
 }
