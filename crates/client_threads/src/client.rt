@@ -58,8 +58,8 @@ impl Client {
             .set_read_timeout(Some(Duration::from_millis(LOOK_MS)))
     }
 
-    /// Holds a reply to a request that has so many places, and the data that follow it, until the next `send_held`. If
-    /// much is held, sends it at once. If there is no memory to hold it, closes the connection.
+    /// Holds a reply, and the data that follow it, until the next `send_held`; its request has `places` places. If much
+    /// is held, sends it at once. If there is no memory to hold it, closes the connection.
     pub(crate) fn reply<R: Wait + Clock>(
         &self,
         rt: &R,
@@ -149,7 +149,7 @@ impl Client {
         outbox.write(rt, &self.stream, ms_per_mib)
     }
 
-    /// Takes so many places for a request; waits until they are free. Meanwhile writes what is left to the client's own
+    /// Takes `count` places for a request; waits until they are free. Meanwhile writes what is left to the client's own
     /// thread, which calls this.
     pub(crate) fn take_places<R: Wait + Clock>(&self, rt: &R, count: u32) {
         for _ in rt.forever() {

@@ -35,13 +35,13 @@ impl Outbox {
         self.bytes == 0 && self.places == 0
     }
 
-    /// Returns whether so many bytes wait that they are sent at once.
+    /// Returns whether more bytes wait than are held back, so that they are sent at once.
     pub(crate) fn is_full(&self) -> bool {
         self.bytes > MOST_HELD
     }
 
-    /// Appends a header and the data behind it, which answer a request with so many places. Long data are not copied. If
-    /// there is no memory, a part may be there, and only the places count.
+    /// Appends a header and the data behind it, which answer a request that has `places` places. Long data are not
+    /// copied. If there is no memory, a part may be there, and only the places count.
     pub(crate) fn put(
         &mut self,
         header: &[u8],

@@ -31,7 +31,7 @@ impl Places {
         }
     }
 
-    /// Takes so many places, or none. Returns whether it took them: they were free, or became free in a moment.
+    /// Takes `count` places, or none. Returns whether it took them: they were free, or became free in a moment.
     pub(crate) fn take<R: Wait + Clock>(&self, rt: &R, count: u32) -> bool {
         let mut free = self.free.lock(rt);
         if *free < count {
@@ -47,7 +47,7 @@ impl Places {
         }
     }
 
-    /// Frees so many places.
+    /// Frees `count` places.
     pub(crate) fn free<R: Wait>(&self, rt: &R, count: u32) {
         if count > 0 {
             let mut free = self.free.lock(rt);
