@@ -4,7 +4,7 @@ ghost use Rattle.blocks.specs.Contents.{blocks_of, IsTorn};
 ghost use Rattle.blocks.specs.Faults.{written, write_fails, after_read, read_fails, is_steady};
 ghost use Rattle.blocks.specs.declared.block.TheConstants.{BLOCK_BYTES};
 
-use crate::tally::Tally;
+use crate::ghost_count::GhostCount;
 use crate::{BLOCK_BYTES, Block, MemStore, Range, Store, StoreFault};
 use std::marker::Model;
 
@@ -13,7 +13,7 @@ use std::marker::Model;
 #[derive(Drop)]
 pub struct FaultStore {
     disk: MemStore,
-    faults: Tally,
+    faults: GhostCount,
     write_arming: Option<WriteArming>,
     // How many reads pass before one fails.
     read_arming: Option<u64>,
@@ -47,7 +47,7 @@ impl FaultStore {
     {
         FaultStore {
             disk,
-            faults: Tally::new(),
+            faults: GhostCount::new(),
             write_arming: None,
             read_arming: None,
         }

@@ -5,6 +5,7 @@
 mod block;
 mod command;
 mod faulty;
+mod ghost_count;
 mod memory;
 mod outcome;
 mod position;
@@ -12,12 +13,12 @@ mod range;
 mod refusal;
 mod settings;
 mod store;
-mod tally;
 mod tuple;
 
 pub use block::{BLOCK_BYTES, Block, EXTENT_BLOCKS, Extent, MAX_BLOCKS};
 pub use command::Command;
 pub use faulty::FaultStore;
+pub use ghost_count::GhostCount;
 pub use memory::MemStore;
 pub use outcome::{Decision, Done, Reply, What};
 pub use position::StreamPosition;
@@ -25,5 +26,4 @@ pub use range::{MAX_RANGE, Range};
 pub use refusal::Refusal;
 pub use settings::{Protocol, Settings};
 pub use store::{Store, StoreFault};
-pub use tally::Tally;
 pub use tuple::Tuple;

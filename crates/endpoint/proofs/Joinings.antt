@@ -15,7 +15,7 @@ use Rattle.endpoint.specs.Meaning.{meaning, received, meant, meant_in, IsSpelled
 use Rattle.link.specs.Ends.{InEnd, OutEnd}
 use Rattle.endpoint.specs.PacketReceiver.{TakenBefore, incoming, hello_after, received_after, received_from, taken_before}
 use Rattle.endpoint.specs.PacketSender.{PushedBefore, outgoing, pushed_before}
-use Rattle.endpoint.specs.Joined.{AreTold, AreToldEverywhere, BeginsPushed, pushed_past, sent_past, taken_past, came_past}
+use Rattle.endpoint.specs.Joined.{PacketsFollow, PacketsFollowEverywhere, BeginsPushed, pushed_past, sent_past, taken_past, came_past}
 use Rattle.endpoint.proofs.Meanings.{meant_spelled}
 
 all_front : {X : Type 0} (P : X → Type 0) (xs ys : List X) → AllByRecursion P (xs ++ ys) → AllByRecursion P xs
@@ -55,7 +55,7 @@ received_count : (n : ℕ) (taken : List (List ℕ)) → length (received_from n
 received_count n [] = refl
 received_count n (frame ∷ taken) = ap suc (received_count (suc n) taken)
 
-pub told : (o : OutEnd) (i : InEnd) → AllByRecursion IsSpelled o.sent → AreTold (outgoing o) (incoming i)
+pub told : (o : OutEnd) (i : InEnd) → AllByRecursion IsSpelled o.sent → PacketsFollow (outgoing o) (incoming i)
 told o i spelled = record { begins = begins i.taken o.sent spelled; pushed = meant_count o.sent spelled; taken = received_count 0 i.taken }
 
 -- an item of a mapped list
@@ -139,7 +139,7 @@ came_frames number (before ∷ came) = ap (λ (rest : List (List ℕ)). if befor
 
 -- On each connection, whichever of them the two ends had.
 pub everywhere : (o : OutEnd) (i : InEnd) → AllByRecursion IsSpelled o.sent → AllByRecursion (λ before. AllByRecursion IsSpelled before.frames) o.past
-    → AreToldEverywhere (outgoing o) (incoming i)
+    → PacketsFollowEverywhere (outgoing o) (incoming i)
 everywhere o i spelled past number = go (o.number == number) (i.number == number)
   where
     out : (b : Bool) → (if b then meant_in o.sent else pushed_past number (map pushed_before o.past)) ≡ meant_in (if b then o.sent

@@ -13,7 +13,7 @@ pub record BeginsPushed (taken : List Received) (pushed : List Packet) : Type 0 
 
 -- Both sides have one packet or fault for each frame; and if the frames taken are a beginning of the frames sent, so
 -- are their packets.
-pub record AreTold (out : PacketSenderState) (inn : PacketReceiverState) : Type 0 where
+pub record PacketsFollow (out : PacketSenderState) (inn : PacketReceiverState) : Type 0 where
   pub begins : IsBeginning inn.frames out.frames → BeginsPushed inn.taken out.pushed
   pub pushed : length out.pushed ≡ length out.frames
   pub taken : length inn.taken ≡ length inn.frames
@@ -54,5 +54,5 @@ abbrev pub came_at : ℕ → PacketReceiverState → List (List ℕ)
 came_at number i = if i.number == number then i.frames else came_past number i.past
 
 -- If the frames taken on a connection are a beginning of the frames sent on it, so are their packets.
-abbrev pub AreToldEverywhere : PacketSenderState → PacketReceiverState → Type 0
-AreToldEverywhere out inn = (number : ℕ) → IsBeginning (came_at number inn) (sent_at number out) → BeginsPushed (taken_at number inn) (pushed_at number out)
+abbrev pub PacketsFollowEverywhere : PacketSenderState → PacketReceiverState → Type 0
+PacketsFollowEverywhere out inn = (number : ℕ) → IsBeginning (came_at number inn) (sent_at number out) → BeginsPushed (taken_at number inn) (pushed_at number out)

@@ -13,19 +13,19 @@ use Rattle.model.specs.Acknowledgements.{same_protocol}
 -- The identifiers that the own hello names, how many of its frames were sent, and how many of the peer's were taken.
 pub record HandshakeState : Type 0 where
   pub own : Tuple
-  pub said : ℕ
-  pub heard : ℕ
+  pub hello_sent : ℕ
+  pub hello_received : ℕ
 
 -- no frame of either hello has gone
 abbrev pub begun : Tuple → HandshakeState
-begun own = record { own = own; said = 0; heard = 0 }
+begun own = record { own = own; hello_sent = 0; hello_received = 0 }
 
 -- the frame of the own hello that is sent after this number of others
-abbrev pub said : ℕ → Settings → Tuple → Option Packet
-said zero settings own = Some (packet.Protocol settings.protocol)
-said (suc zero) settings own = Some (packet.Sizes settings.blocks)
-said (suc (suc zero)) settings own = Some (packet.Uuids own)
-said (suc (suc (suc n))) settings own = None
+abbrev pub hello_frame : ℕ → Settings → Tuple → Option Packet
+hello_frame zero settings own = Some (packet.Protocol settings.protocol)
+hello_frame (suc zero) settings own = Some (packet.Sizes settings.blocks)
+hello_frame (suc (suc zero)) settings own = Some (packet.Uuids own)
+hello_frame (suc (suc (suc n))) settings own = None
 
 -- The command of a frame that comes after this number of frames of the peer's hello, or why it is refused.
 abbrev pub judged : ℕ → Packet → Settings → Result Command Refusal

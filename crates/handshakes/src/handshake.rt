@@ -1,7 +1,7 @@
 //! Both hellos of a connection, at one of its nodes.
 ghost use Rattle.std.specs.Prelude.{◌≡◌, nat_le, slice_get};
 ghost use Rattle.model.specs.Acknowledgements.{same_protocol};
-ghost use Rattle.handshakes.specs.Handshake.{begun, judged, said};
+ghost use Rattle.handshakes.specs.Handshake.{begun, judged, hello_frame};
 ghost use Rattle.handshakes.specs.Hello.{advanced};
 
 use crate::Hello;
@@ -14,8 +14,8 @@ use std::marker::Model;
 #[derive(Drop)]
 pub struct Handshake {
     own: Tuple,
-    said: Hello,
-    heard: Hello,
+    hello_sent: Hello,
+    hello_received: Hello,
 }
 
 impl Model for Handshake {
@@ -23,7 +23,7 @@ impl Model for Handshake {
 
     ghost Value = { HandshakeState };
 
-    ghost view = { λ h. record { own = h.own; said = h.said; heard = h.heard } };
+    ghost view = { λ h. record { own = h.own; hello_sent = h.hello_sent; hello_received = h.hello_received } };
 }
 
 impl Handshake {
@@ -33,16 +33,16 @@ impl Handshake {
     {
         Handshake {
             own,
-            said: Hello::new(),
-            heard: Hello::new(),
+            hello_sent: Hello::new(),
+            hello_received: Hello::new(),
         }
     }
 
     /// Returns the next frame of this node's hello: PROTOCOL, SIZES, UUIDS, and none after these.
     pub fn due(&self, settings: &Settings) -> Option<Packet>
-        ensures { result ≡ said self.now.said settings.now self.now.own }
+        ensures { result ≡ hello_frame self.now.hello_sent settings.now self.now.own }
     {
-        Some(match self.said.next()? {
+        Some(match self.hello_sent.next()? {
             Command::Protocol => Packet::Protocol(settings.protocol),
             Command::Sizes => Packet::Sizes {
                 blocks: u64::from(settings.blocks),
@@ -52,24 +52,24 @@ impl Handshake {
     }
 
     /// Counts the next frame of this node's hello as sent.
-    pub fn say(&mut self)
-        ensures { self.new ≡ record self.old { said = advanced self.old.said } }
+    pub fn frame_sent(&mut self)
+        ensures { self.new ≡ record self.old { hello_sent = advanced self.old.hello_sent } }
     {
-        self.said.advance();
+        self.hello_sent.advance();
     }
 
     /// Returns whether this node's hello is sent.
-    pub fn is_said(&self) -> bool
-        ensures { result ≡ nat_le 3 self.now.said }
+    pub fn is_sent(&self) -> bool
+        ensures { result ≡ nat_le 3 self.now.hello_sent }
     {
-        self.said.is_done()
+        self.hello_sent.is_done()
     }
 
     /// Returns whether the peer's hello is received.
-    pub fn is_heard(&self) -> bool
-        ensures { result ≡ nat_le 3 self.now.heard }
+    pub fn is_received(&self) -> bool
+        ensures { result ≡ nat_le 3 self.now.hello_received }
     {
-        self.heard.is_done()
+        self.hello_received.is_done()
     }
 
     /// Checks that a packet is the next frame of the peer's hello, and returns its command. It does not check the
@@ -78,9 +78,9 @@ impl Handshake {
     /// `OtherProtocol` (34) for another protocol than this node's, `OtherSize` (35) for another number of blocks;
     /// `BadCommand` (21) for every other packet.
     pub fn judge(&self, packet: &Packet, settings: &Settings) -> Result<Command, Refusal>
-        ensures { result ≡ judged self.now.heard packet.now settings.now }
+        ensures { result ≡ judged self.now.hello_received packet.now settings.now }
     {
-        match (self.heard.frames(), packet) {
+        match (self.hello_received.frames(), packet) {
             (0, Packet::Protocol(asked)) => {
                 if !is_same(*asked, settings.protocol) {
                     return Err(Refusal::OtherProtocol);
@@ -99,10 +99,10 @@ impl Handshake {
     }
 
     /// Counts the next frame of the peer's hello as received.
-    pub fn hear(&mut self)
-        ensures { self.new ≡ record self.old { heard = advanced self.old.heard } }
+    pub fn frame_received(&mut self)
+        ensures { self.new ≡ record self.old { hello_received = advanced self.old.hello_received } }
     {
-        self.heard.advance();
+        self.hello_received.advance();
     }
 }
 

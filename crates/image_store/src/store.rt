@@ -6,7 +6,7 @@ ghost use Rattle.image_store.specs.Faults.{IsWrongFor};
 
 use crate::loading::{check_length, load};
 use crate::{OpenFault, SyncHandle};
-use blocks::{BLOCK_BYTES, Block, MemStore, Range, Store, StoreFault, Tally};
+use blocks::{BLOCK_BYTES, Block, GhostCount, MemStore, Range, Store, StoreFault};
 use std::fs::{OpenFile, OpenOptions};
 use std::marker::Model;
 use std::os::unix::fs::FileExt;
@@ -17,7 +17,7 @@ use std::rt::Files;
 pub struct ImageStore<F> {
     file: F,
     memory: MemStore,
-    faults: Tally,
+    faults: GhostCount,
 }
 
 impl<F> Model for ImageStore<F> {
@@ -41,7 +41,7 @@ impl<F: FileExt> ImageStore<F> {
         ImageStore {
             file,
             memory,
-            faults: Tally::new(),
+            faults: GhostCount::new(),
         }
     }
 }

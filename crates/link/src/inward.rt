@@ -6,8 +6,8 @@ ghost use Rattle.link.specs.Taking.{TakesFirst};
 ghost use Rattle.blocks.specs.declared.refusal.Refusal.TheVariants.{NothingThere};
 
 use crate::FrameIn;
+use crate::ghost_frames::GhostFrames;
 use crate::queue::Queue;
-use crate::trail::Trail;
 use blocks::Refusal;
 use packets::Frame;
 use std::marker::Model;
@@ -17,7 +17,7 @@ use std::marker::Model;
 pub struct PlainIn {
     pub(crate) queue: Option<Queue>,
     pub(crate) number: u32,
-    pub(crate) taken: Trail,
+    pub(crate) taken: GhostFrames,
 }
 
 impl Model for PlainIn {
@@ -40,7 +40,7 @@ impl PlainIn {
         PlainIn {
             queue: None,
             number: 1,
-            taken: Trail::new(),
+            taken: GhostFrames::new(),
         }
     }
 

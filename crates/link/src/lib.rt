@@ -2,15 +2,15 @@
 #![tactic(auto)]
 
 mod ends;
+mod ghost_frames;
 mod inward;
 mod outward;
 mod plain;
 mod queue;
-mod trail;
 
 pub use ends::{FrameIn, FrameOut, Offered};
+pub use ghost_frames::GhostFrames;
 pub use inward::PlainIn;
 pub use outward::PlainOut;
 pub use plain::{PlainEnds, PlainLink};
 pub use queue::Queue;
-pub use trail::Trail;

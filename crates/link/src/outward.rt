@@ -3,8 +3,8 @@ ghost use Rattle.std.specs.Prelude.{◌≡◌, ◌<◌, ◌≤◌, ◌↔◌, Op
 ghost use Rattle.std.specs.Option.{option_map};
 ghost use Rattle.link.specs.Directions.{InState, IsDirection, IsDirectionWith, accepting, restarted_out, room_in};
 
+use crate::ghost_frames::GhostFrames;
 use crate::queue::Queue;
-use crate::trail::Trail;
 use crate::{FrameOut, Offered};
 use packets::Frame;
 use std::marker::Model;
@@ -15,7 +15,7 @@ use std::marker::Model;
 pub struct PlainOut {
     pub(crate) queue: Option<Queue>,
     pub(crate) number: u32,
-    pub(crate) sent: Trail,
+    pub(crate) sent: GhostFrames,
 }
 
 impl Model for PlainOut {
@@ -39,7 +39,7 @@ impl PlainOut {
         PlainOut {
             queue: Some(queue),
             number: 1,
-            sent: Trail::new(),
+            sent: GhostFrames::new(),
         }
     }
 

@@ -4,7 +4,7 @@ ghost use Rattle.link.specs.Directions.{emptied};
 ghost use Rattle.blocks.specs.declared.refusal.Refusal.TheVariants.{NoMemory};
 
 use crate::Offered;
-use crate::trail::Trail;
+use crate::ghost_frames::GhostFrames;
 use blocks::Refusal;
 use packets::Frame;
 use std::alloc::Global;
@@ -17,7 +17,7 @@ use std::marker::Model;
 pub struct Queue {
     frames: VecDeque<Frame>,
     capacity: usize,
-    taken: Trail,
+    taken: GhostFrames,
 }
 
 impl Model for Queue {
@@ -43,7 +43,7 @@ impl Queue {
         Ok(Queue {
             frames,
             capacity,
-            taken: Trail::new(),
+            taken: GhostFrames::new(),
         })
     }
 
@@ -66,7 +66,7 @@ impl Queue {
         ensures { self.new ≡ emptied self.old }
     {
         self.frames.clear();
-        self.taken = Trail::new();
+        self.taken = GhostFrames::new();
     }
 
     /// Takes the first frame out. It takes no memory.

@@ -12,7 +12,7 @@ use Rattle.link.specs.Directions.{QueueState}
 use Rattle.model.specs.Frames.{Packet, Received}
 use Rattle.model.specs.LocalRuns.{Takes as TakesFrame}
 use Rattle.model.specs.Pair.{AckInEvent}
-use Rattle.pair_protocol.specs.Carried.{Gave, IsTold}
+use Rattle.pair_protocol.specs.Carried.{Gave, PacketsFollowIn}
 use Rattle.pair_protocol.specs.State.{IsDirection, IsPairStep}
 use Rattle.pair_protocol.proofs.Lending.{comes-back, gave-none, gave-over, pushed-back, pushed-lent, taken-given, taken-laid}
 use Rattle.pair_protocol.proofs.Takings.{acknowledges-step}
@@ -63,7 +63,7 @@ module _ (v : PairView) (a e : SecondaryView) (b c d : PrimaryView) (q back : Qu
     (one : TakesOne result b c) (c_is : c ≡ record b { core = c.core; incoming = c.incoming })
     (gave : GivenBack (Some back) c.incoming d.incoming) (d_is : d ≡ record c { incoming = d.incoming })
     (over : LaidBack back a.outgoing e.outgoing) (e_is : e ≡ record a { outgoing = e.outgoing })
-    (told : IsTold (record { out = e.outgoing; inn = d.incoming })) where
+    (told : PacketsFollowIn (record { out = e.outgoing; inn = d.incoming })) where
   both : Gave one.frame result (state v).back × IsDirection v.secondary.core.settings.link (record { out = e.outgoing; inn = d.incoming })
   both = gave-over v.secondary.core.settings.link (state v).back q back one.frame result a.outgoing e.outgoing b.incoming c.incoming d.incoming was.pair.back
       given laid one.link gave over told

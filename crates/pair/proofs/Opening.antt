@@ -86,7 +86,7 @@ module _ (v : PairView) (was : IsPairView v) (sync loss : ℕ) (is_open drained 
     where
       here : (h : PairHistory) → PairHas (state v) h → reply.Refused e ≡ (open_primary sync loss (is_out_of_memory {R = Done} (Err e)) h.primary).0
       here h has =
-          let said : replied plainly got ≡ (open_primary sync loss (is_out_of_memory got) h.primary).0 = steps.said h.primary has.primary in
+          let said : replied plainly got ≡ (open_primary sync loss (is_out_of_memory got) h.primary).0 = steps.replies h.primary has.primary in
           ap (replied plainly) (sym refused) ∙ said ∙ ap (λ (r : Result (Unit {0}) Refusal). (open_primary sync loss (is_out_of_memory r) h.primary).0) refused
           ∙ ap (λ b. (open_primary sync loss b h.primary).0) (same-out-of-memory (Unit {0}) Done e)
 
@@ -98,14 +98,14 @@ module _ (v : PairView) (was : IsPairView v) (sync loss : ℕ) (is_open drained 
         (local.node w)) fine steps
 
     pub is-counted : v.secondary.core.number < 4294967295
-    is-counted = counted v sync loss was.pair.history was.pair.has (opens.said was.pair.history.primary was.pair.has.primary)
+    is-counted = counted v sync loss was.pair.history was.pair.has (opens.replies was.pair.history.primary was.pair.has.primary)
 
     -- the secondary's is not refused then
     pub never : (e : Refusal) (other : Result (Unit {0}) Refusal) (x : SecondaryView) → other ≡ Err e
         → secondary.NodeSteps (OpensToo 0) (peer.node v.secondary) (from_secondary.replied from_secondary.plainly other) (peer.node x) → ⊥
     never e other x refused there =
         let h = was.pair.history in
-        let said = there.said h.secondary was.pair.has.secondary in
+        let said = there.replies h.secondary was.pair.has.secondary in
         never-refused e h.secondary (closed h was.pair.has) (is-drained h was.pair.has) (ap (from_secondary.replied from_secondary.plainly) (sym refused)
         ∙ said)
 

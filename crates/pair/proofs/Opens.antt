@@ -52,7 +52,7 @@ new-ends s t capacity unused = rw (unused.sending, unused.taking) (record {
   few = omega arith;
   queued = refl;
   away = refl;
-  told = record { begins = λ all. record { front = []; each = refl; begins = ([], refl) }; pushed = refl; taken = refl };
+  packets = record { begins = λ all. record { front = []; each = refl; begins = ([], refl) }; pushed = refl; taken = refl };
 })
 
 -- Which test refuses.

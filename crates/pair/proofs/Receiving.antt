@@ -11,7 +11,7 @@ use Rattle.link.specs.Directions.{QueueState}
 use Rattle.model.specs.Frames.{Packet, Received}
 use Rattle.model.specs.LocalRuns.{Receives}
 use Rattle.model.specs.Pair.{ReceiveEvent}
-use Rattle.pair_protocol.specs.Carried.{Gave, IsTold}
+use Rattle.pair_protocol.specs.Carried.{Gave, PacketsFollowIn}
 use Rattle.pair_protocol.specs.State.{IsDirection, IsPairStep}
 use Rattle.pair_protocol.proofs.Lending.{comes-back, gave-none, gave-over, pushed-back, pushed-lent, taken-given, taken-laid}
 use Rattle.pair_protocol.proofs.Takings.{receives-step}
@@ -63,7 +63,7 @@ module _ (v : PairView) (a e : PrimaryView) (b c d : SecondaryView) (q back : Qu
     (one : ReceivesOne result b c) (c_is : c ≡ record b { core = c.core; incoming = c.incoming })
     (gave : GivenBack (Some back) c.incoming d.incoming) (d_is : d ≡ record c { incoming = d.incoming })
     (over : LaidBack back a.outgoing e.outgoing) (e_is : e ≡ record a { outgoing = e.outgoing })
-    (told : IsTold (record { out = e.outgoing; inn = d.incoming })) where
+    (told : PacketsFollowIn (record { out = e.outgoing; inn = d.incoming })) where
   both : Gave one.frame result (state v).there × IsDirection v.primary.core.settings.link (record { out = e.outgoing; inn = d.incoming })
   both = gave-over v.primary.core.settings.link (state v).there q back one.frame result a.outgoing e.outgoing b.incoming c.incoming d.incoming was.pair.there
       given laid one.link gave over told

@@ -8,7 +8,7 @@ use Rattle.endpoint.specs.Calls.{has_room, is_out_of_memory}
 use Rattle.endpoint.specs.PacketReceiver.{PacketReceiverState}
 use Rattle.model.specs.LocalRuns.{Acknowledges, Sends}
 use Rattle.model.specs.Pair.{AckOutEvent, SendEvent}
-use Rattle.pair_protocol.specs.Carried.{IsTold}
+use Rattle.pair_protocol.specs.Carried.{PacketsFollowIn}
 use Rattle.pair_protocol.specs.State.{IsDirection, IsPairStep}
 use Rattle.pair_protocol.proofs.Carrying.{sent-over}
 use Rattle.pair_protocol.proofs.Stepping.{sends-step, answers-step}
@@ -32,7 +32,7 @@ send-step v w result was sends steps = sends-step (state v) (state (record v { p
 
 pub send-is : (v : PairView) (w : PrimaryView) (result : Result Done Refusal) → IsPairView v → link.Sends result v.primary.outgoing w.outgoing
     → primary.NodeSteps (Sends (has_room result) (is_out_of_memory result)) (local.node v.primary) (from_primary.replied reply.Ok result) (local.node w)
-    → w.incoming ≡ v.primary.incoming → w.steady ≡ true → IsTold (record { out = w.outgoing; inn = v.secondary.incoming })
+    → w.incoming ≡ v.primary.incoming → w.steady ≡ true → PacketsFollowIn (record { out = w.outgoing; inn = v.secondary.incoming })
     → IsPairView (record v { primary = w })
 send-is v w result was sends steps inn steady told =
     view-kept SendEvent (is_out_of_memory result) v (record v { primary = w }) (from_primary.replied reply.Ok result) was (send-step v w result was sends steps)
@@ -52,7 +52,7 @@ answer-step v w result was sends steps = answers-step (state v) (state (record v
 pub answer-is : (v : PairView) (w : SecondaryView) (result : Result Done Refusal) → IsPairView v → link.Sends result v.secondary.outgoing w.outgoing
     → secondary.NodeSteps (Acknowledges (has_room result) (is_out_of_memory result)) (peer.node v.secondary) (from_secondary.replied (λ done. done) result)
     (peer.node w)
-    → w.incoming ≡ v.secondary.incoming → w.steady ≡ true → IsTold (record { out = w.outgoing; inn = v.primary.incoming })
+    → w.incoming ≡ v.secondary.incoming → w.steady ≡ true → PacketsFollowIn (record { out = w.outgoing; inn = v.primary.incoming })
     → IsPairView (record v { secondary = w })
 answer-is v w result was sends steps inn steady told =
     view-kept AckOutEvent (is_out_of_memory result) v (record v { secondary = w }) (from_secondary.replied (λ done. done) result) was

@@ -4,7 +4,7 @@ ghost use Rattle.blocks.specs.declared.outcome.Reply.TheVariants as reply;
 ghost use Rattle.endpoint.specs.Calls.{is_out_of_memory};
 ghost use Rattle.model.specs.Pair.{AckInEvent, ReceiveEvent};
 ghost use Rattle.pair.specs.State.{state};
-ghost use Rattle.pair_protocol.specs.Carried.{IsTold};
+ghost use Rattle.pair_protocol.specs.Carried.{PacketsFollowIn};
 ghost use Rattle.pair_protocol.specs.State.{IsPairStep};
 ghost use Rattle.primary_protocol.specs.Steps.{replied};
 ghost use Rattle.secondary_protocol.specs.Steps as from_secondary;
@@ -27,7 +27,7 @@ impl Pair {
             return done;
         };
         self.primary.lay_outward(queue);
-        told_there(&self.primary, &self.secondary);
+        packets_follow_there(&self.primary, &self.secondary);
         done
     }
 
@@ -44,15 +44,15 @@ impl Pair {
             return done;
         };
         self.secondary.lay_outward(queue);
-        told_back(&self.primary, &self.secondary);
+        packets_follow_back(&self.primary, &self.secondary);
         done
     }
 }
 
 /// Proof hint for the way to the secondary: if the frames taken are a prefix of those sent, so are their packets.
 /// It does nothing.
-pub(crate) fn told_there(primary: &LocalNode, secondary: &PeerNode)
-    ensures { IsTold (record { out = primary.now.outgoing; inn = secondary.now.incoming }) }
+pub(crate) fn packets_follow_there(primary: &LocalNode, secondary: &PeerNode)
+    ensures { PacketsFollowIn (record { out = primary.now.outgoing; inn = secondary.now.incoming }) }
 {
     if let (Some(outgoing), Some(incoming)) = (primary.outgoing(), secondary.incoming()) {
         joined(outgoing, incoming);
@@ -60,8 +60,8 @@ pub(crate) fn told_there(primary: &LocalNode, secondary: &PeerNode)
 }
 
 /// Proof hint: the same for the way back to the primary. It does nothing.
-pub(crate) fn told_back(primary: &LocalNode, secondary: &PeerNode)
-    ensures { IsTold (record { out = secondary.now.outgoing; inn = primary.now.incoming }) }
+pub(crate) fn packets_follow_back(primary: &LocalNode, secondary: &PeerNode)
+    ensures { PacketsFollowIn (record { out = secondary.now.outgoing; inn = primary.now.incoming }) }
 {
     if let (Some(outgoing), Some(incoming)) = (secondary.outgoing(), primary.incoming()) {
         joined(outgoing, incoming);

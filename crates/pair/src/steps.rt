@@ -13,7 +13,7 @@ ghost use Rattle.secondary_protocol.specs.Steps as from_secondary;
 ghost use Rattle.secondary_protocol.specs.Steps.{plainly};
 ghost use Rattle.primary_protocol.specs.Transitions.{whole_blocks};
 
-use crate::carry::{told_back, told_there};
+use crate::carry::{packets_follow_back, packets_follow_there};
 use crate::{Event, Pair};
 use blocks::{Done, Refusal, Reply, What};
 use bytes::Bytes;
@@ -45,7 +45,7 @@ impl Pair {
         ensures step { IsPairStep SendEvent (link.is_out_of_memory result) (state self.old) (replied reply.Ok result) (state self.new) }
     {
         let done = self.primary.send();
-        told_there(&self.primary, &self.secondary);
+        packets_follow_there(&self.primary, &self.secondary);
         done
     }
 
@@ -68,7 +68,7 @@ impl Pair {
         ensures step { IsPairStep AckOutEvent (link.is_out_of_memory result) (state self.old) (from_secondary.replied (λ done. done) result) (state self.new) }
     {
         let done = self.secondary.ack_out();
-        told_back(&self.primary, &self.secondary);
+        packets_follow_back(&self.primary, &self.secondary);
         done
     }
 

@@ -9,10 +9,10 @@ use Rattle.link.specs.Directions.{QueueState}
 use Rattle.endpoint.specs.Calls.{PushedOne, Sends, Takes}
 use Rattle.endpoint.specs.PacketReceiver.{PacketReceiverState, with_received, SameRow}
 use Rattle.endpoint.specs.PacketSender.{PacketSenderState, with_pushed}
-use Rattle.endpoint.specs.Joined.{AreTold, BeginsPushed}
+use Rattle.endpoint.specs.Joined.{PacketsFollow, BeginsPushed}
 use Rattle.endpoint.specs.Lending.{IsQueueOf, GivenBack, without_queue, with_queue, taking_from, empty_handed}
 use Rattle.pair_protocol.specs.State.{Direction, AreEnds, IsDirection}
-use Rattle.pair_protocol.specs.Carried.{Gave, IsTold}
+use Rattle.pair_protocol.specs.Carried.{Gave, PacketsFollowIn}
 use Rattle.pair_protocol.proofs.Rows.{IsLent, lent, ends-back, ends-kept, ends-pushed, took-next, none-next}
 
 some-is : {X : Type 0} (x y : X) → Some x ≡ Some y → x ≡ y
@@ -76,7 +76,7 @@ pub carried : {R : Type 0} (capacity : ℕ) (out : PacketSenderState) (inn : Pac
     (result : Result R Refusal)
     (later ended : Option PacketReceiverState) (back : QueueState)
     → AreEnds capacity out inn → IsQueueOf q out → Takes frame result (Some (taking_from q inn)) later → GivenBack (Some back) later ended
-    → IsTold (record { out = Some (with_queue back (without_queue out)); inn = ended })
+    → PacketsFollowIn (record { out = Some (with_queue back (without_queue out)); inn = ended })
     → Gave frame result (record { out = Some out; inn = Some inn })
     × IsDirection capacity (record { out = Some (with_queue back (without_queue out)); inn = ended })
 carried {R} capacity out inn q frame result later ended back ends whose takes given told = go later takes given
@@ -89,9 +89,9 @@ carried {R} capacity out inn q frame result later ended back ends whose takes gi
         let l = lent capacity out inn q ends whose in
         let was = given.whose after back refl refl in
         let now = came-back capacity out inn q frame result (Some after) back l after takes refl was in
-        let t : AreTold (with_queue back (without_queue out)) (empty_handed after) = told (with_queue back (without_queue out))
+        let t : PacketsFollow (with_queue back (without_queue out)) (empty_handed after) = told (with_queue back (without_queue out))
         (empty_handed after) refl given.left in
-        let whole : AreTold out after = record { begins = t.begins; pushed = t.pushed; taken = t.taken } in
+        let whole : PacketsFollow out after = record { begins = t.begins; pushed = t.pushed; taken = t.taken } in
         let begins : BeginsPushed after.taken out.pushed = whole.begins (back.frames, now.0 ∙ sym l.rest) in (
           record {
             took = λ one is. record {
@@ -114,7 +114,7 @@ carried {R} capacity out inn q frame result later ended back ends whose takes gi
 
 -- What was pushed waits behind the others, where the link had room.
 pub sent-over : {R : Type 0} (capacity : ℕ) (d : Direction) (result : Result R Refusal) (out : Option PacketSenderState) → IsDirection capacity d
-    → Sends result d.out out → IsTold (record d { out = out }) → IsDirection capacity (record d { out = out })
+    → Sends result d.out out → PacketsFollowIn (record d { out = out }) → IsDirection capacity (record d { out = out })
 sent-over {R} capacity d result out is sends told = go d.out refl is result refl
   where
     go : (v : Option PacketSenderState) → d.out ≡ v

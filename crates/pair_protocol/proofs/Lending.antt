@@ -9,7 +9,7 @@ use Rattle.endpoint.specs.PacketReceiver.{PacketReceiverState, with_received}
 use Rattle.endpoint.specs.PacketSender.{PacketSenderState}
 use Rattle.endpoint.specs.Lending.{GivenOut, GivenBack, LaidBack, LaidIn, without_queue, with_queue, taking_from, empty_handed}
 use Rattle.pair_protocol.specs.State.{Direction, AreEnds, IsDirection}
-use Rattle.pair_protocol.specs.Carried.{Gave, IsTold}
+use Rattle.pair_protocol.specs.Carried.{Gave, PacketsFollowIn}
 use Rattle.pair_protocol.proofs.Carrying.{carried, lay-back}
 use Rattle.pair_protocol.proofs.Rows.{lent}
 
@@ -66,7 +66,7 @@ pub gave-over : {R : Type 0} (capacity : ℕ) (d : Direction) (q back : QueueSta
     (out ended_out : Option PacketSenderState) (inn later ended : Option PacketReceiverState)
     → IsDirection capacity d → GivenOut (Some q) d.out out → LaidIn q d.inn inn → Takes frame result inn later → GivenBack (Some back) later ended
     → LaidBack back out ended_out
-    → IsTold (record { out = ended_out; inn = ended }) → Gave frame result d × IsDirection capacity (record { out = ended_out; inn = ended })
+    → PacketsFollowIn (record { out = ended_out; inn = ended }) → Gave frame result d × IsDirection capacity (record { out = ended_out; inn = ended })
 gave-over {R} capacity d q back frame result out ended_out inn later ended is given laid takes gave over told = go d.out refl is
   where
     go : (v : Option PacketSenderState) → d.out ≡ v
@@ -80,7 +80,7 @@ gave-over {R} capacity d q back frame result out ended_out inn later ended is gi
         ∙ ap (option_map (with_queue back)) (given.left ∙ ap (option_map without_queue) there) in
         let done = carried capacity o ends.0 q frame result later ended back ends.2 (given.whose o q there refl)
         (subst (λ (v : Option PacketReceiverState). Takes frame result v later) now takes) gave
-        (subst (λ (v : Option PacketSenderState). IsTold (record { out = v; inn = ended })) last told) in (
+        (subst (λ (v : Option PacketSenderState). PacketsFollowIn (record { out = v; inn = ended })) last told) in (
           record {
             took = λ one is. let g = done.0.took one is in record {
               out = g.out;

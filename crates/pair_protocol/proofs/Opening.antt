@@ -24,7 +24,7 @@ pub not-opened : (sync loss : ℕ) (out_of_memory : Bool) (p : PairState) (e : R
     → ((h : PairHistory) → PairHas p h → first_refusal (open_pair_tests h sync loss out_of_memory) ≡ Some e)
     → IsPairStep (OpenEvent sync loss) out_of_memory p (reply.Refused e) p
 not-opened sync loss out_of_memory p e refuses = record {
-  said = λ h has. sym (ap (λ (r : Reply × PairHistory). r.0) (does h has));
+  replies = λ h has. sym (ap (λ (r : Reply × PairHistory). r.0) (does h has));
   after = λ h has. subst (PairHas p) (sym (ap (λ (r : Reply × PairHistory). r.1) (does h has))) has;
 }
   where
@@ -44,7 +44,7 @@ pub opened : (sync loss : ℕ) (out_of_memory : Bool) (p q : PairState) (said ot
     → secondary.NodeSteps (OpensToo 0) (secondary_of p) other (secondary_of q)
     → IsPairStep (OpenEvent sync loss) out_of_memory p said q
 opened sync loss out_of_memory p q said other passes here there = record {
-  said = λ h has. here.said h.primary has.primary ∙ sym (ap (λ (r : Reply × PairHistory). r.0) (does h has));
+  replies = λ h has. here.replies h.primary has.primary ∙ sym (ap (λ (r : Reply × PairHistory). r.0) (does h has));
   after = λ h has. record {
     primary = subst (λ (r : Reply × PairHistory). primary.NodeHas (primary_of q) r.1.primary) (sym (does h has)) (here.after h.primary has.primary);
     secondary = subst (λ (r : Reply × PairHistory). secondary.NodeHas (secondary_of q) r.1.secondary) (sym (does h has))

@@ -83,8 +83,8 @@ waiting-is : (capacity pushed taken : ℕ) (out : PacketSenderState) (inn : Pack
     → length inn.taken ≡ taken → pushed - taken ≡ length ends.waiting
 waiting-is capacity pushed taken out inn ends sent came =
     let rows = ap length ends.row ∙ length-append inn.frames ends.waiting in
-    let a = ends.told.pushed in
-    let b = ends.told.taken in
+    let a = ends.packets.pushed in
+    let b = ends.packets.taken in
     omega (arith, rows, a, b, sent, came)
 
 pub room-is : (p : PairState) (h : PairHistory) (capacity : ℕ) (out : PacketSenderState) (inn : PacketReceiverState) → PairHas p h

@@ -10,7 +10,7 @@ use Rattle.laws.proofs.Lists.Elements.{get-end}
 use Rattle.link.specs.Directions.{QueueState}
 use Rattle.endpoint.specs.PacketReceiver.{PacketReceiverState}
 use Rattle.endpoint.specs.PacketSender.{PacketSenderState, with_pushed}
-use Rattle.endpoint.specs.Joined.{AreTold, BeginsPushed}
+use Rattle.endpoint.specs.Joined.{PacketsFollow, BeginsPushed}
 use Rattle.endpoint.specs.Lending.{IsQueueOf, without_queue, with_queue, empty_handed}
 use Rattle.pair_protocol.specs.Carried.{next_of}
 use Rattle.pair_protocol.specs.State.{AreEnds}
@@ -54,7 +54,7 @@ lent capacity out inn q ends whose =
 
 -- A packet was pushed: it waits behind the others.
 pub ends-pushed : (capacity : ℕ) (out : PacketSenderState) (inn : PacketReceiverState) (packet : Packet) (frame : List ℕ) → AreEnds capacity out inn
-    → IfSome out.room (λ n. n ≡ 0 → ⊥) → AreTold (with_pushed packet frame out) inn
+    → IfSome out.room (λ n. n ≡ 0 → ⊥) → PacketsFollow (with_pushed packet frame out) inn
     → AreEnds capacity (with_pushed packet frame out) inn
 ends-pushed capacity out inn packet frame ends room told =
     let free : capacity - length ends.waiting ≡ 0 → ⊥ = subst (λ (v : Option ℕ). IfSome v (λ n. n ≡ 0 → ⊥)) ends.room room in
@@ -69,7 +69,7 @@ ends-pushed capacity out inn packet frame ends room told =
       few = omega (arith, one, more);
       queued = ends.queued;
       away = ends.away;
-      told = told;
+      packets = told;
     }
   where
     less : (n : ℕ) → n ≡ capacity - length ends.waiting → (capacity - length ends.waiting ≡ 0 → ⊥) → length ends.waiting ≤ capacity
@@ -88,13 +88,13 @@ ends-kept capacity out inn partly ends = record {
   few = ends.few;
   queued = ends.queued;
   away = ends.away;
-  told = record { begins = ends.told.begins; pushed = ends.told.pushed; taken = ends.told.taken };
+  packets = record { begins = ends.packets.begins; pushed = ends.packets.pushed; taken = ends.packets.taken };
 }
 
 -- The queue lay at the side that takes, and is back: what was taken of it is taken.
 pub ends-back : (capacity : ℕ) (out : PacketSenderState) (inn after : PacketReceiverState) (q back : QueueState) → IsLent capacity out inn q
     → back.taken ≡ after.frames → back.capacity ≡ capacity → after.frames ++ back.frames ≡ inn.frames ++ q.frames → length back.frames ≤ length q.frames
-    → AreTold out after → AreEnds capacity (with_queue back (without_queue out)) (empty_handed after)
+    → PacketsFollow out after → AreEnds capacity (with_queue back (without_queue out)) (empty_handed after)
 ends-back capacity out inn after q back l taken size row fewer told = record {
   waiting = back.frames;
   row = l.rest ∙ sym row;
@@ -103,7 +103,7 @@ ends-back capacity out inn after q back l taken size row fewer told = record {
   few = omega (arith, few);
   queued = refl;
   away = refl;
-  told = record { begins = told.begins; pushed = told.pushed; taken = told.taken };
+  packets = record { begins = told.begins; pushed = told.pushed; taken = told.taken };
 }
   where
     few : length back.frames ≤ capacity
@@ -132,6 +132,6 @@ pub none-next : (capacity : ℕ) (out : PacketSenderState) (inn : PacketReceiver
 none-next capacity out inn q ends l none =
     let rows = ap length l.rest ∙ length-append inn.frames q.frames in
     let empty : length q.frames ≡ 0 = ap length none in
-    let a = ends.told.pushed in
-    let b = ends.told.taken in
+    let a = ends.packets.pushed in
+    let b = ends.packets.taken in
     ap (option_map (λ packet. Ok packet)) (slice_get_past out.pushed (length inn.taken) (omega (arith, rows, empty, a, b)))

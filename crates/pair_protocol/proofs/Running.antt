@@ -6,7 +6,7 @@ use Rattle.pair_protocol.specs.State.{PairHas, PairState, IsPairStep, Ran, answe
 
 -- nothing happened
 pub ran-none : (p : PairState) → Ran [] [] p p
-ran-none p = record { said = λ h has. refl; after = λ h has. has }
+ran-none p = record { answers = λ h has. refl; after = λ h has. has }
 
 answered-more : (events : List Event) (replies : List Reply) (event : Event) (one : Reply) → length events ≡ length replies
     → answered (events ++ event ∷ []) (replies ++ one ∷ []) ≡ answered events replies ++ (event, is_out_of_memory one) ∷ []
@@ -31,10 +31,10 @@ pub ran-more : (events : List Event) (replies : List Reply) (event : Event) (one
     → Ran events replies p q → IsPairStep event (is_out_of_memory one) q one next
     → Ran (events ++ event ∷ []) (replies ++ one ∷ []) p next
 ran-more events replies event one p q next same ran steps = record {
-  said = λ h has.
+  answers = λ h has.
       let now = ran.after h has in
-      ap (λ (l : List Reply). l ++ one ∷ []) (ran.said h has)
-      ∙ ap (λ (r : Reply). (run (answered events replies) h).0 ++ r ∷ []) (steps.said (run (answered events replies) h).1 now)
+      ap (λ (l : List Reply). l ++ one ∷ []) (ran.answers h has)
+      ∙ ap (λ (r : Reply). (run (answered events replies) h).0 ++ r ∷ []) (steps.replies (run (answered events replies) h).1 now)
       ∙ sym (ap (λ (r : List Reply × PairHistory). r.0) (all h));
   after = λ h has.
       subst (λ (r : List Reply × PairHistory). PairHas next r.1) (sym (all h)) (steps.after (run (answered events replies) h).1 (ran.after h has));

@@ -60,7 +60,7 @@ pub on-primary : (event : Event) (out_of_memory : Bool) (p q : PairState) (said 
     → ((h : PairHistory) → PairHas p h → step event out_of_memory h ≡ on_primary f h)
     → primary.IsStep f (primary_of p) said (primary_of q) → secondary_of p ≡ secondary_of q → IsPairStep event out_of_memory p said q
 on-primary event out_of_memory p q said f does steps same = record {
-  said = λ h has. steps.said h.primary has.primary ∙ sym (ap (λ (r : Reply × PairHistory). r.0) (does h has));
+  replies = λ h has. steps.replies h.primary has.primary ∙ sym (ap (λ (r : Reply × PairHistory). r.0) (does h has));
   after = λ h has. record {
     primary = subst (λ (r : Reply × PairHistory). primary.NodeHas (primary_of q) r.1.primary) (sym (does h has)) (steps.after h.primary has.primary);
     secondary = subst (λ (r : Reply × PairHistory). secondary.NodeHas (secondary_of q) r.1.secondary) (sym (does h has))
@@ -74,7 +74,7 @@ pub on-secondary : (event : Event) (out_of_memory : Bool) (p q : PairState) (sai
     → ((h : PairHistory) → PairHas p h → step event out_of_memory h ≡ on_secondary f h)
     → secondary.IsStep f (secondary_of p) said (secondary_of q) → primary_of p ≡ primary_of q → IsPairStep event out_of_memory p said q
 on-secondary event out_of_memory p q said f does steps same = record {
-  said = λ h has. steps.said h.secondary has.secondary ∙ sym (ap (λ (r : Reply × PairHistory). r.0) (does h has));
+  replies = λ h has. steps.replies h.secondary has.secondary ∙ sym (ap (λ (r : Reply × PairHistory). r.0) (does h has));
   after = λ h has. record {
     primary = subst (λ (r : Reply × PairHistory). primary.NodeHas (primary_of q) r.1.primary) (sym (does h has))
         (subst (λ (n : primary.NodeState). primary.NodeHas n h.primary) same has.primary);
@@ -153,7 +153,7 @@ sends-step p q result is sends steps same =
         (λ out inn there here ends. room-is p h p.primary.settings.link out inn has ends
         (ap (λ (x : Settings). x.link) (sym has.primary.leaves.core.rest.settings)) there here) in
         send-same-room h.primary (is_out_of_memory result) (has_room result) (has_room_there h) (from_primary.replied reply.Ok result)
-        (steps.said h.primary has.primary)
+        (steps.replies h.primary has.primary)
         (ok-room (from_primary.replied reply.Ok) (λ e. refl) (has_room_there h) result says.0)
         (full-room (from_primary.replied reply.Ok) (λ e. refl) (λ d. (d, refl)) (has_room_there h) result says.1)
 
@@ -174,6 +174,6 @@ answers-step p q result is sends steps same =
         (λ out inn there here ends. room-back-is p h p.secondary.settings.link out inn has ends
         (ap (λ (x : Settings). x.link) (sym has.secondary.leaves.core.settings)) there here) in
         answer-same-room h.secondary (is_out_of_memory result) (has_room result) (answers_have_room h) (from_secondary.replied (λ done. done) result)
-        (steps.said h.secondary has.secondary)
+        (steps.replies h.secondary has.secondary)
         (ok-room (from_secondary.replied (λ done. done)) (λ e. refl) (answers_have_room h) result says.0)
         (full-room (from_secondary.replied (λ done. done)) (λ e. refl) (λ d. (d, refl)) (answers_have_room h) result says.1)

@@ -60,7 +60,7 @@ receives-step p q result None gave steps grows same =
   where
     does : (h : PairHistory) → PairHas p h → receive None (is_out_of_memory result) h.secondary ≡ receive (next_frame h) (is_out_of_memory result) h.secondary
     does h has = receive-none h.secondary (is_out_of_memory result) (next_frame h) (from_secondary.replied (λ done. done) result)
-        (steps.said h.secondary has.secondary)
+        (steps.replies h.secondary has.secondary)
         (λ nothing. let g = gave.none refl
         (refused-of (from_secondary.replied (λ done. done)) (λ e. refl) (λ d. (d, refl)) result NothingThere nothing) in next-is p h g.out g.inn has
         g.out_there g.in_there ∙ g.next)
@@ -78,7 +78,7 @@ receives-step p q result (Some one) gave steps grows same =
     fed h has = elim (out-of-memory-or result) [
       | inl fine ↦ fine
       | inr short ↦
-          let said : from_secondary.replied (λ (done : Done). done) result ≡ (receive (Some one) false h.secondary).0 = steps.said h.secondary has.secondary in
+          let said : from_secondary.replied (λ (done : Done). done) result ≡ (receive (Some one) false h.secondary).0 = steps.replies h.secondary has.secondary in
           let refused : reply.Refused NoMemory ≡ (receive (next_frame h) false h.secondary).0 = ap (from_secondary.replied (λ (done : Done). done)) (sym short)
           ∙ said ∙ ap (λ (f : Option Received). (receive f false h.secondary).0) (sym (next h has)) in
           let still : (step ReceiveEvent false h).1 ≡ h = refused_steps_change_nothing ReceiveEvent false h NoMemory (sym refused) refl in
@@ -103,7 +103,7 @@ acknowledges-step p q result None gave steps grows same =
     (λ h has. ap (λ (r : Reply × PrimaryHistory). (r.0, record h { primary = r.1 })) (sym (does h has))) steps same
   where
     does : (h : PairHistory) → PairHas p h → ack_in None (is_out_of_memory result) h.primary ≡ ack_in (next_answer h) (is_out_of_memory result) h.primary
-    does h has = ack-in-none h.primary (is_out_of_memory result) (next_answer h) (from_primary.replied reply.Ok result) (steps.said h.primary has.primary)
+    does h has = ack-in-none h.primary (is_out_of_memory result) (next_answer h) (from_primary.replied reply.Ok result) (steps.replies h.primary has.primary)
         (λ nothing. let g = gave.none refl (refused-of (from_primary.replied reply.Ok) (λ e. refl) (λ d. (d, refl)) result NothingThere nothing) in next-back-is
         p h g.out g.inn has g.out_there g.in_there ∙ g.next)
 acknowledges-step p q result (Some one) gave steps grows same =
@@ -120,7 +120,7 @@ acknowledges-step p q result (Some one) gave steps grows same =
     fed h has = elim (out-of-memory-or result) [
       | inl fine ↦ fine
       | inr short ↦
-          let said : from_primary.replied reply.Ok result ≡ (ack_in (Some one) false h.primary).0 = steps.said h.primary has.primary in
+          let said : from_primary.replied reply.Ok result ≡ (ack_in (Some one) false h.primary).0 = steps.replies h.primary has.primary in
           let refused : reply.Refused NoMemory ≡ (ack_in (next_answer h) false h.primary).0 = ap (from_primary.replied reply.Ok) (sym short) ∙ said
           ∙ ap (λ (f : Option Received). (ack_in f false h.primary).0) (sym (next h has)) in
           let still : (step AckInEvent false h).1 ≡ h = refused_steps_change_nothing AckInEvent false h NoMemory (sym refused) refl in

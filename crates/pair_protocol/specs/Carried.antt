@@ -6,7 +6,7 @@ use Rattle.blocks.specs.declared.refusal.Refusal.TheVariants.{NothingThere}
 use Rattle.model.specs.Frames.{Received}
 use Rattle.endpoint.specs.PacketReceiver.{PacketReceiverState}
 use Rattle.endpoint.specs.PacketSender.{PacketSenderState}
-use Rattle.endpoint.specs.Joined.{AreTold}
+use Rattle.endpoint.specs.Joined.{PacketsFollow}
 use Rattle.pair_protocol.specs.State.{Direction}
 
 -- the first packet that was pushed and not taken yet, as it is received
@@ -27,5 +27,5 @@ pub record Gave {R : Type 0} (frame : Option Received) (result : Result R Refusa
   pub none : frame ≡ None → result ≡ Err NothingThere → GivesNext d None
 
 -- if the direction has both sides, they read their frames alike
-abbrev pub IsTold : Direction → Type 0
-IsTold d = (out : PacketSenderState) (inn : PacketReceiverState) → d.out ≡ Some out → d.inn ≡ Some inn → AreTold out inn
+abbrev pub PacketsFollowIn : Direction → Type 0
+PacketsFollowIn d = (out : PacketSenderState) (inn : PacketReceiverState) → d.out ≡ Some out → d.inn ≡ Some inn → PacketsFollow out inn

@@ -9,7 +9,7 @@ use Rattle.model.specs.Theorems.{Opening, pair_at, SharesSettings, HasRanges}
 use Rattle.model.specs.Headline.{IsHonest, opening_marked}
 use Rattle.endpoint.specs.Calls.{pushed_of, taken_of}
 use Rattle.endpoint.specs.PacketReceiver.{PacketReceiverState}
-use Rattle.endpoint.specs.Joined.{AreTold}
+use Rattle.endpoint.specs.Joined.{PacketsFollow}
 use Rattle.endpoint.specs.PacketSender.{PacketSenderState}
 use Rattle.primary_protocol.specs.Core.{PrimaryState}
 use Rattle.primary_protocol.specs.Node as primary
@@ -48,7 +48,7 @@ pub record AreEnds (capacity : ℕ) (out : PacketSenderState) (inn : PacketRecei
   pub few : length waiting ≤ capacity
   pub queued : inn.queued ≡ Some []
   pub away : inn.capacity ≡ None
-  pub told : AreTold out inn
+  pub packets : PacketsFollow out inn
 
 -- a direction has both sides, or none
 abbrev pub IsDirection : ℕ → Direction → Type 0
@@ -83,7 +83,7 @@ pub record IsPair (p : PairState) : Type 0 where
 -- The call was the event's step of the model, for every history that the pair refined; `out_of_memory` says whether
 -- memory was refused.
 pub record IsPairStep (event : Event) (out_of_memory : Bool) (p : PairState) (one : Reply) (next : PairState) : Type 0 where
-  pub said : (h : PairHistory) → PairHas p h → one ≡ (step event out_of_memory h).0
+  pub replies : (h : PairHistory) → PairHas p h → one ≡ (step event out_of_memory h).0
   pub after : (h : PairHistory) → PairHas p h → PairHas next (step event out_of_memory h).1
 
 -- memory was refused, as the reply says
@@ -100,7 +100,7 @@ answered (event ∷ events) (one ∷ replies) = (event, is_out_of_memory one) �
 -- For every history that the pair refined, the replies are those of the run over the events, and the pair refines the
 -- history that the run leads to.
 pub record Ran (events : List Event) (replies : List Reply) (p q : PairState) : Type 0 where
-  pub said : (h : PairHistory) → PairHas p h → replies ≡ (run (answered events replies) h).0
+  pub answers : (h : PairHistory) → PairHas p h → replies ≡ (run (answered events replies) h).0
   pub after : (h : PairHistory) → PairHas p h → PairHas q (run (answered events replies) h).1
 
 -- The opening's identifiers were honest: the primary had data, and if the peer's current identifier was the primary's

@@ -12,8 +12,8 @@ use Rattle.model.specs.Frames.{Acknowledged}
 use Rattle.transferlog.specs.Log.{LogState, acked, awaits_in, barrier_acked, changing, confirming, is_asked, may_confirm}
 use Rattle.transferlog.specs.Ring.{write_at}
 use Rattle.transferlog.specs.Writes.{answering}
-use Rattle.transferlog.specs.declared.report.Answer.{Answer}
-use Rattle.transferlog.specs.declared.report.Named.{Named}
+use Rattle.transferlog.specs.declared.report.PeerAck.{PeerAck}
+use Rattle.transferlog.specs.declared.report.AckedWrite.{AckedWrite}
 use Rattle.primary_protocol.specs.Core.{EndState, PrimaryState}
 use Rattle.primary_protocol.specs.Transitions.{logged}
 use Rattle.primary_protocol.specs.Taking.{Taken, answered, confirmed, is_in_epoch, is_unsent, named}
@@ -25,7 +25,7 @@ use Rattle.primary_core.proofs.SoundLog.{keeps-answering, sound-confirming}
 
 -- Of a write.
 
-pub acked-steps : (s : Settings) (kind : Answer) (of : Named) (l m : LogState) (r : Result (Option ℕ) Refusal) (barrier : Option ℕ)
+pub acked-steps : (s : Settings) (kind : PeerAck) (of : AckedWrite) (l m : LogState) (r : Result (Option ℕ) Refusal) (barrier : Option ℕ)
     → (let got : Result (Option ℕ) Refusal × LogState = (r, m) in got ≡ acked kind of l) → r ≡ Ok barrier → IsSoundLog s l → Steps s l m barrier
 acked-steps s kind of l m r barrier is ok sound = go (is_asked l.protocol kind && awaits_in (write_at of.number l.writes) of) is
   where
@@ -38,7 +38,7 @@ acked-steps s kind of l m r barrier is ok sound = go (is_asked l.protocol kind &
         steps-changing s of.number answering l m barrier keeps-answering (rw (same, state) refl) sound
     go false is = absurd (let result : r ≡ Err UnknownAck = ap (λ (p : Result (Option ℕ) Refusal × LogState). p.0) is in cc)
 
-pub acked-not : (kind : Answer) (of : Named) (l m : LogState) (r : Result (Option ℕ) Refusal) (e : Refusal)
+pub acked-not : (kind : PeerAck) (of : AckedWrite) (l m : LogState) (r : Result (Option ℕ) Refusal) (e : Refusal)
     → (let got : Result (Option ℕ) Refusal × LogState = (r, m) in got ≡ acked kind of l) → r ≡ Err e → m ≡ l
 acked-not kind of l m r e is err = go (is_asked l.protocol kind && awaits_in (write_at of.number l.writes) of) is
   where
@@ -47,14 +47,14 @@ acked-not kind of l m r e is err = go (is_asked l.protocol kind && awaits_in (wr
     go true is = absurd (let result : r ≡ Ok (changing of.number answering l).0 = ap (λ (p : Result (Option ℕ) Refusal × LogState). p.0) is in cc)
     go false is = ap (λ (p : Result (Option ℕ) Refusal × LogState). p.1) is
 
-unfolded-answered : (name : What) (kind : Answer) (ack : Acknowledged) (s : PrimaryState) (p : Result (Option ℕ) Refusal × LogState)
+unfolded-answered : (name : What) (kind : PeerAck) (ack : Acknowledged) (s : PrimaryState) (p : Result (Option ℕ) Refusal × LogState)
     → p ≡ acked kind (named ack) s.log
     → answered name kind ack s ≡ elim p.0 as (λ _. Taken) [ Err refusal ↦ Err (refusal, s) | Ok barrier ↦ Ok (logged name (barrier, p.1) s) ]
 unfolded-answered name kind ack s p is =
     ap (λ (q : Result (Option ℕ) Refusal × LogState). elim q.0 as
     (λ _. Taken) [ Err refusal ↦ Err (refusal, s) | Ok barrier ↦ Ok (logged name (barrier, q.1) s) ]) (sym is)
 
-pub answered-err : (name : What) (kind : Answer) (ack : Acknowledged) (s : PrimaryState) (m : LogState) (r : Result (Option ℕ) Refusal) (e : Refusal)
+pub answered-err : (name : What) (kind : PeerAck) (ack : Acknowledged) (s : PrimaryState) (m : LogState) (r : Result (Option ℕ) Refusal) (e : Refusal)
     → (let got : Result (Option ℕ) Refusal × LogState = (r, m) in got ≡ acked kind (named ack) s.log) → r ≡ Err e
     → taken_as (Err e) (record s { log = m }) ≡ answered name kind ack s
 answered-err name kind ack s m r e is err =

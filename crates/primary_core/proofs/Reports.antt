@@ -14,8 +14,8 @@ pub length-below : (n : ℕ) → length (below n) ≡ n
 length-below zero = refl
 length-below (suc n) = simp length-append (omega (arith, length-below n))
 
-pub length-unmarking : (released : List Released) (latest : List ℕ) (marks : List Bool) → length (unmarking released latest marks) ≡ length marks
-length-unmarking released latest marks = length-map (below (length marks)) _ ∙ length-below (length marks)
+pub length-unmarking : (released : List Released) (last_writes : List ℕ) (marks : List Bool) → length (unmarking released last_writes marks) ≡ length marks
+length-unmarking released last_writes marks = length-map (below (length marks)) _ ∙ length-below (length marks)
 
 less : (accepted extent : ℕ) (b : Bool) (a : Active) (active : List Active) → IsCounted accepted a → AllByRecursion (IsCounted accepted) active
     → AllByRecursion (IsCounted accepted) (one_less extent active)
@@ -38,7 +38,7 @@ pub sound-reporting : (s : PrimaryState) → IsSound s → IsSound (reporting s)
 sound-reporting s is = record {
   in_range = is.in_range;
   log = is.log;
-  marks = length-unmarking s.log.released s.log.latest s.marks ∙ is.marks;
+  marks = length-unmarking s.log.released s.log.last_writes s.marks ∙ is.marks;
   counted = counted-leaving s.log.accepted s.log.released s.activity is.counted;
   standing = is.standing;
   places = is.places;

@@ -10,7 +10,7 @@ use Rattle.blocks.specs.declared.refusal.Refusal.TheVariants.{NoMemory}
 use Rattle.endpoint.specs.Meaning.{meaning}
 use Rattle.packets.specs.declared.packet.Packet.{Packet}
 use Rattle.packets.specs.Spelling.{IsSpellable}
-use Rattle.handshakes.specs.Handshake.{said}
+use Rattle.handshakes.specs.Handshake.{hello_frame}
 use Rattle.blocks.specs.declared.settings.Settings.{Settings}
 use Rattle.blocks.specs.declared.tuple.Tuple.{Tuple}
 use Rattle.model.specs.Frames as frames
@@ -20,7 +20,7 @@ use Rattle.primary_protocol.specs.Core.{EndState, PrimaryState, with_end}
 use Rattle.primary_protocol.specs.Transitions.{called, due, next_place, owed, pushed_item, sent_from}
 use Rattle.primary_core.specs.Send.{sent_at, sent_now, sent_owed}
 
-pub due-item : (s : PrimaryState) (e : EndState) (item : StreamItem) → s.end ≡ Some e → nat_lt e.said 3 ≡ false → slice_get e.unsent 0 ≡ Some item
+pub due-item : (s : PrimaryState) (e : EndState) (item : StreamItem) → s.end ≡ Some e → nat_lt e.hello_sent 3 ≡ false → slice_get e.unsent 0 ≡ Some item
     → due s ≡ Ok (frame_of (next_place e s) item)
 due-item s e item is over first = rw (is, due) (rw (over, owed) (rw first refl))
 
@@ -35,14 +35,14 @@ due-told (Ok p) d x is ok err = (is ∙ ap (λ (y : frames.Packet). Ok y) (sym o
 due-told (Err e) d x is ok err = inr (err, rw is refl)
 
 -- the own hello is said
-pub all-said : (n : ℕ) (settings : Settings) (own : Tuple) → said n settings own ≡ None → nat_lt n 3 ≡ false
+pub all-said : (n : ℕ) (settings : Settings) (own : Tuple) → hello_frame n settings own ≡ None → nat_lt n 3 ≡ false
 all-said zero settings own none = absurd (cc)
 all-said (suc zero) settings own none = absurd (cc)
 all-said (suc (suc zero)) settings own none = absurd (cc)
 all-said (suc (suc (suc n))) settings own none = le-ltb (suc (suc (suc n))) 3 (omega arith)
 
 -- The first item that is due, at this place.
-pub item-is-due : (s : PrimaryState) (e : EndState) (item : StreamItem) (place : ℕ) → s.end ≡ Some e → nat_lt e.said 3 ≡ false
+pub item-is-due : (s : PrimaryState) (e : EndState) (item : StreamItem) (place : ℕ) → s.end ≡ Some e → nat_lt e.hello_sent 3 ≡ false
     → item ≡ get_or e.unsent 0 item → 0 < length e.unsent → place ≡ next_place e s → due s ≡ Ok (frame_of place item)
 item-is-due s e item place is over lookup some at =
     due-item s e item is over (first-item e.unsent item lookup some) ∙ ap (λ (k : ℕ). Ok (frame_of k item)) (sym at)
@@ -52,7 +52,7 @@ item-is-due s e item place is over lookup some at =
 -- The stream.
 
 -- the first item that is due is sent
-pub sent-item : (s : PrimaryState) (e : EndState) (item : StreamItem) (command : Command) (place : ℕ) → s.end ≡ Some e → nat_lt e.said 3 ≡ false
+pub sent-item : (s : PrimaryState) (e : EndState) (item : StreamItem) (command : Command) (place : ℕ) → s.end ≡ Some e → nat_lt e.hello_sent 3 ≡ false
     → slice_get e.unsent 0 ≡ Some item → ((k : ℕ) → command ≡ command_of (frame_of k item)) → place ≡ next_place e s
     → pushed_item (what.Frame command (Some place)) (Some item) (with_end (λ x. record x { unsent = drop 1 x.unsent }) s) ≡ sent_now s
 sent-item s e item command place is over first names at =

@@ -4,7 +4,7 @@ use Rattle.std.specs.Prelude.{filter, map}
 use Rattle.std.specs.List.{AllByRecursion}
 use Rattle.std.proofs.lemmas.List.{length-replicate}
 use Rattle.blocks.specs.declared.settings.Settings.{Settings}
-use Rattle.transferlog.specs.Log.{LogState, moved, changing, accepting, with_latest, confirming, draining, accepted_write, home_in}
+use Rattle.transferlog.specs.Log.{LogState, moved, changing, accepting, with_last_write, confirming, draining, accepted_write, home_in}
 use Rattle.transferlog.specs.Ring.{Each, on}
 use Rattle.transferlog.specs.Writes.{LogWrite, is_open, is_completed, is_released, completed_of, released_of, sending, answering, storing, failing, unlinking}
 use Rattle.transferlog.proofs.Moves.{each_filter, each_changed}
@@ -53,7 +53,7 @@ sound-moved : (s : Settings) (f : LogWrite → LogWrite) (confirmed : ℕ) (l : 
     → ((ws : List LogWrite) → Each (IsInside s.blocks) ws → Each (IsInside s.blocks) (map f ws)) → IsSoundLog s l → IsSoundLog s (moved f confirmed l)
 sound-moved s f confirmed l keeps is = record {
   backlog = is.backlog;
-  latest = is.latest;
+  last_writes = is.last_writes;
   writes = each_filter (IsInside s.blocks) (λ w. not (is_released confirmed w)) (map f l.writes) (keeps l.writes is.writes);
   completed = told-completed s.blocks (filter is_completed (map f (filter is_open l.writes)))
       (each_filter (IsInside s.blocks) is_completed (map f (filter is_open l.writes))
@@ -65,18 +65,18 @@ sound-moved s f confirmed l keeps is = record {
 -- something happens to one write
 pub sound-changing : (s : Settings) (number : ℕ) (f : LogWrite → LogWrite) (l : LogState) → KeepsRange f → IsSoundLog s l → IsSoundLog s (changing number f l).1
 sound-changing s number f l keeps is =
-    let after = sound-moved s (on number f) l.confirmed l (λ ws each. each_changed (IsInside s.blocks) number f ws (keeps s.blocks) each) is in
-    record { backlog = after.backlog; latest = after.latest; writes = after.writes; completed = after.completed; released = after.released }
+    let after = sound-moved s (on number f) l.acknowledged_through l (λ ws each. each_changed (IsInside s.blocks) number f ws (keeps s.blocks) each) is in
+    record { backlog = after.backlog; last_writes = after.last_writes; writes = after.writes; completed = after.completed; released = after.released }
 
-length-latest : (number first count : ℕ) (latest : List ℕ) → first + count ≤ length latest → length (with_latest number first count latest) ≡ length latest
-length-latest number first count latest inside = simp (length-append, length-take, length-replicate, length-drop) (omega arith)
+length-latest : (number first count : ℕ) (last_writes : List ℕ) → first + count ≤ length last_writes → length (with_last_write number first count last_writes) ≡ length last_writes
+length-latest number first count last_writes inside = simp (length-append, length-take, length-replicate, length-drop) (omega arith)
 
 -- a write is accepted
 pub sound-accepting : (s : Settings) (first count : ℕ) (contents : List ℕ) (l : LogState) → first + count ≤ s.blocks → length contents ≡ 4096 * count
     → IsSoundLog s l → IsSoundLog s (accepting first count contents l).1
 sound-accepting s first count contents l inside whole is = record {
   backlog = is.backlog;
-  latest = length-latest (l.accepted + 1) first count l.latest (omega (arith, is.latest)) ∙ is.latest;
+  last_writes = length-latest (l.accepted + 1) first count l.last_writes (omega (arith, is.last_writes)) ∙ is.last_writes;
   writes = each_pushed (IsInside s.blocks) l.writes (accepted_write first count contents (home_in l.connection (l.accepted + 1) l.epochs).0 l) is.writes
       (record { numbered = omega arith; inside = inside; whole = whole });
   completed = tt;
@@ -87,15 +87,15 @@ sound-accepting s first count contents l inside whole is = record {
 pub sound-confirming : (s : Settings) (number size : ℕ) (l : LogState) → IsSoundLog s l → IsSoundLog s (confirming number size l)
 sound-confirming s number size l is = record {
   backlog = is.backlog;
-  latest = is.latest;
-  writes = each_filter (IsInside s.blocks) (λ w. not (is_released (l.confirmed + size) w)) l.writes is.writes;
+  last_writes = is.last_writes;
+  writes = each_filter (IsInside s.blocks) (λ w. not (is_released (l.acknowledged_through + size) w)) l.writes is.writes;
   completed = tt;
-  released = told-released s.blocks (filter (is_released (l.confirmed + size)) l.writes)
-      (each_filter (IsInside s.blocks) (is_released (l.confirmed + size)) l.writes is.writes);
+  released = told-released s.blocks (filter (is_released (l.acknowledged_through + size)) l.writes)
+      (each_filter (IsInside s.blocks) (is_released (l.acknowledged_through + size)) l.writes is.writes);
 }
 
 -- the connection is closed
 pub sound-draining : (s : Settings) (l : LogState) → IsSoundLog s l → IsSoundLog s (draining l)
 sound-draining s l is =
-    let after = sound-moved s unlinking l.confirmed l (λ ws each. each_map (IsInside s.blocks) unlinking ws (keeps-unlinking s.blocks) each) is in
-    record { backlog = after.backlog; latest = after.latest; writes = after.writes; completed = after.completed; released = after.released }
+    let after = sound-moved s unlinking l.acknowledged_through l (λ ws each. each_map (IsInside s.blocks) unlinking ws (keeps-unlinking s.blocks) each) is in
+    record { backlog = after.backlog; last_writes = after.last_writes; writes = after.writes; completed = after.completed; released = after.released }

@@ -51,11 +51,11 @@ and-true true = refl
 and-true false = refl
 
 -- a block outside of the range is not cleared
-not-below : (r : Released) (latest : List ℕ) (b : ℕ) → b < r.first → clears r b latest ≡ false
-not-below r latest b less = rw (lt-leb r.first b less) (rw (and-false r.clears) refl)
+not-below : (r : Released) (last_writes : List ℕ) (b : ℕ) → b < r.first → clears r b last_writes ≡ false
+not-below r last_writes b less = rw (lt-leb r.first b less) (rw (and-false r.clears) refl)
 
-not-above : (r : Released) (latest : List ℕ) (b : ℕ) → r.first + r.count ≤ b → clears r b latest ≡ false
-not-above r latest b more = rw (le-ltb b (r.first + r.count) more) (rw (and-false (nat_le r.first b)) (rw (and-false r.clears) refl))
+not-above : (r : Released) (last_writes : List ℕ) (b : ℕ) → r.first + r.count ≤ b → clears r b last_writes ≡ false
+not-above r last_writes b more = rw (le-ltb b (r.first + r.count) more) (rw (and-false (nat_le r.first b)) (rw (and-false r.clears) refl))
 
 -- the tests of the next block agree with those of this one, but at it
 upto-next : (block b : ℕ) → b ≢ block → nat_lt b (block + 1) ≡ nat_lt b block
@@ -64,20 +64,20 @@ upto-next block b other = elim (cases_lt b block) [
   | inr more ↦ le-ltb b (block + 1) (omega (arith, other)) ∙ sym (le-ltb b block more)
 ]
 
-pub cleared-next : (r : Released) (latest : List ℕ) (old new : List Bool) (block : ℕ) → block < length new → clears r block latest ≡ true
-    → Cleared r latest old new block → Cleared r latest old (slice_set new block false) (block + 1)
-cleared-next r latest old new block inside is so = record { same = length-set new block false ∙ so.same; each = λ b. go b (cases_eq b block) }
+pub cleared-next : (r : Released) (last_writes : List ℕ) (old new : List Bool) (block : ℕ) → block < length new → clears r block last_writes ≡ true
+    → Cleared r last_writes old new block → Cleared r last_writes old (slice_set new block false) (block + 1)
+cleared-next r last_writes old new block inside is so = record { same = length-set new block false ∙ so.same; each = λ b. go b (cases_eq b block) }
   where
-    go : (b : ℕ) → (b ≡ block) ⊎ (b ≢ block) → marked (slice_set new block false) b ≡ (marked old b && not (nat_lt b (block + 1) && clears r b latest))
+    go : (b : ℕ) → (b ≡ block) ⊎ (b ≢ block) → marked (slice_set new block false) b ≡ (marked old b && not (nat_lt b (block + 1) && clears r b last_writes))
     go b (inl here) = rw here (rw (marked-set_same new block false inside)
         (rw (lt-ltb block (block + 1) (omega arith), is) (sym (and-false (marked old block)))))
     go b (inr other) = rw (marked-set_other new block false b other) (rw (upto-next block b other) (so.each b))
 
-pub cleared-not : (r : Released) (latest : List ℕ) (old new : List Bool) (block : ℕ) → clears r block latest ≡ false → Cleared r latest old new block
-    → Cleared r latest old new (block + 1)
-cleared-not r latest old new block is so = record { same = so.same; each = λ b. go b (cases_eq b block) }
+pub cleared-not : (r : Released) (last_writes : List ℕ) (old new : List Bool) (block : ℕ) → clears r block last_writes ≡ false → Cleared r last_writes old new block
+    → Cleared r last_writes old new (block + 1)
+cleared-not r last_writes old new block is so = record { same = so.same; each = λ b. go b (cases_eq b block) }
   where
-    go : (b : ℕ) → (b ≡ block) ⊎ (b ≢ block) → marked new b ≡ (marked old b && not (nat_lt b (block + 1) && clears r b latest))
+    go : (b : ℕ) → (b ≡ block) ⊎ (b ≢ block) → marked new b ≡ (marked old b && not (nat_lt b (block + 1) && clears r b last_writes))
     go b (inl here) = rw here (so.each block ∙ (rw is (rw (and-false (nat_lt block block), and-false (nat_lt block (block + 1))) refl)))
     go b (inr other) = rw (upto-next block b other) (so.each b)
 
@@ -87,45 +87,45 @@ and-or true true c = refl
 and-or true false c = refl
 and-or false b c = refl
 
-upto-all : (r : Released) (latest : List ℕ) (b : ℕ) → (nat_lt b (r.first + r.count) && clears r b latest) ≡ clears r b latest
-upto-all r latest b = elim (cases_lt b (r.first + r.count)) [
+upto-all : (r : Released) (last_writes : List ℕ) (b : ℕ) → (nat_lt b (r.first + r.count) && clears r b last_writes) ≡ clears r b last_writes
+upto-all r last_writes b = elim (cases_lt b (r.first + r.count)) [
   | inl less ↦ rw (lt-ltb b (r.first + r.count) less) refl
-  | inr more ↦ rw (not-above r latest b more) (and-false (nat_lt b (r.first + r.count)))
+  | inr more ↦ rw (not-above r last_writes b more) (and-false (nat_lt b (r.first + r.count)))
 ]
 
-pub unmark-next : (r : Released) (released : List Released) (latest : List ℕ) (old new : List Bool) → Cleared r latest old new (r.first + r.count)
-    → unmarking released latest new ≡ unmarking (r ∷ released) latest old
-unmark-next r released latest old new so =
-    same-marks (unmarking released latest new) (unmarking (r ∷ released) latest old) (length-unmarking released latest new
-    ∙ (so.same ∙ sym (length-unmarking (r ∷ released) latest old))) (λ b less.
-    let inside : b < length new = omega (arith, length-unmarking released latest new) in
+pub unmark-next : (r : Released) (released : List Released) (last_writes : List ℕ) (old new : List Bool) → Cleared r last_writes old new (r.first + r.count)
+    → unmarking released last_writes new ≡ unmarking (r ∷ released) last_writes old
+unmark-next r released last_writes old new so =
+    same-marks (unmarking released last_writes new) (unmarking (r ∷ released) last_writes old) (length-unmarking released last_writes new
+    ∙ (so.same ∙ sym (length-unmarking (r ∷ released) last_writes old))) (λ b less.
+    let inside : b < length new = omega (arith, length-unmarking released last_writes new) in
     let there : b < length old = omega (arith, so.same) in
     marked-map _ (length new) b inside
-    ∙ (ap (λ (v : Bool). v && not (list_any (λ s. clears s b latest) released)) (so.each b ∙ ap (λ (v : Bool). marked old b && not v) (upto-all r latest b))
-    ∙ (and-or (marked old b) (clears r b latest) (list_any (λ s. clears s b latest) released)
-    ∙ sym (marked-map (λ block. marked old block && not (list_any (λ s. clears s block latest) (r ∷ released))) (length old) b there))))
+    ∙ (ap (λ (v : Bool). v && not (list_any (λ s. clears s b last_writes) released)) (so.each b ∙ ap (λ (v : Bool). marked old b && not v) (upto-all r last_writes b))
+    ∙ (and-or (marked old b) (clears r b last_writes) (list_any (λ s. clears s b last_writes) released)
+    ∙ sym (marked-map (λ block. marked old block && not (list_any (λ s. clears s block last_writes) (r ∷ released))) (length old) b there))))
 
-pub unmark-none : (latest : List ℕ) (marks : List Bool) → unmarking [] latest marks ≡ marks
-unmark-none latest marks =
-    same-marks (unmarking [] latest marks) marks (length-unmarking [] latest marks) (λ b less.
-    let inside : b < length marks = omega (arith, length-unmarking [] latest marks) in
+pub unmark-none : (last_writes : List ℕ) (marks : List Bool) → unmarking [] last_writes marks ≡ marks
+unmark-none last_writes marks =
+    same-marks (unmarking [] last_writes marks) marks (length-unmarking [] last_writes marks) (λ b less.
+    let inside : b < length marks = omega (arith, length-unmarking [] last_writes marks) in
     marked-map (λ block. marked marks block && true) (length marks) b inside ∙ sym (and-true (marked marks b)))
 
 -- One release more of a list, as a loop goes over it.
-pub unmark-step : (rs : List Released) (i : ℕ) (d : Released) (latest : List ℕ) (first old new : List Bool) → i < length rs → length old ≡ length first
+pub unmark-step : (rs : List Released) (i : ℕ) (d : Released) (last_writes : List ℕ) (first old new : List Bool) → i < length rs → length old ≡ length first
     → AllByRecursion (LiesInside (length old)) (drop i rs)
-    → unmarking (drop i rs) latest old ≡ unmarking rs latest first → Cleared (get_or rs i d) latest old new ((get_or rs i d).first + (get_or rs i d).count)
+    → unmarking (drop i rs) last_writes old ≡ unmarking rs last_writes first → Cleared (get_or rs i d) last_writes old new ((get_or rs i d).first + (get_or rs i d).count)
     → (length new ≡ length first) ×
-    (AllByRecursion (LiesInside (length new)) (drop (i + 1) rs) × (unmarking (drop (i + 1) rs) latest new ≡ unmarking rs latest first))
-unmark-step rs i d latest first old new inside size all rest so =
+    (AllByRecursion (LiesInside (length new)) (drop (i + 1) rs) × (unmarking (drop (i + 1) rs) last_writes new ≡ unmarking rs last_writes first))
+unmark-step rs i d last_writes first old new inside size all rest so =
     let split : drop i rs ≡ get_or rs i d ∷ drop (suc i) rs = drop-cons rs i d inside in
     let parts : AllByRecursion (LiesInside (length old)) (get_or rs i d ∷ drop (suc i) rs) = subst (AllByRecursion (LiesInside (length old))) split all in
     rw add-one (
       so.same ∙ size,
       (
         rw so.same parts.1,
-        unmark-next (get_or rs i d) (drop (suc i) rs) latest old new so
-            ∙ (sym (ap (λ (more : List Released). unmarking more latest old) split) ∙ rest),
+        unmark-next (get_or rs i d) (drop (suc i) rs) last_writes old new so
+            ∙ (sym (ap (λ (more : List Released). unmarking more last_writes old) split) ∙ rest),
       ),
     )
 
@@ -136,7 +136,7 @@ nothing-left (r ∷ rs) zero past = absurd (omega arith)
 nothing-left (r ∷ rs) (suc i) past = nothing-left rs i (omega arith)
 
 -- all releases of a list
-pub unmark-all : (rs : List Released) (i : ℕ) (latest : List ℕ) (first marks : List Bool) → length rs ≤ i
-    → unmarking (drop i rs) latest marks ≡ unmarking rs latest first → marks ≡ unmarking rs latest first
-unmark-all rs i latest first marks past rest = sym (unmark-none latest marks)
-    ∙ (sym (ap (λ (more : List Released). unmarking more latest marks) (nothing-left rs i past)) ∙ rest)
+pub unmark-all : (rs : List Released) (i : ℕ) (last_writes : List ℕ) (first marks : List Bool) → length rs ≤ i
+    → unmarking (drop i rs) last_writes marks ≡ unmarking rs last_writes first → marks ≡ unmarking rs last_writes first
+unmark-all rs i last_writes first marks past rest = sym (unmark-none last_writes marks)
+    ∙ (sym (ap (λ (more : List Released). unmarking more last_writes marks) (nothing-left rs i past)) ∙ rest)

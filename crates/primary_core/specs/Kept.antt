@@ -69,7 +69,7 @@ LiesInside blocks r = r.first + r.count ≤ blocks
 -- reports.
 pub record IsSoundLog (settings : Settings) (l : LogState) : Type 0 where
   pub backlog : l.backlog ≡ settings.backlog
-  pub latest : length l.latest ≡ settings.blocks
+  pub last_writes : length l.last_writes ≡ settings.blocks
   pub writes : Each (IsInside settings.blocks) l.writes
   pub completed : AllByRecursion IsNumbered l.completed
   pub released : AllByRecursion (LiesInside settings.blocks) l.released
@@ -85,6 +85,6 @@ pub record IsSound (s : PrimaryState) : Type 0 where
   pub places : s.log.epochs.places + places_owing s.end s.log ≤ 4294967290
 
 -- the marks after a release cleared its blocks below a number
-pub record Cleared (r : Released) (latest : List ℕ) (old new : List Bool) (upto : ℕ) : Type 0 where
+pub record Cleared (r : Released) (last_writes : List ℕ) (old new : List Bool) (upto : ℕ) : Type 0 where
   pub same : length new ≡ length old
-  pub each : (block : ℕ) → marked new block ≡ (marked old block && not (nat_lt block upto && clears r block latest))
+  pub each : (block : ℕ) → marked new block ≡ (marked old block && not (nat_lt block upto && clears r block last_writes))

@@ -36,7 +36,7 @@ impl PrimaryCore {
         self.mark_unreleased();
         self.lose(loss);
         let completed = self.drain();
-        self.report();
+        self.apply_log_report();
         completed
     }
 

@@ -41,7 +41,7 @@ impl PrimaryCore {
         ensures { (Ok result, self.new.state) ≡ local_done number self.old.state }
     {
         let barrier = self.log.local_done(number);
-        self.follow(What::Nothing, barrier)
+        self.finish_step(What::Nothing, barrier)
     }
 
     /// Records that the local disk failed write `number`, which waited for it: removes its interval, marks its
@@ -56,7 +56,7 @@ impl PrimaryCore {
         let range = write.range();
         self.give_up(number, range);
         let barrier = self.log.local_fault(number);
-        self.follow(What::Nothing, barrier)
+        self.finish_step(What::Nothing, barrier)
     }
 
     // Records write `number` as failed, removes its interval, and marks its blocks.

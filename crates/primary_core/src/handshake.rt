@@ -15,30 +15,30 @@ impl PrimaryCore {
     /// Takes the next frame of the peer's hello.
     pub(crate) fn take_hello(&mut self, packet: Packet) -> Result<Done, Refusal>
         requires { self.old.state.log.connection ≡ None }
-        ensures { (e : EndState) → self.old.state.end ≡ Some e → taken_as result self.new.state ≡ taking_hello e.heard (meaning packet) (hearing e) self.old.state }
+        ensures { (e : EndState) → self.old.state.end ≡ Some e → taken_as result self.new.state ≡ taking_hello e.hello_received (meaning packet) (hearing e) self.old.state }
     {
         let Some(connection) = &self.connection else {
             return Err(Refusal::BadCommand);
         };
         let command = connection.handshake.judge(&packet, &self.settings)?;
         if let Packet::Uuids(peer) = packet {
-            return self.meet(peer);
+            return self.take_peer_identifiers(peer);
         }
-        self.hear();
+        self.hello_frame_received();
         Ok(Done::about(What::Frame(command, None)))
     }
 
     // Counts another frame of the peer's hello as taken.
-    fn hear(&mut self)
+    fn hello_frame_received(&mut self)
         ensures { self.new.state ≡ with_end hearing self.old.state }
     {
         if let Some(connection) = &mut self.connection {
-            connection.handshake.hear();
+            connection.handshake.frame_received();
         }
     }
 
     // Takes the peer's identifiers, and begins the stream as they decide.
-    fn meet(&mut self, peer: Tuple) -> Result<Done, Refusal>
+    fn take_peer_identifiers(&mut self, peer: Tuple) -> Result<Done, Refusal>
         requires { self.old.state.log.connection ≡ None }
         ensures { (e : EndState) → self.old.state.end ≡ Some e → taken_as result self.new.state ≡ meeting peer (hearing e) self.old.state }
     {
@@ -52,9 +52,9 @@ impl PrimaryCore {
             return Err(Refusal::UsedIdentifier);
         }
         let decided = decide(&self.generations.tuple, &peer)?;
-        self.hear();
+        self.hello_frame_received();
         self.begin(decided);
-        Ok(self.follow(What::Decided(decided), None))
+        Ok(self.finish_step(What::Decided(decided), None))
     }
 
     // Begins the stream, with the SYNC_UUID of a resync if one was decided.

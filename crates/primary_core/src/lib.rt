@@ -5,7 +5,7 @@ mod close;
 mod connection;
 mod disk;
 mod entry;
-mod follow;
+mod finish_step;
 mod handshake;
 mod item;
 mod open;

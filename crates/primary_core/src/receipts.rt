@@ -2,7 +2,7 @@
 ghost use Rattle.std.specs.Prelude.{◌≡◌, ◌-◌, false, true, if◌then◌else◌, length, replicate, slice_set};
 ghost use Rattle.std.specs.Option.{option_copied};
 ghost use Rattle.primary_core.specs.Entries.{is_unconfirmed};
-ghost use Rattle.primary_protocol.specs.Transitions.{entry_at, is_given, take_completed, told};
+ghost use Rattle.primary_protocol.specs.Transitions.{entry_at, is_given, take_completed, completed_entry};
 
 use crate::entry::{Fate, JournalEntry, set_taken};
 use crate::state::PrimaryCore;
@@ -17,11 +17,11 @@ impl PrimaryCore {
     pub fn take_completed(&mut self, number: u64) -> Result<JournalEntry, Refusal>
         ensures { (result, self.new.state) ≡ take_completed number self.old.state }
     {
-        let told = told(self.entry(number));
-        if is_given(&told) {
+        let outcome = completed_entry(self.entry(number));
+        if is_given(&outcome) {
             set_taken(&mut self.entries, number);
         }
-        told
+        outcome
     }
 
     /// Resets every entry to unconfirmed. It takes time for each of them.
@@ -61,8 +61,8 @@ impl PrimaryCore {
 }
 
 // Returns what a caller gets for an entry.
-fn told(found: Option<&JournalEntry>) -> Result<JournalEntry, Refusal>
-    ensures { result ≡ told (option_copied found.entry) }
+fn completed_entry(found: Option<&JournalEntry>) -> Result<JournalEntry, Refusal>
+    ensures { result ≡ completed_entry (option_copied found.entry) }
 {
     let Some(entry) = found else {
         return Err(Refusal::UnknownJob);
@@ -83,10 +83,10 @@ fn told(found: Option<&JournalEntry>) -> Result<JournalEntry, Refusal>
 }
 
 // Returns whether the receipt counts as taken after this reply.
-fn is_given(told: &Result<JournalEntry, Refusal>) -> bool
-    ensures { result ≡ is_given told.now }
+fn is_given(outcome: &Result<JournalEntry, Refusal>) -> bool
+    ensures { result ≡ is_given outcome.now }
 {
-    match told {
+    match outcome {
         Ok(_) | Err(Refusal::LocalFault) => true,
         Err(_) => false,
     }

@@ -18,7 +18,7 @@ use transferlog::{Completed, Released, TransferLog};
 impl PrimaryCore {
     /// Applies what the last call of the log reported: completions go into the journal and free their ranges;
     /// releases leave the activity log and clear marks.
-    pub(crate) fn report(&mut self)
+    pub(crate) fn apply_log_report(&mut self)
         ensures state { self.new.state ≡ reporting self.old.state }
         ensures room { self.new.stream_room ≡ self.old.stream_room }
     {
@@ -78,9 +78,9 @@ fn end(activity: &mut ActivityLog, first: Block)
 }
 
 fn unmark(log: &TransferLog, marks: &mut Bitmap)
-    requires size { length log.now.state.latest ≡ length marks.old }
+    requires size { length log.now.state.last_writes ≡ length marks.old }
     requires inside { AllByRecursion (LiesInside (length marks.old)) log.now.state.released }
-    ensures { marks.new ≡ unmarking log.now.state.released log.now.state.latest marks.old }
+    ensures { marks.new ≡ unmarking log.now.state.released log.now.state.last_writes marks.old }
 {
     for write in log.released() {
         clear(log, write, marks);
@@ -89,9 +89,9 @@ fn unmark(log: &TransferLog, marks: &mut Bitmap)
 
 // Clears the marks that the release of a write clears.
 fn clear(log: &TransferLog, write: &Released, marks: &mut Bitmap)
-    requires size { length log.now.state.latest ≡ length marks.old }
+    requires size { length log.now.state.last_writes ≡ length marks.old }
     requires inside { LiesInside (length marks.old) write.now }
-    ensures { Cleared write.now log.now.state.latest marks.old marks.new (write.now.first + write.now.count) }
+    ensures { Cleared write.now log.now.state.last_writes marks.old marks.new (write.now.first + write.now.count) }
 {
     let _small = marks.len();
     for block in write.first..write.first + write.count {

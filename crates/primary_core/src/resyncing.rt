@@ -98,7 +98,7 @@ impl PrimaryCore {
             });
         }
         self.append(ItemKind::Resync(block, contents));
-        self.follow(What::Block(block, place), None)
+        self.finish_step(What::Block(block, place), None)
     }
 
     /// Takes the peer's acknowledgement of the block under way. `UnknownAck` (25) if it names anything else, or the
@@ -111,7 +111,7 @@ impl PrimaryCore {
         }
         self.release_block(ack.first);
         let barrier = self.log.resync_acked();
-        Ok(self.follow(What::Frame(Command::RsWriteAck, None), barrier))
+        Ok(self.finish_step(What::Frame(Command::RsWriteAck, None), barrier))
     }
 
     // Returns whether the acknowledgement names the block under way, and that block was sent.

@@ -49,7 +49,7 @@ impl PrimaryCore {
             return Done::about(What::Nothing);
         };
         if let Some(packet) = connection.handshake.due(&self.settings) {
-            self.say();
+            self.hello_frame_sent();
             return Done::about(What::Frame(packet.command(), None));
         }
         let place = self.next_place();
@@ -60,18 +60,18 @@ impl PrimaryCore {
         match item.write() {
             Some(number) => {
                 let barrier = self.log.sent(number);
-                self.follow(what, barrier)
+                self.finish_step(what, barrier)
             }
             None => Done::about(what),
         }
     }
 
     // Counts another frame of this node's hello as sent.
-    fn say(&mut self)
-        ensures { self.new.state ≡ with_end (λ e. record e { said = advanced e.said }) self.old.state }
+    fn hello_frame_sent(&mut self)
+        ensures { self.new.state ≡ with_end (λ e. record e { hello_sent = advanced e.hello_sent }) self.old.state }
     {
         if let Some(connection) = &mut self.connection {
-            connection.handshake.say();
+            connection.handshake.frame_sent();
         }
     }
 

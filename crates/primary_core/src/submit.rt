@@ -140,10 +140,10 @@ impl PrimaryCore {
         let what = What::Write(accepted.number);
         if self.log.connection().is_none() {
             self.marks.mark(range);
-            return self.follow(what, None);
+            return self.finish_step(what, None);
         }
         self.append(ItemKind::Write(accepted.number, range.first, contents));
-        self.follow(what, accepted.barrier)
+        self.finish_step(what, accepted.barrier)
     }
 }
 

@@ -10,7 +10,7 @@ ghost use Rattle.primary_protocol.specs.Taking.{named as asked};
 use crate::state::PrimaryCore;
 use blocks::{Command, Done, Refusal, What};
 use packets::{Acknowledgement, Packet};
-use transferlog::{Answer, Named};
+use transferlog::{AckedWrite, PeerAck};
 
 impl PrimaryCore {
     /// Takes a packet, or the fault that was read in its place.
@@ -42,8 +42,8 @@ impl PrimaryCore {
             return self.take_hello(packet);
         }
         match packet {
-            Packet::RecvAck(ack) => self.answer(Command::RecvAck, Answer::Received, ack),
-            Packet::WriteAck(ack) => self.answer(Command::WriteAck, Answer::Written, ack),
+            Packet::RecvAck(ack) => self.answer(Command::RecvAck, PeerAck::Received, ack),
+            Packet::WriteAck(ack) => self.answer(Command::WriteAck, PeerAck::Written, ack),
             Packet::RsWriteAck(ack) => self.block_has_come(ack),
             Packet::BarrierAck { number, size } => self.confirm(number, size),
             _ => Err(Refusal::BadCommand),
@@ -54,13 +54,13 @@ impl PrimaryCore {
     fn answer(
         &mut self,
         command: Command,
-        kind: Answer,
+        kind: PeerAck,
         ack: Acknowledgement,
     ) -> Result<Done, Refusal>
         ensures { taken_as result self.new.state ≡ answered (what.Frame command None) kind (named ack) self.old.state }
     {
         let barrier = self.log.acked(kind, as_named(ack))?;
-        Ok(self.follow(What::Frame(command, None), barrier))
+        Ok(self.finish_step(What::Frame(command, None), barrier))
     }
 
     // Takes the peer's acknowledgement of an epoch. Refuses that of an epoch whose barrier was not sent, or to
@@ -72,7 +72,7 @@ impl PrimaryCore {
             return Err(Refusal::BadBarrierAck);
         }
         self.log.barrier_acked(number, size)?;
-        Ok(self.follow(What::Frame(Command::BarrierAck, None), None))
+        Ok(self.finish_step(What::Frame(Command::BarrierAck, None), None))
     }
 
     // Returns whether the epoch's barrier waits to be sent, or the block under way belongs to the epoch.
@@ -89,10 +89,10 @@ impl PrimaryCore {
 }
 
 // Returns what an acknowledgement names, as the log takes it.
-fn as_named(ack: Acknowledgement) -> Named
+fn as_named(ack: Acknowledgement) -> AckedWrite
     ensures { result ≡ asked (named ack) }
 {
-    Named {
+    AckedWrite {
         number: ack.number,
         place: ack.place,
         first: ack.first.0,

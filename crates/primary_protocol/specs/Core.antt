@@ -49,8 +49,8 @@ pub record EndState : Type 0 where
   pub sync : ℕ
   pub loss : ℕ
   pub hello : Tuple
-  pub heard : ℕ
-  pub said : ℕ
+  pub hello_received : ℕ
+  pub hello_sent : ℕ
   pub unsent : List StreamItem
   pub resync : Bool
   pub under_way : Option UnderWay
@@ -125,7 +125,7 @@ leaving (r ∷ released) activity = leaving released (ended (extent_of r.first) 
 
 -- the marks without those that released writes clear
 abbrev pub unmarking : List Released → List ℕ → List Bool → List Bool
-unmarking released latest marks = map (λ block. marked marks block && not (list_any (λ r. clears r block latest) released)) (below (length marks))
+unmarking released last_writes marks = map (λ block. marked marks block && not (list_any (λ r. clears r block last_writes) released)) (below (length marks))
 
 -- Applies what the last call of the log reported: completions go into the entries and free their intervals, and
 -- releases leave the activity log and clear marks.
@@ -134,7 +134,7 @@ reporting s = record s {
   entries = entering s.log.completed s.entries;
   held = freeing s.log.completed s.held;
   activity = leaving s.log.released s.activity;
-  marks = unmarking s.log.released s.log.latest s.marks;
+  marks = unmarking s.log.released s.log.last_writes s.marks;
 }
 
 -- the barrier that a step appended, as an item

@@ -113,9 +113,9 @@ pub record LeavesEpochs (l : LogState) (c : PrimaryConnection) : Type 0 where
   pub size : l.epochs.size ≡ epoch_size c.stream (last_epoch c.stream)
   pub resync : l.epochs.resync ≡ list_any (λ entry. is_resync entry.1) (items_of_epoch c.stream (last_epoch c.stream))
   pub upto : (k place : ℕ) (write : _) → k ≤ length l.epochs.sizes → slice_get c.stream place ≡ Some (WriteItem write)
-      → nat_le write.number (l.confirmed + total (take k l.epochs.sizes)) ≡ nat_le (epoch_of c.stream place) (acked + k)
-  pub newest : l.confirmed + total l.epochs.sizes + l.epochs.size ≡ l.accepted
-  pub first : 0 < l.epochs.size → l.epochs.first ≡ suc (l.confirmed + total l.epochs.sizes)
+      → nat_le write.number (l.acknowledged_through + total (take k l.epochs.sizes)) ≡ nat_le (epoch_of c.stream place) (acked + k)
+  pub newest : l.acknowledged_through + total l.epochs.sizes + l.epochs.size ≡ l.accepted
+  pub first : 0 < l.epochs.size → l.epochs.first ≡ suc (l.acknowledged_through + total l.epochs.sizes)
   pub answered : (place : ℕ) (write : _) → slice_get c.stream place ≡ Some (WriteItem write) → epoch_of c.stream place ≤ acked
       → is_answered_by l.protocol c place (WriteItem write) ≡ true
 
@@ -126,7 +126,7 @@ pub record LeavesLog (l : LogState) (h : PrimaryHistory) : Type 0 where
   pub accepted : l.accepted ≡ length h.writes
   pub connection : l.connection ≡ standing h
   pub writes : l.writes ≡ map (logged_of h) (unreleased h)
-  pub latest : l.latest ≡ map (λ block. latest_in h.writes block 0) (below h.settings.blocks)
+  pub last_writes : l.last_writes ≡ map (λ block. latest_in h.writes block 0) (below h.settings.blocks)
 
 -- The log's epochs are those of the established connection's stream, in which each write after the confirmed ones has
 -- its place; without a connection they are empty.
@@ -134,7 +134,7 @@ pub record LeavesStream (l : LogState) (h : PrimaryHistory) : Type 0 where
   pub max_epoch : l.epochs.max_epoch ≡ h.settings.max_epoch
   pub on : is_established (primary_connection h) ≡ true → LeavesEpochs l (primary_connection h)
   pub here : is_established (primary_connection h) ≡ true → (i : ℕ) (accepted : Accepted) → slice_get h.writes i ≡ Some accepted
-      → l.confirmed < accepted.write.number
+      → l.acknowledged_through < accepted.write.number
       → (place : ℕ) × (accepted.home ≡ Some (record { index = last_index h.connections; place = place }))
   pub off : is_established (primary_connection h) ≡ false → l.epochs ≡ empty h.settings.max_epoch
 
@@ -183,8 +183,8 @@ pub record LeavesEnd (e : EndState) (c : PrimaryConnection) : Type 0 where
   pub sync : e.sync ≡ c.sync
   pub loss : e.loss ≡ c.loss
   pub hello : e.hello ≡ c.hello
-  pub heard : e.heard ≡ min (length c.taken) 3
-  pub said : e.said ≡ min c.pushed 3
+  pub hello_received : e.hello_received ≡ min (length c.taken) 3
+  pub hello_sent : e.hello_sent ≡ min c.pushed 3
   pub pushed : c.pushed - 3 ≤ length c.stream
   pub unsent : e.unsent ≡ drop (c.pushed - 3) c.stream
   pub resync : e.resync ≡ resync_runs c

@@ -41,8 +41,8 @@ pub record NodeIsHad (n : NodeState) : Type 0 where
   pub has : NodeHas n history
 
 -- The call was this step of the model, for every history that the node refined.
-pub record IsStep {Told : Type 0} (step : PrimaryHistory → Told × PrimaryHistory) (n : NodeState) (told : Told) (next : NodeState) : Type 0 where
-  pub said : (h : PrimaryHistory) → NodeHas n h → told ≡ (step h).0
+pub record IsStep {R : Type 0} (step : PrimaryHistory → R × PrimaryHistory) (n : NodeState) (result : R) (next : NodeState) : Type 0 where
+  pub replies : (h : PrimaryHistory) → NodeHas n h → result ≡ (step h).0
   pub after : (h : PrimaryHistory) → NodeHas n h → NodeHas next (step h).1
 
 -- the model's step of an event; taking a receipt gives no reply of its own

@@ -20,9 +20,9 @@ use Rattle.model.specs.Refusals.{Test, done_with}
 use Rattle.model.specs.Acknowledgements.{same_protocol}
 use Rattle.transferlog.specs.Log as log
 use Rattle.transferlog.specs.Log.{LogState, connecting}
-use Rattle.transferlog.specs.declared.report.Answer.{Answer}
-use Rattle.transferlog.specs.declared.report.Answer.TheVariants as answer
-use Rattle.transferlog.specs.declared.report.Named.{Named}
+use Rattle.transferlog.specs.declared.report.PeerAck.{PeerAck}
+use Rattle.transferlog.specs.declared.report.PeerAck.TheVariants as answer
+use Rattle.transferlog.specs.declared.report.AckedWrite.{AckedWrite}
 use Rattle.overlap.specs.Holdings as overlap
 use Rattle.bitmap.specs.Marks.{marking}
 use Rattle.primary_protocol.specs.Core.{UnderWay, EndState, PrimaryState, tested, is_established, following}
@@ -41,7 +41,7 @@ last_connection s = s.connections - 1
 
 -- counts another taken frame of the peer's hello, up to 3
 abbrev pub hearing : EndState → EndState
-hearing e = record e { heard = if nat_lt e.heard 3 then suc e.heard else e.heard }
+hearing e = record e { hello_received = if nat_lt e.hello_received 3 then suc e.hello_received else e.hello_received }
 
 -- begins the stream with a resync, and marks these blocks too
 abbrev pub syncing : (ℕ → Bool) → EndState → PrimaryState → PrimaryState
@@ -83,14 +83,14 @@ taking_hello n packet e s = Err (BadCommand, s)
 -- Acknowledgements.
 
 -- what an acknowledgement names, as the log takes it
-abbrev pub named : Acknowledged → Named
+abbrev pub named : Acknowledged → AckedWrite
 named ack = record { number = ack.number; place = ack.place; first = ack.first; count = ack.count }
 
 -- the peer answers a write
-abbrev pub answered : What → Answer → Acknowledged → PrimaryState → Taken
+abbrev pub answered : What → PeerAck → Acknowledged → PrimaryState → Taken
 answered name kind ack s =
-    let said = log.acked kind (named ack) s.log in
-    elim said.0 [ Err refusal ↦ Err (refusal, s) | Ok barrier ↦ Ok (logged name (barrier, said.1) s) ]
+    let result = log.acked kind (named ack) s.log in
+    elim result.0 [ Err refusal ↦ Err (refusal, s) | Ok barrier ↦ Ok (logged name (barrier, result.1) s) ]
 
 -- the acknowledgement names the block under way, which was sent
 abbrev pub names_block : Acknowledged → ℕ → Option UnderWay → Bool
@@ -124,8 +124,8 @@ is_in_epoch number (Some way) = way.epoch == number
 abbrev pub confirmed : ℕ → ℕ → EndState → PrimaryState → Taken
 confirmed number size e s =
     if is_unsent number e.unsent || is_in_epoch number e.under_way then Err (BadBarrierAck, s) else
-    let said = log.barrier_acked number size s.log in
-    elim said.0 [ Err refusal ↦ Err (refusal, s) | Ok done ↦ Ok (logged (what.Frame command.BarrierAck None) (None, said.1) s) ]
+    let result = log.barrier_acked number size s.log in
+    elim result.0 [ Err refusal ↦ Err (refusal, s) | Ok done ↦ Ok (logged (what.Frame command.BarrierAck None) (None, result.1) s) ]
 
 -- takes an acknowledgement
 abbrev pub taking_ack : Packet → EndState → PrimaryState → Taken
@@ -138,7 +138,7 @@ taking_ack packet e s = Err (BadCommand, s)
 -- Takes a frame as it was read: refuses a fault of its bytes, and takes a frame of the hello or an acknowledgement.
 abbrev pub taking : Received → EndState → PrimaryState → Taken
 taking (Err fault) e s = Err (fault, s)
-taking (Ok packet) e s = if is_established s then taking_ack packet e s else taking_hello e.heard packet (hearing e) s
+taking (Ok packet) e s = if is_established s then taking_ack packet e s else taking_hello e.hello_received packet (hearing e) s
 
 -- the result of a taken frame; a protocol error closes the end in the same step, with all effects of its close
 abbrev pub taken_by : EndState → Taken → Result Done Refusal × PrimaryState

@@ -47,7 +47,7 @@ open_tests sync loss out_of_memory s =
 abbrev pub opened : ℕ → ℕ → PrimaryState → PrimaryState
 opened sync loss s = record s {
   connections = suc s.connections;
-  end = Some (record { sync = sync; loss = loss; hello = s.tuple; heard = 0; said = 0; unsent = []; resync = false; under_way = None });
+  end = Some (record { sync = sync; loss = loss; hello = s.tuple; hello_received = 0; hello_sent = 0; unsent = []; resync = false; under_way = None });
 }
 
 -- the primary opens its end
@@ -139,7 +139,7 @@ next_place e s = s.log.epochs.places - length e.unsent
 -- the next frame that an open end is to send: of its hello, and then of its stream
 abbrev pub owed : EndState → PrimaryState → Option Packet
 owed e s =
-    if nat_lt e.said 3 then slice_get (hello_of s.settings e.hello) e.said
+    if nat_lt e.hello_sent 3 then slice_get (hello_of s.settings e.hello) e.hello_sent
     else option_map (frame_of (next_place e s)) (slice_get e.unsent 0)
 
 -- the next frame that is due, or why there is none
@@ -148,7 +148,7 @@ due s = elim s.end [ None ↦ Err NotConnected | Some e ↦ ok_or (owed e s) Not
 
 -- the report of a frame: its command, and its place if it is an item of the stream
 abbrev pub called : EndState → PrimaryState → Packet → What
-called e s packet = what.Frame (command_of packet) (if nat_lt e.said 3 then None else Some (next_place e s))
+called e s packet = what.Frame (command_of packet) (if nat_lt e.hello_sent 3 then None else Some (next_place e s))
 
 -- records that an item was pushed, which may answer a write
 abbrev pub pushed_item : What → Option StreamItem → PrimaryState → Done × PrimaryState
@@ -158,7 +158,7 @@ pushed_item name (Some item) s = if is_write item then logged name (log.sent (nu
 -- records that the due frame was pushed
 abbrev pub sent_from : EndState → What → PrimaryState → Done × PrimaryState
 sent_from e name s =
-    if nat_lt e.said 3 then (done_with name, record s { end = Some (record e { said = suc e.said }) })
+    if nat_lt e.hello_sent 3 then (done_with name, record s { end = Some (record e { hello_sent = suc e.hello_sent }) })
     else pushed_item name (slice_get e.unsent 0) (record s { end = Some (record e { unsent = drop 1 e.unsent }) })
 
 -- the tests of pushing a due frame, in order
@@ -211,9 +211,9 @@ entry_at zero s = None
 entry_at (suc n) s = slice_get s.entries n
 
 -- what a caller gets for a number: its entry, once; 8 for a failed write, once; 9 while it is open
-abbrev pub told : Option JournalEntry → Result JournalEntry Refusal
-told None = Err UnknownJob
-told (Some entry) = if entry.taken then Err UnknownJob else by_fate entry.fate
+abbrev pub completed_entry : Option JournalEntry → Result JournalEntry Refusal
+completed_entry None = Err UnknownJob
+completed_entry (Some entry) = if entry.taken then Err UnknownJob else by_fate entry.fate
   where
     by_fate : Fate → Result JournalEntry Refusal
     by_fate Open = Err NotCompleted
@@ -228,7 +228,7 @@ is_given _ = false
 
 -- the caller takes the receipt of a write
 abbrev pub take_completed : ℕ → PrimaryState → Result JournalEntry Refusal × PrimaryState
-take_completed number s = let answer = told (entry_at number s) in (answer, if is_given answer then receipted number s else s)
+take_completed number s = let answer = completed_entry (entry_at number s) in (answer, if is_given answer then receipted number s else s)
 
 -- Resync.
 

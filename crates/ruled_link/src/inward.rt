@@ -11,7 +11,7 @@ use crate::gathered::Gathered;
 use crate::rest::Rest;
 use crate::{NoInvariant, Piece, PieceIn, RingInvariant};
 use blocks::Refusal;
-use link::{FrameIn, Trail};
+use link::{FrameIn, GhostFrames};
 use packets::Frame;
 use std::alloc::Global;
 use std::marker::Model;
@@ -23,7 +23,7 @@ use std::sync::Wait;
 pub struct RuledIn<R: Wait, M: RingInvariant = NoInvariant> {
     pub(crate) pieces: PieceIn<R, M>,
     pub(crate) number: u32,
-    pub(crate) taken: Trail,
+    pub(crate) taken: GhostFrames,
     // The bytes of the next frame that have arrived.
     pub(crate) front: Gathered,
     // The bytes of the last piece that are not used yet, or a whole piece of a later connection.
@@ -53,7 +53,7 @@ impl<R: Wait, M: RingInvariant> RuledIn<R, M> {
         Ok(RuledIn {
             pieces,
             number: 1,
-            taken: Trail::new(),
+            taken: GhostFrames::new(),
             front: Gathered::new(alloc)?,
             rest: None,
         })

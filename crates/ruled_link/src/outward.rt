@@ -5,7 +5,7 @@ ghost use Rattle.ruled_link.specs.Moments.{WasFull};
 ghost use Rattle.ruled_link.specs.Outward.{IsPushed, sending, sending_anew, unused_out, with_part, with_sent};
 
 use crate::{NoInvariant, PIECE_BYTES, PieceOut, RingInvariant};
-use link::{FrameOut, Offered, Trail};
+use link::{FrameOut, GhostFrames, Offered};
 use packets::Frame;
 use std::marker::Model;
 use std::sync::Wait;
@@ -16,9 +16,9 @@ use std::sync::Wait;
 pub struct RuledOut<R: Wait, M: RingInvariant = NoInvariant> {
     pub(crate) pieces: PieceOut<R, M>,
     pub(crate) number: u32,
-    pub(crate) sent: Trail,
+    pub(crate) sent: GhostFrames,
     // The frame that was offered in part, and how many of its bytes were pushed.
-    pub(crate) part: Trail,
+    pub(crate) part: GhostFrames,
     pub(crate) pushed: usize,
 }
 
@@ -41,8 +41,8 @@ impl<R: Wait, M: RingInvariant> RuledOut<R, M> {
         RuledOut {
             pieces,
             number: 1,
-            sent: Trail::new(),
-            part: Trail::new(),
+            sent: GhostFrames::new(),
+            part: GhostFrames::new(),
             pushed: 0,
         }
     }
@@ -62,12 +62,12 @@ impl<R: Wait, M: RingInvariant> FrameOut for RuledOut<R, M> {
         let whole = frame.as_slice();
         let pushed = push_from(&mut self.pieces, self.number, whole, self.pushed);
         if pushed < whole.len() {
-            self.part = Trail::new().and(&frame);
+            self.part = GhostFrames::new().and(&frame);
             self.pushed = pushed;
             return Err(Offered { frame });
         }
         self.sent = self.sent.and(&frame);
-        self.part = Trail::new();
+        self.part = GhostFrames::new();
         self.pushed = 0;
         Ok(())
     }
@@ -78,7 +78,7 @@ impl<R: Wait, M: RingInvariant> FrameOut for RuledOut<R, M> {
     {
         self.sent = self.sent.over(&self.number);
         self.number = number;
-        self.part = Trail::new();
+        self.part = GhostFrames::new();
         self.pushed = 0;
     }
 }

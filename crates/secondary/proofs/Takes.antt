@@ -145,11 +145,11 @@ some-there frame s result t may other is none = go s.end (may-open s may) (sym n
 
     by-frame : (f : Received) (e : EndState) → (f ≡ Err NothingThere → ⊥) → named (judging f e s)
     by-frame (Err fault) e differs = λ same. differs (ap Err same)
-    by-frame (Ok packet) e differs = by-half (nat_lt e.heard 3)
+    by-frame (Ok packet) e differs = by-half (nat_lt e.hello_received 3)
       where
-        by-half : (early : Bool) → named (if early then judging_hello e.heard packet (record s { end = Some (hearing e) })
+        by-half : (early : Bool) → named (if early then judging_hello e.hello_received packet (record s { end = Some (hearing e) })
             else judging_item packet (hearing e) (record s { end = Some (hearing e) }))
-        by-half true = by-hello e.heard packet (record s { end = Some (hearing e) })
+        by-half true = by-hello e.hello_received packet (record s { end = Some (hearing e) })
         by-half false = by-item packet (hearing e) (record s { end = Some (hearing e) })
 
     by-judged : (j : Judged) → named j → Err NothingThere ≡ (taking j s).0 → ⊥

@@ -10,7 +10,7 @@ use Rattle.handshakes.specs.Handshake.{judged}
 use Rattle.model.specs.Frames.{Received}
 use Rattle.endpoint.specs.Meaning.{meaning}
 use Rattle.secondary_protocol.specs.Core.{EndState, Judged, SecondaryState, judging, judging_hello, may_take, take_at, taking}
-use Rattle.secondary_core.specs.Receiving.{judged_at, told}
+use Rattle.secondary_core.specs.Receiving.{judged_at, result_of}
 
 -- What the handshake refuses the step refuses, for the same.
 refused-is : (n : ℕ) (p : Packet) (s : SecondaryState) (e : Refusal) → judged n p s.settings ≡ Err e → judging_hello n (meaning p) s ≡ Err e
@@ -18,15 +18,15 @@ refused-is zero p s e refused = grind (arith, common_steps)
 refused-is (suc zero) p s e refused = grind (arith, common_steps)
 refused-is (suc (suc n)) p s e refused = grind (arith, common_steps)
 
-pub not-greeted : (s : SecondaryState) (e : EndState) (p : Packet) (refusal : Refusal) → nat_le 3 e.heard ≡ false → judged e.heard p s.settings ≡ Err refusal
+pub not-greeted : (s : SecondaryState) (e : EndState) (p : Packet) (refusal : Refusal) → nat_le 3 e.hello_received ≡ false → judged e.hello_received p s.settings ≡ Err refusal
     → (Err refusal, s) ≡ judged_at (Ok (meaning p)) (Some e) s
 not-greeted s e p refusal early refused =
-    let less : nat_lt e.heard 3 ≡ true = grind (arith, nat_tests, early) in
-    let is : judging (Ok (meaning p)) e s ≡ Err refusal = rw less (refused-is e.heard p _ refusal refused) in
-    ap (λ (j : Judged). told j s) (sym is)
+    let less : nat_lt e.hello_received 3 ≡ true = grind (arith, nat_tests, early) in
+    let is : judging (Ok (meaning p)) e s ≡ Err refusal = rw less (refused-is e.hello_received p _ refusal refused) in
+    ap (λ (j : Judged). result_of j s) (sym is)
 
 -- A refused frame closes the end, and does nothing else.
-closes : (j : Judged) (s t : SecondaryState) (refusal : Refusal) → (Err refusal, t) ≡ told j s → (Err refusal, record t { end = None }) ≡ taking j s
+closes : (j : Judged) (s t : SecondaryState) (refusal : Refusal) → (Err refusal, t) ≡ result_of j s → (Err refusal, record t { end = None }) ≡ taking j s
 closes (Ok done) s t refusal same = absurd (let clash : Err refusal ≡ Ok done.0 = ap (λ (p : Result What Refusal × SecondaryState). p.0) same in cc)
 closes (Err other) s t refusal same =
     let left : t ≡ s = ap (λ (p : Result What Refusal × SecondaryState). p.1) same in

@@ -8,24 +8,24 @@ use Rattle.endpoint.specs.Meaning.{meaning}
 use Rattle.model.specs.Frames as frames
 use Rattle.model.specs.Stream.{StreamItem, WriteItem}
 use Rattle.secondary_protocol.specs.Core.{receipt}
-use Rattle.secondary_core.specs.declared.answer.Told.{Told}
-use Rattle.secondary_core.specs.declared.answer.Told.TheVariants as told
-use Rattle.secondary_core.specs.declared.answer.Answer.TheInside.{Inside}
+use Rattle.secondary_core.specs.declared.answer.AckKind.{AckKind}
+use Rattle.secondary_core.specs.declared.answer.AckKind.TheVariants as kind
+use Rattle.secondary_core.specs.declared.answer.DueAck.TheInside.{Inside}
 
 -- the packet that says it
-abbrev pub packet_of : Told → Packet
-packet_of (told.Received ack) = packet.RecvAck ack
-packet_of (told.Written ack) = packet.WriteAck ack
-packet_of (told.Resynced ack) = packet.RsWriteAck ack
-packet_of (told.Whole epoch writes) = packet.BarrierAck epoch writes
+abbrev pub packet_of : AckKind → Packet
+packet_of (kind.Received ack) = packet.RecvAck ack
+packet_of (kind.Written ack) = packet.WriteAck ack
+packet_of (kind.Resynced ack) = packet.RsWriteAck ack
+packet_of (kind.Whole epoch writes) = packet.BarrierAck epoch writes
 
 -- what the packet means
 abbrev pub answer_of : Inside → frames.Packet
-answer_of a = meaning (packet_of a.told)
+answer_of a = meaning (packet_of a.kind)
 
 -- the packet has a spelling
 abbrev pub IsAnswer : Inside → Type 0
-IsAnswer a = IsSpellable (packet_of a.told)
+IsAnswer a = IsSpellable (packet_of a.kind)
 
 -- what is acknowledged when an item with blocks is taken: a write under B
 abbrev pub receipt_of : Protocol → ℕ → StreamItem → List frames.Packet

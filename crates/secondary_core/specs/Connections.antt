@@ -11,8 +11,8 @@ use Rattle.secondary_core.specs.Outboxes.{OutboxState, acknowledging}
 abbrev pub end_of : Connection → EndState
 end_of c = record {
   hello = c.handshake.own;
-  heard = c.handshake.heard;
-  said = c.handshake.said;
+  hello_received = c.handshake.hello_received;
+  hello_sent = c.handshake.hello_sent;
   due = c.outbox.due;
   answered = c.outbox.answered;
   sizes = c.outbox.sizes;
@@ -21,7 +21,7 @@ end_of c = record {
 -- the end is open, and its hello is done: it has taken three frames, and pushed three
 abbrev pub is_hello_done : Option EndState → Bool
 is_hello_done None = false
-is_hello_done (Some e) = nat_le 3 e.heard && nat_le 3 e.said
+is_hello_done (Some e) = nat_le 3 e.hello_received && nat_le 3 e.hello_sent
 
 -- Makes these due, and then the acknowledgement of each ended epoch whose items, and all before them, are applied.
 abbrev pub acknowledged : List Packet → List (Pending StreamItem) → Connection → Connection

@@ -18,19 +18,19 @@ pub record MayTake (c : CoreState) : Type 0 where
   pub ready : c.is_ready ≡ true
 
 -- the result of an accepted frame, with what follows; a refused one leaves the state
-abbrev pub told : Judged → SecondaryState → Result What Refusal × SecondaryState
-told (Ok done) s = (Ok done.0, follows done.1)
-told (Err refusal) s = (Err refusal, s)
+abbrev pub result_of : Judged → SecondaryState → Result What Refusal × SecondaryState
+result_of (Ok done) s = (Ok done.0, follows done.1)
+result_of (Err refusal) s = (Err refusal, s)
 
 -- judges a frame, at an open end
 abbrev pub judged_at : Received → Option EndState → SecondaryState → Result What Refusal × SecondaryState
 judged_at frame None s = (Err NotConnected, s)
-judged_at frame (Some e) s = told (judging frame e s) s
+judged_at frame (Some e) s = result_of (judging frame e s) s
 
 -- judges an item, at an open end
 abbrev pub item_at : Packet → Option EndState → SecondaryState → Result What Refusal × SecondaryState
 item_at packet None s = (Err NotConnected, s)
-item_at packet (Some e) s = told (judging_item packet e s) s
+item_at packet (Some e) s = result_of (judging_item packet e s) s
 
 -- counts another taken frame of the hello
 abbrev pub greeted : EndState → SecondaryState → SecondaryState

@@ -10,7 +10,7 @@ use std::marker::Model;
 
 /// What is acknowledged, and how.
 #[derive(Clone, Copy)]
-pub(crate) enum Told {
+pub(crate) enum AckKind {
     /// A write is in memory: RECV_ACK.
     Received(Acknowledgement),
     /// A write is on the disk: WRITE_ACK.
@@ -23,11 +23,11 @@ pub(crate) enum Told {
 
 /// An acknowledgement that is due. Proofs see its packet, which can be encoded.
 #[derive(Drop)]
-pub(crate) struct Answer {
-    told: Told,
+pub(crate) struct DueAck {
+    kind: AckKind,
 }
 
-impl Model for Answer {
+impl Model for DueAck {
     ghost use Rattle.model.specs.Frames.{Packet as Denoted};
 
     ghost Value = { Denoted };
@@ -39,13 +39,13 @@ impl Model for Answer {
     ghost invariant = { IsAnswer };
 }
 
-impl Answer {
-    /// Creates the acknowledgement of `told`, whose packet can be encoded.
-    pub(crate) fn new(told: Told) -> Answer
-        requires { IsSpellable (packet_of told) }
-        ensures { result ≡ meaning (packet_of told) }
+impl DueAck {
+    /// Creates the acknowledgement of this kind, whose packet can be encoded.
+    pub(crate) fn new(kind: AckKind) -> DueAck
+        requires { IsSpellable (packet_of kind) }
+        ensures { result ≡ meaning (packet_of kind) }
     {
-        Answer { told }
+        DueAck { kind }
     }
 
     /// Returns its packet, which has no blocks.
@@ -54,11 +54,11 @@ impl Answer {
         ensures spellable { IsSpellable result }
         ensures inline { has_blocks result ≡ false }
     {
-        match self.told {
-            Told::Received(of) => Packet::RecvAck(of),
-            Told::Written(of) => Packet::WriteAck(of),
-            Told::Resynced(of) => Packet::RsWriteAck(of),
-            Told::Whole { epoch, writes } => Packet::BarrierAck {
+        match self.kind {
+            AckKind::Received(of) => Packet::RecvAck(of),
+            AckKind::Written(of) => Packet::WriteAck(of),
+            AckKind::Resynced(of) => Packet::RsWriteAck(of),
+            AckKind::Whole { epoch, writes } => Packet::BarrierAck {
                 number: epoch,
                 size: writes,
             },

@@ -10,16 +10,16 @@ use packets::Packet;
 /// Takes the next frame of the primary's hello, and returns its command. The identifiers in UUIDS decide nothing
 /// here. `OtherProtocol` (34), `OtherSize` (35) and `BadCommand` (21) come as `Handshake::judge` returns them; then
 /// nothing changes.
-pub(crate) fn greet(
+pub(crate) fn take_hello_frame(
     handshake: &mut Handshake,
     packet: &Packet,
     settings: &Settings,
 ) -> Result<Command, Refusal>
-    ensures judged { result ≡ judged handshake.old.heard packet.now settings.now }
-    ensures heard { OnOk result (handshake.new ≡ record handshake.old { heard = advanced handshake.old.heard }) }
+    ensures judged { result ≡ judged handshake.old.hello_received packet.now settings.now }
+    ensures heard { OnOk result (handshake.new ≡ record handshake.old { hello_received = advanced handshake.old.hello_received }) }
     ensures unchanged { OnErr result (handshake.new ≡ handshake.old) }
 {
     let command = handshake.judge(packet, settings)?;
-    handshake.hear();
+    handshake.frame_received();
     Ok(command)
 }

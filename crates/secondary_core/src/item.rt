@@ -7,7 +7,7 @@ ghost use Rattle.endpoint.specs.Meaning.{named};
 ghost use Rattle.secondary_core.specs.Answers.{receipt_of};
 ghost use Rattle.secondary_core.specs.Items.{is_kind};
 
-use crate::answer::{Answer, Told};
+use crate::answer::{AckKind, DueAck};
 use blocks::{BLOCK_BYTES, Protocol, Range};
 use bytes::Bytes;
 use packets::Acknowledgement;
@@ -98,12 +98,12 @@ impl PendingItem {
     }
 
     /// Returns the acknowledgement that is due once it is taken: under protocol B a write's RECV_ACK.
-    pub(crate) fn receipt(&self, protocol: Protocol, place: u32) -> Option<Answer>
+    pub(crate) fn receipt(&self, protocol: Protocol, place: u32) -> Option<DueAck>
         ensures { option_to_list result ≡ receipt_of protocol place self.now }
     {
         match (self.kind, protocol) {
             (ItemKind::Write(number), Protocol::B) => {
-                Some(Answer::new(Told::Received(self.naming(number, place))))
+                Some(DueAck::new(AckKind::Received(self.naming(number, place))))
             }
             _ => None,
         }
@@ -111,15 +111,15 @@ impl PendingItem {
 
     /// Returns the acknowledgement that is due once it is on the disk: a write's WRITE_ACK under protocol C, and a
     /// resync block's RS_WRITE_ACK under every protocol.
-    pub(crate) fn answer(&self, protocol: Protocol, place: u32) -> Option<Answer>
+    pub(crate) fn answer(&self, protocol: Protocol, place: u32) -> Option<DueAck>
         ensures { option_to_list result ≡ applied_answer protocol place self.now }
     {
         match (self.kind, protocol) {
             (ItemKind::Write(number), Protocol::C) => {
-                Some(Answer::new(Told::Written(self.naming(number, place))))
+                Some(DueAck::new(AckKind::Written(self.naming(number, place))))
             }
             (ItemKind::Write(_), _) => None,
-            (ItemKind::Resync, _) => Some(Answer::new(Told::Resynced(self.naming(0, place)))),
+            (ItemKind::Resync, _) => Some(DueAck::new(AckKind::Resynced(self.naming(0, place)))),
         }
     }
 

@@ -7,7 +7,7 @@ ghost use Rattle.secondary_protocol.specs.Core.{answers, is_applied_to};
 ghost use Rattle.secondary_core.specs.Outboxes.{begun, acknowledging};
 ghost use Rattle.blocks.specs.declared.refusal.Refusal.TheVariants.{NoMemory};
 
-use crate::answer::{Answer, Told};
+use crate::answer::{AckKind, DueAck};
 use crate::item::PendingItem;
 use blocks::Refusal;
 use packets::Packet;
@@ -24,7 +24,7 @@ const ANSWERS: usize = 2;
 /// epochs fit in 32 bits.
 #[derive(Drop)]
 pub(crate) struct Outbox {
-    due: VecDeque<Answer>,
+    due: VecDeque<DueAck>,
     answered: u32,
     sizes: VecDeque<u32>,
 }
@@ -68,7 +68,7 @@ impl Outbox {
     }
 
     /// Appends an acknowledgement, if there is one.
-    pub(crate) fn push(&mut self, answer: Option<Answer>)
+    pub(crate) fn push(&mut self, answer: Option<DueAck>)
         requires { length self.old.due + length (option_to_list answer) ≤ self.old.answers }
         ensures { self.new ≡ record self.old { due = self.old.due ++ option_to_list answer } }
     {
@@ -98,7 +98,7 @@ impl Outbox {
                 return;
             };
             self.answered += 1;
-            self.due.push_back_reserved(Answer::new(Told::Whole {
+            self.due.push_back_reserved(DueAck::new(AckKind::Whole {
                 epoch: self.answered,
                 writes,
             }));

@@ -7,7 +7,7 @@ ghost use Rattle.endpoint.specs.Meaning.{meaning};
 ghost use Rattle.secondary_protocol.specs.Core.{ack_out, due};
 ghost use Rattle.secondary_core.specs.Connections.{IsServed, acknowledged};
 
-use crate::answer::Answer;
+use crate::answer::DueAck;
 use crate::connection::Connection;
 use crate::item::PendingItem;
 use crate::state::SecondaryCore;
@@ -44,10 +44,10 @@ impl SecondaryCore {
         };
         let done = Done::about(What::Frame(packet.command(), None));
         if let Some(Connection { handshake, outbox }) = &mut self.connection {
-            if handshake.is_said() {
+            if handshake.is_sent() {
                 outbox.pop();
             } else {
-                handshake.say();
+                handshake.frame_sent();
             }
         }
         done
@@ -58,7 +58,7 @@ impl SecondaryCore {
 /// whose end all items are applied. No other call makes one due.
 pub(crate) fn acknowledge(
     connection: &mut Option<Connection>,
-    answer: Option<Answer>,
+    answer: Option<DueAck>,
     disk: &PeerDisk<PendingItem>,
 )
     requires { IfSome connection.old (λ c. length c.outbox.due + length (option_to_list answer) + length c.outbox.sizes + length disk.now.pending ≤ c.outbox.answers) }

@@ -9,7 +9,7 @@ ghost use Rattle.secondary_protocol.specs.Core.{may_take, take_at};
 ghost use Rattle.secondary_core.specs.Receiving.{MayTake, admitted, is_next, item_at, judged_at};
 
 use crate::connection::Connection;
-use crate::handshake::greet;
+use crate::handshake::take_hello_frame;
 use crate::item::{PendingItem, whole_blocks};
 use crate::send::acknowledge;
 use crate::state::SecondaryCore;
@@ -67,10 +67,10 @@ impl SecondaryCore {
         let Some(Connection { handshake, .. }) = &mut self.connection else {
             return Err(Refusal::NotConnected);
         };
-        if handshake.is_heard() {
+        if handshake.is_received() {
             return self.item(packet);
         }
-        let command = greet(handshake, &packet, &self.settings)?;
+        let command = take_hello_frame(handshake, &packet, &self.settings)?;
         Ok(What::Frame(command, None))
     }
 

@@ -64,7 +64,7 @@ impl SecondaryCore {
         let Some(connection) = &self.connection else {
             return false;
         };
-        connection.handshake.is_heard() && connection.handshake.is_said()
+        connection.handshake.is_received() && connection.handshake.is_sent()
     }
 
     /// Returns the number of the last connection, 0 before the first.

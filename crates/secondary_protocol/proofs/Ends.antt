@@ -25,13 +25,13 @@ counted n = elim (cases_lt n 3) [
 ]
 
 -- one frame more was taken
-pub heard-more : (e : EndState) (d : SecondaryConnection) (frame : Received) → e.heard ≡ min (length d.taken) 3
-    → (hearing e).heard ≡ min (length (d.taken ++ frame ∷ [])) 3
+pub heard-more : (e : EndState) (d : SecondaryConnection) (frame : Received) → e.hello_received ≡ min (length d.taken) 3
+    → (hearing e).hello_received ≡ min (length (d.taken ++ frame ∷ [])) 3
 heard-more e d frame is = ap (λ m. if nat_lt m 3 then suc m else m) is
     ∙ (counted (length d.taken) ∙ ap (λ m. min m 3) (sym (length-append d.taken (frame ∷ []))))
 
 -- the hello goes on, or is over
-pub hello-goes-on : (e : EndState) (d : SecondaryConnection) → e.heard ≡ min (length d.taken) 3 → nat_lt e.heard 3 ≡ nat_lt (length d.taken) 3
+pub hello-goes-on : (e : EndState) (d : SecondaryConnection) → e.hello_received ≡ min (length d.taken) 3 → nat_lt e.hello_received 3 ≡ nat_lt (length d.taken) 3
 hello-goes-on e d is = ap (λ m. nat_lt m 3) is ∙ elim (cases_lt (length d.taken) 3) [
   | inl early ↦ ap (λ m. nat_lt m 3) (omega arith)
   | inr late ↦ let is_three : min (length d.taken) 3 ≡ 3 = omega arith in ap (λ m. nat_lt m 3) is_three ∙ sym (le-ltb (length d.taken) 3 late)
@@ -60,8 +60,8 @@ end-takes e d frame more packets due_e due_d left items none is_e is_d other =
       is_open = left.is_open;
       plain = left.plain;
       hello = left.hello;
-      heard = heard-more e d frame left.heard;
-      said = left.said;
+      hello_received = heard-more e d frame left.hello_received;
+      hello_sent = left.hello_sent;
       owed = omega arith;
       due = is_e ∙ (ap (λ (l : List Packet). l ++ packets) left.due
           ∙ (sym (drop-append-le (d.pushed - 3) d.due packets left.owed) ∙ ap (drop (d.pushed - 3)) (sym is_d)));
@@ -95,8 +95,8 @@ end-barrier e d frame number left items =
       is_open = left.is_open;
       plain = left.plain;
       hello = left.hello;
-      heard = heard-more e d frame left.heard;
-      said = left.said;
+      hello_received = heard-more e d frame left.hello_received;
+      hello_sent = left.hello_sent;
       owed = left.owed;
       due = left.due;
       answered = left.answered;
@@ -120,7 +120,7 @@ drop-drop (suc n) [] = refl
 drop-drop (suc n) (x ∷ xs) = drop-drop n xs
 
 -- the hello is pushed, or goes on to be
-pub pushing-goes-on : (e : EndState) (d : SecondaryConnection) → e.said ≡ min d.pushed 3 → nat_lt e.said 3 ≡ nat_lt d.pushed 3
+pub pushing-goes-on : (e : EndState) (d : SecondaryConnection) → e.hello_sent ≡ min d.pushed 3 → nat_lt e.hello_sent 3 ≡ nat_lt d.pushed 3
 pushing-goes-on e d is = ap (λ m. nat_lt m 3) is ∙ elim (cases_lt d.pushed 3) [
   | inl early ↦ ap (λ m. nat_lt m 3) (omega arith)
   | inr late ↦ let is_three : min d.pushed 3 ≡ 3 = omega arith in ap (λ m. nat_lt m 3) is_three ∙ sym (le-ltb d.pushed 3 late)
@@ -130,16 +130,16 @@ pushing-goes-on e d is = ap (λ m. nat_lt m 3) is ∙ elim (cases_lt d.pushed 3)
 pub end-pushes : (e : EndState) (d : SecondaryConnection) → LeavesEnd e d → d.pushed < 3 + length d.due → LeavesEnd (pushing e) (pushed_one d)
 end-pushes e d left more = elim (cases_lt d.pushed 3) [
   | inl early ↦
-      let goes_on : nat_lt e.said 3 ≡ true = pushing-goes-on e d left.said ∙ lt-ltb d.pushed 3 early in
-      let said = left.said in
+      let goes_on : nat_lt e.hello_sent 3 ≡ true = pushing-goes-on e d left.hello_sent ∙ lt-ltb d.pushed 3 early in
+      let said = left.hello_sent in
       let none : d.pushed - 3 ≡ suc d.pushed - 3 = omega arith in
       subst (λ (x : EndState). LeavesEnd x (pushed_one d))
-      (sym (ap (λ b. if b then record e { said = suc e.said } else record e { due = drop 1 e.due }) goes_on)) (record {
+      (sym (ap (λ b. if b then record e { hello_sent = suc e.hello_sent } else record e { due = drop 1 e.due }) goes_on)) (record {
         is_open = left.is_open;
         plain = left.plain;
         hello = left.hello;
-        heard = left.heard;
-        said = omega arith;
+        hello_received = left.hello_received;
+        hello_sent = omega arith;
         owed = omega arith;
         due = left.due ∙ ap (λ n. drop n d.due) none;
         answered = left.answered;
@@ -147,16 +147,16 @@ end-pushes e d left more = elim (cases_lt d.pushed 3) [
         sizes = left.sizes;
       })
   | inr late ↦
-      let over : nat_lt e.said 3 ≡ false = pushing-goes-on e d left.said ∙ le-ltb d.pushed 3 late in
-      let said = left.said in
+      let over : nat_lt e.hello_sent 3 ≡ false = pushing-goes-on e d left.hello_sent ∙ le-ltb d.pushed 3 late in
+      let said = left.hello_sent in
       let next : suc (d.pushed - 3) ≡ suc d.pushed - 3 = omega arith in
-      subst (λ (x : EndState). LeavesEnd x (pushed_one d)) (sym (ap (λ b. if b then record e { said = suc e.said } else record e { due = drop 1 e.due }) over))
+      subst (λ (x : EndState). LeavesEnd x (pushed_one d)) (sym (ap (λ b. if b then record e { hello_sent = suc e.hello_sent } else record e { due = drop 1 e.due }) over))
       (record {
         is_open = left.is_open;
         plain = left.plain;
         hello = left.hello;
-        heard = left.heard;
-        said = omega arith;
+        hello_received = left.hello_received;
+        hello_sent = omega arith;
         owed = omega arith;
         due = ap (drop 1) left.due ∙ (drop-drop (d.pushed - 3) d.due ∙ ap (λ n. drop n d.due) next);
         answered = left.answered;
@@ -175,8 +175,8 @@ end-owes e d packets part left other =
       is_open = left.is_open;
       plain = left.plain;
       hello = left.hello;
-      heard = left.heard;
-      said = left.said;
+      hello_received = left.hello_received;
+      hello_sent = left.hello_sent;
       owed = omega arith;
       due = ap (λ (l : List Packet). l ++ packets) left.due ∙ sym (drop-append-le (d.pushed - 3) d.due packets left.owed);
       answered = λ epoch from. answered-still d.due packets (d.due ++ packets) refl other epoch ∙ left.answered epoch from;

@@ -38,8 +38,8 @@ pub record Intake : Type 0 where
 -- acknowledged or have their acknowledgement due, and the sizes of the others.
 pub record EndState : Type 0 where
   pub hello : Tuple
-  pub heard : ℕ
-  pub said : ℕ
+  pub hello_received : ℕ
+  pub hello_sent : ℕ
   pub due : List Packet
   pub answered : ℕ
   pub sizes : List ℕ
@@ -84,7 +84,7 @@ tested s tests done = elim (first_refusal tests) [ Some refusal ↦ (Err refusal
 
 -- an end that has just been opened
 abbrev pub opened_end : Tuple → EndState
-opened_end tuple = record { hello = tuple; heard = 0; said = 0; due = []; answered = 0; sizes = [] }
+opened_end tuple = record { hello = tuple; hello_received = 0; hello_sent = 0; due = []; answered = 0; sizes = [] }
 
 -- begins the connection of this number
 abbrev pub opened : ℕ → SecondaryState → SecondaryState
@@ -210,14 +210,14 @@ judging_item packet e s = Err BadCommand
 
 -- counts another taken frame of the peer's hello, up to 3
 abbrev pub hearing : EndState → EndState
-hearing e = record e { heard = if nat_lt e.heard 3 then suc e.heard else e.heard }
+hearing e = record e { hello_received = if nat_lt e.hello_received 3 then suc e.hello_received else e.hello_received }
 
 -- checks a frame: the first three as the hello, all others as items
 abbrev pub judging : Received → EndState → SecondaryState → Judged
 judging (Err fault) e s = Err fault
 judging (Ok packet) e s =
     let t = record s { end = Some (hearing e) } in
-    if nat_lt e.heard 3 then judging_hello e.heard packet t else judging_item packet (hearing e) t
+    if nat_lt e.hello_received 3 then judging_hello e.hello_received packet t else judging_item packet (hearing e) t
 
 -- The result of a checked frame. A protocol error closes the end; its items stay.
 abbrev pub taking : Judged → SecondaryState → Result Done Refusal × SecondaryState
@@ -281,7 +281,7 @@ peer_fault place s = elim (start place s) [ Err refusal ↦ (Err refusal, s) | O
 
 -- the next frame that an open end is to send: of its hello, and then of its acknowledgements
 abbrev pub owed : Settings → EndState → Option Packet
-owed settings e = if nat_lt e.said 3 then slice_get (hello_of settings e.hello) e.said else slice_get e.due 0
+owed settings e = if nat_lt e.hello_sent 3 then slice_get (hello_of settings e.hello) e.hello_sent else slice_get e.due 0
 
 -- the next frame that is due, or why there is none
 abbrev pub due : SecondaryState → Result Packet Refusal
@@ -289,7 +289,7 @@ due s = elim s.end [ None ↦ Err NotConnected | Some e ↦ ok_or (owed s.settin
 
 -- counts a pushed frame of the hello, or takes a pushed acknowledgement from the due ones
 abbrev pub pushing : EndState → EndState
-pushing e = if nat_lt e.said 3 then record e { said = suc e.said } else record e { due = drop 1 e.due }
+pushing e = if nat_lt e.hello_sent 3 then record e { hello_sent = suc e.hello_sent } else record e { due = drop 1 e.due }
 
 -- records that the due frame was pushed
 abbrev pub sent : SecondaryState → SecondaryState

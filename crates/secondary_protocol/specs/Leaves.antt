@@ -43,8 +43,8 @@ pub record LeavesEnd (e : EndState) (c : SecondaryConnection) : Type 0 where
   pub is_open : c.closed ≡ false
   pub plain : c.refused ≡ false
   pub hello : e.hello ≡ c.hello
-  pub heard : e.heard ≡ min (length c.taken) 3
-  pub said : e.said ≡ min c.pushed 3
+  pub hello_received : e.hello_received ≡ min (length c.taken) 3
+  pub hello_sent : e.hello_sent ≡ min c.pushed 3
   pub owed : c.pushed - 3 ≤ length c.due
   pub due : e.due ≡ drop (c.pushed - 3) c.due
   pub answered : (epoch : ℕ) → 0 < epoch → list_any (is_barrier_answer epoch) c.due ≡ nat_le epoch e.answered

@@ -57,7 +57,7 @@ pub record NodeIsHad (n : NodeState) : Type 0 where
 
 -- The call was this step of the model, for every history that the node refined.
 pub record IsStep (step : SecondaryHistory → Reply × SecondaryHistory) (n : NodeState) (reply : Reply) (next : NodeState) : Type 0 where
-  pub said : (h : SecondaryHistory) → NodeHas n h → reply ≡ (step h).0
+  pub replies : (h : SecondaryHistory) → NodeHas n h → reply ≡ (step h).0
   pub after : (h : SecondaryHistory) → NodeHas n h → NodeHas next (step h).1
 
 -- the call was the event's step

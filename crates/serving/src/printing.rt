@@ -2,7 +2,7 @@
 ghost use Rattle.std.specs.Prelude.{◌<◌, ◌≤◌, IfOk};
 
 use crate::fault::Fault;
-use crate::rest::{Disks, Tally};
+use crate::rest::{Disks, Totals};
 use crate::sessions::run_sessions;
 use blocks::{BLOCK_BYTES, MAX_BLOCKS, Refusal};
 use client_threads::{Doors, Service, start_threads};
@@ -34,7 +34,7 @@ pub fn serve<
     E: Write,
 >(rt: &H, options: &ServeOptions<'_>, input: I, out: &mut W, err: &mut E) -> SessionStatus {
     let served = match serve_images(rt, options, input, err) {
-        Ok(tally) => print(&tally, out),
+        Ok(totals) => print(&totals, out),
         Err(fault) => Err(fault),
     };
     match served {
@@ -52,7 +52,7 @@ fn serve_images<
     H: Host + Files<File = File> + Net<Listener = TcpListener, Stream = TcpStream> + RandomSource,
     I: Read + Drop + Send + 'static,
     E: Write,
->(rt: &H, options: &ServeOptions<'a>, input: I, err: &mut E) -> Result<Tally, Fault<'a>> {
+>(rt: &H, options: &ServeOptions<'a>, input: I, err: &mut E) -> Result<Totals, Fault<'a>> {
     let locks = lock_both(rt, options)?;
     let served = serve_locked(rt, options, input, err);
     drop(locks);
@@ -65,7 +65,7 @@ fn serve_locked<
     H: Host + Files<File = File> + Net<Listener = TcpListener, Stream = TcpStream> + RandomSource,
     I: Read + Drop + Send + 'static,
     E: Write,
->(rt: &H, options: &ServeOptions<'a>, input: I, err: &mut E) -> Result<Tally, Fault<'a>> {
+>(rt: &H, options: &ServeOptions<'a>, input: I, err: &mut E) -> Result<Totals, Fault<'a>> {
     let blocks = blocks_of(rt, options)?;
     let doors = Doors::open(rt, options.listen, options.status)?;
     match open_both(rt, options, blocks) {
@@ -120,9 +120,9 @@ fn finish<'a, H: Runtime>(
     service: &Service,
     options: &ServeOptions<'a>,
     disks: Disks,
-) -> Result<Tally, Fault<'a>> {
+) -> Result<Totals, Fault<'a>> {
     match run_sessions(*rt, service, options.cut_every, disks) {
-        Ok(rest) => Ok(rest.tally),
+        Ok(rest) => Ok(rest.totals),
         Err(refusal) => Err(Fault::Refused(refusal)),
     }
 }
@@ -209,17 +209,17 @@ fn shared(service: Service) -> Result<Arc<Service, Global>, Refusal> {
 }
 
 // Prints the three lines. They are printed also if the disks differ without a mark, which is a fault.
-fn print<'a, W: Write>(tally: &Tally, out: &mut W) -> Result<(), Fault<'a>> {
-    match print_lines(tally, out) {
-        Ok(()) if tally.unmarked > 0 => Err(Fault::Unmarked(tally.unmarked)),
+fn print<'a, W: Write>(totals: &Totals, out: &mut W) -> Result<(), Fault<'a>> {
+    match print_lines(totals, out) {
+        Ok(()) if totals.unmarked > 0 => Err(Fault::Unmarked(totals.unmarked)),
         Ok(()) => Ok(()),
         Err(error) => Err(Fault::Unwritten(error)),
     }
 }
 
-fn print_lines<W: Write>(tally: &Tally, out: &mut W) -> io::Result<()> {
-    writeln!(out, "completed {}", tally.completed)?;
-    writeln!(out, "settled {}", tally.confirmed)?;
-    writeln!(out, "unmarked {}", tally.unmarked)?;
+fn print_lines<W: Write>(totals: &Totals, out: &mut W) -> io::Result<()> {
+    writeln!(out, "completed {}", totals.completed)?;
+    writeln!(out, "settled {}", totals.confirmed)?;
+    writeln!(out, "unmarked {}", totals.unmarked)?;
     out.flush()
 }

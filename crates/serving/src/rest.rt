@@ -15,7 +15,7 @@ pub(crate) type Disks = (ImageStore<File>, ImageStore<File>);
 
 /// The results of a server's sessions.
 #[derive(Clone, Copy, Debug, PartialEq, Eq)]
-pub(crate) struct Tally {
+pub(crate) struct Totals {
     /// Writes that were completed.
     pub(crate) completed: u64,
     /// Receipts that the settlements confirmed.
@@ -24,17 +24,17 @@ pub(crate) struct Tally {
     pub(crate) unmarked: u32,
 }
 
-impl Tally {
+impl Totals {
     /// The results before the first session.
-    pub(crate) const NOTHING: Tally = Tally {
+    pub(crate) const NOTHING: Totals = Totals {
         completed: 0,
         confirmed: 0,
         unmarked: 0,
     };
 
     /// Adds the results of one session.
-    fn and(&self, completed: usize, confirmed: u64, unmarked: u32) -> Tally {
-        Tally {
+    fn and(&self, completed: usize, confirmed: u64, unmarked: u32) -> Totals {
+        Totals {
             completed: self.completed.saturating_add(completed as u64),
             confirmed: self.confirmed.saturating_add(confirmed),
             unmarked,
@@ -47,14 +47,14 @@ impl Tally {
 pub(crate) struct Rest {
     pub(crate) disks: Disks,
     pub(crate) parts: Parts,
-    pub(crate) tally: Tally,
+    pub(crate) totals: Totals,
 }
 
 /// Settles two nodes at rest with the receipts that their session gave, if none of its writes was refused, and returns
 /// what the next session starts from. The refusals are that of a write, and those of `settle` and `parts_after`.
 pub(crate) fn bring_together(
     service: &Service,
-    tally: Tally,
+    totals: Totals,
     primary: Primary<impl FrameOut + Drop, impl FrameIn + Drop, ImageStore<File>>,
     secondary: Secondary<impl FrameOut + Drop, impl FrameIn + Drop, ImageStore<File>>,
     worked: Result<Vec<Receipt>, Refusal>,
@@ -63,7 +63,7 @@ pub(crate) fn bring_together(
     let compared = match worked {
         Ok(receipts) => compare(
             service,
-            tally,
+            totals,
             &mut primary,
             &mut secondary,
             receipts.as_slice(),
@@ -72,10 +72,10 @@ pub(crate) fn bring_together(
     };
     let disks = (primary.into_store(), secondary.into_store());
     match compared {
-        Ok((parts, tally)) => Ok(Rest {
+        Ok((parts, totals)) => Ok(Rest {
             disks,
             parts,
-            tally,
+            totals,
         }),
         Err(refusal) => Err(refusal),
     }
@@ -84,13 +84,13 @@ pub(crate) fn bring_together(
 // Settles both nodes. Returns the parts of the next session, and the results of the sessions so far.
 fn compare(
     service: &Service,
-    tally: Tally,
+    totals: Totals,
     primary: &mut Primary<impl FrameOut + Drop, impl FrameIn + Drop, impl Store + Drop>,
     secondary: &mut Secondary<impl FrameOut + Drop, impl FrameIn + Drop, impl Store + Drop>,
     receipts: &[Receipt],
-) -> Result<(Parts, Tally), Refusal> {
+) -> Result<(Parts, Totals), Refusal> {
     let settled = settle(primary, secondary, receipts)?;
     let parts = parts_after(service.alloc, primary, secondary, service.words())?;
-    let tally = tally.and(receipts.len(), settled.confirmed, settled.unmarked);
-    Ok((parts, tally))
+    let totals = totals.and(receipts.len(), settled.confirmed, settled.unmarked);
+    Ok((parts, totals))
 }

@@ -4,7 +4,7 @@ ghost use Rattle.serving.specs.Links.{IsNewDirection};
 ghost use Rattle.std.specs.Prelude.{IfOk};
 ghost use Rattle.volume.specs.Links.{AreEndsOf};
 
-use crate::rest::{Disks, Rest, Tally, bring_together};
+use crate::rest::{Disks, Rest, Totals, bring_together};
 use blocks::{Refusal, Settings};
 use client_threads::{Service, work};
 use image_store::ImageStore;
@@ -29,11 +29,11 @@ pub(crate) fn run_session<R: Runtime>(
     let Rest {
         disks,
         parts,
-        tally,
+        totals,
     } = rest;
     match link(rt, service.alloc, parts.settings) {
         Ok((there, back)) => {
-            run_named::<Brand, R>(rt, service, cut_every, there, back, disks, parts, tally)
+            run_named::<Brand, R>(rt, service, cut_every, there, back, disks, parts, totals)
         }
         Err(refusal) => Err(refusal),
     }
@@ -64,7 +64,7 @@ fn run_named<L: Linked + Send + Sync + 'static, R: Runtime>(
     back: Direction<R>,
     disks: Disks,
     parts: Parts,
-    tally: Tally,
+    totals: Totals,
 ) -> Result<Rest, Refusal>
     requires there { AreEndsOf L.link names.There there }
     requires back { AreEndsOf L.link names.Back back }
@@ -83,7 +83,7 @@ fn run_named<L: Linked + Send + Sync + 'static, R: Runtime>(
             let worked = work(&rt, service, session.mirror(), cut_every);
             match session.finish() {
                 Ok((primary, secondary)) => {
-                    bring_together(service, tally, primary, secondary, worked)
+                    bring_together(service, totals, primary, secondary, worked)
                 }
                 Err(refusal) => Err(refusal),
             }

@@ -1,5 +1,5 @@
 //! One session after another, over the same disks.
-use crate::rest::{Disks, Rest, Tally};
+use crate::rest::{Disks, Rest, Totals};
 use crate::session::run_session;
 use blocks::{BLOCK_BYTES, Block, Refusal, Settings, Store, Tuple};
 use client_threads::Service;
@@ -39,7 +39,7 @@ fn first_rest(service: &Service, disks: Disks) -> Result<Rest, Refusal> {
         Ok(parts) => Ok(Rest {
             disks,
             parts,
-            tally: Tally::NOTHING,
+            totals: Totals::NOTHING,
         }),
         Err(refusal) => Err(refusal),
     }

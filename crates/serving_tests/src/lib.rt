@@ -1,8 +1,11 @@
-//! Tests of a server: clients over sockets, by bytes written out by hand; disks over image files; and the status page.
+//! Tests of a server: clients over sockets, by bytes written out by hand; what a flush waits for; disks over image files; and the
+//! status page.
 #![tactic(auto)]
 
 #[cfg(test)]
 mod clients;
+#[cfg(test)]
+mod flushes;
 #[cfg(test)]
 mod images;
 #[cfg(test)]

@@ -3,7 +3,7 @@ use Rattle.std.proofs.Common.{ℕ, ◌≡◌, ◌==◌, List, [], ◌∷◌, ◌
 use Rattle.std.specs.Prelude.{if◌then◌else◌}
 use Rattle.link.specs.Past.{Past}
 use Rattle.endpoint.specs.PacketReceiver.{PacketReceiverState, incoming, taken_before}
-use Rattle.endpoint.specs.Joined.{AreToldEverywhere, BeginsPushed, pushed_at, taken_at, sent_at, sent_past, came_at, came_past}
+use Rattle.endpoint.specs.Joined.{PacketsFollowEverywhere, BeginsPushed, pushed_at, taken_at, sent_at, sent_past, came_at, came_past}
 use Rattle.endpoint.specs.PacketSender.{PacketSenderState, outgoing, pushed_before}
 use Rattle.ruled_link.specs.Carried.{past_on}
 use Rattle.ruled_link.specs.Inward.{InwardState, taking}
@@ -27,12 +27,12 @@ came-on number s = ap (λ (rest : List (List ℕ)). if s.number == number then s
 -- So where the frames taken begin the frames sent, the packets do, whichever way the ends are told.
 pub joins : (o : PacketSenderState) (i : PacketReceiverState) (told_o : PacketSenderState) (told_i : PacketReceiverState) (s : OutwardState) (t : InwardState)
     → o ≡ outgoing (sending s) → i ≡ incoming (taking t) → told_o ≡ outgoing (sending s) → told_i ≡ incoming (taking t)
-    → IsJoined s t → AreToldEverywhere told_o told_i → (number : ℕ) → BeginsPushed (taken_at number i) (pushed_at number o)
+    → IsJoined s t → PacketsFollowEverywhere told_o told_i → (number : ℕ) → BeginsPushed (taken_at number i) (pushed_at number o)
 joins o i told_o told_i s t o_is i_is told_o_is told_i_is joined told number =
     let both = joined number in
-    let everywhere : AreToldEverywhere (outgoing (sending s)) (incoming (taking t)) =
-    subst (λ (x : PacketSenderState). AreToldEverywhere x (incoming (taking t))) told_o_is
-    (subst (λ (y : PacketReceiverState). AreToldEverywhere told_o y) told_i_is told) in
+    let everywhere : PacketsFollowEverywhere (outgoing (sending s)) (incoming (taking t)) =
+    subst (λ (x : PacketSenderState). PacketsFollowEverywhere x (incoming (taking t))) told_o_is
+    (subst (λ (y : PacketReceiverState). PacketsFollowEverywhere told_o y) told_i_is told) in
     let begins : BeginsPushed (taken_at number (incoming (taking t))) (pushed_at number (outgoing (sending s))) =
     everywhere number (both.0, ap (λ (l : List (List ℕ)). l ++ both.0) (came-on number t) ∙ (both.1 ∙ sym (sent-on number s))) in
     subst (λ (x : PacketSenderState). BeginsPushed (taken_at number i) (pushed_at number x)) (sym o_is)

@@ -211,7 +211,7 @@ pub steps-over : {Told : Type 0} (event : PrimaryEvent) → IsNoOpening event �
     → ((h : PrimaryHistory) → NodeHas (node v) h → told ≡ (step h).0)
     → ((h : PrimaryHistory) → NodeHas (node v) h → NodeHas (node w) (step h).1) → IsPrimaryStep step v told w
 steps-over event none step is v w told same said after = record {
-  said = λ h was. said h was.has;
+  replies = λ h was. said h was.has;
   after = λ h was. subst (PrimaryHas w) (sym (is h)) (has-step event none v w h was same (subst (NodeHas (node w)) (is h) (after h was.has)));
 }
 
@@ -312,15 +312,15 @@ pub reopens-over : (sync loss : ℕ) (v w : PrimaryView) (result : Result ℕ Re
     → IfOk result (λ number. IsRestarted number v w) → IfOk result (λ number. number ≡ w.core.connections) → OnErr result (w ≡ v)
     → PrimarySteps (Opens sync loss (is_out_of_memory result)) v (replied (λ (number : ℕ). plainly tt) result) w
 reopens-over sync loss v w (Ok number) s restarted counted unchanged = record {
-  said = λ h was. s.said h was.has;
-  after = λ h was. has-opened sync loss number v w h was (s.said h was.has) (s.after h was.has) counted restarted;
+  replies = λ h was. s.replies h was.has;
+  after = λ h was. has-opened sync loss number v w h was (s.replies h was.has) (s.after h was.has) counted restarted;
 }
 reopens-over sync loss v w (Err e) s restarted counted unchanged = record {
-  said = λ h was. s.said h was.has;
+  replies = λ h was. s.replies h was.has;
   after = λ h was.
       let stays : primary_after (Opens sync loss (is_out_of_memory {R = ℕ} (Err e))) h ≡ h =
       refused-same (Opens sync loss (is_out_of_memory {R = ℕ} (Err e))) tt h e
-      (s.said h was.has) in
+      (s.replies h was.has) in
       subst (PrimaryHas w) (sym stays) (subst (λ (x : PrimaryView). PrimaryHas x h) (sym unchanged) was);
 }
 
@@ -344,7 +344,7 @@ first-over sync loss v w h o i out inn none has steps out_there in_there = recor
     later = primary_after (Opens sync loss false) h
 
     said : plainly tt ≡ (step.open_primary sync loss false h).0
-    said = steps.said h has
+    said = steps.replies h has
 
     one : length (primary_after (Opens sync loss false) h).connections ≡ 1
     one = (opened-more sync loss h said).0 ∙ ap (λ (l : List PrimaryConnection). suc (length l)) none

@@ -282,7 +282,7 @@ pub steps-over : (event : SecondaryEvent) → IsNoOpening event → ((h : Second
     → (v w : SecondaryView) (told : Reply) → SameEnds v.outgoing w.outgoing v.incoming w.incoming → NodeSteps event (node v) told (node w)
     → SecondarySteps event v told w
 steps-over event none is v w told same steps = record {
-  said = λ h was. steps.said h was.has;
+  replies = λ h was. steps.replies h was.has;
   after = λ h was. subst (SecondaryHas w) (sym (is h)) (has-step event none v w h was same (subst (NodeHas (node w)) (is h) (steps.after h was.has)));
 }
 
@@ -392,16 +392,16 @@ pub reopens-over : (number : ℕ) (v w : SecondaryView) (result : Result (Unit {
     → NodeSteps (OpensToo (number - (v.core.number + 1))) (node v) (replied plainly result) (node w)
     → OnOk result (IsRestarted number v w) → OnErr result (w ≡ v) → SecondarySteps (OpensToo (number - (v.core.number + 1))) v (replied plainly result) w
 reopens-over number v w (Ok told) above s restarted unchanged = record {
-  said = λ h was. s.said h was.has;
+  replies = λ h was. s.replies h was.has;
   after = λ h was.
       let last = was.has.leaves.core.last.number in
-      has-opened (number - (v.core.number + 1)) number v w h was (s.said h was.has) (s.after h was.has) (omega arith) restarted;
+      has-opened (number - (v.core.number + 1)) number v w h was (s.replies h was.has) (s.after h was.has) (omega arith) restarted;
 }
 reopens-over number v w (Err e) above s restarted unchanged = record {
-  said = λ h was. s.said h was.has;
+  replies = λ h was. s.replies h was.has;
   after = λ h was.
       let event : SecondaryEvent = OpensToo (number - (v.core.number + 1)) in
-      let stays : (secondary_step event h).1 ≡ h = refused-same event tt h e (s.said h was.has) in
+      let stays : (secondary_step event h).1 ≡ h = refused-same event tt h e (s.replies h was.has) in
       subst (SecondaryHas w) (sym stays) (subst (λ (x : SecondaryView). SecondaryHas x h) (sym unchanged) was);
 }
 
@@ -424,7 +424,7 @@ first-over v w h o i out inn none has steps out_there in_there = record {
     later = secondary_after (OpensToo 0) h
 
     said : reply.Ok (plainly tt) ≡ (step.open_secondary 0 h).0
-    said = steps.said h has
+    said = steps.replies h has
 
     one : length (secondary_after (OpensToo 0) h).connections ≡ 1
     one = (opened-more 0 h said).connections ∙ ap (λ (l : List SecondaryConnection). suc (length l)) none

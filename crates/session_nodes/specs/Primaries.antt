@@ -41,7 +41,7 @@ pub record PrimaryIsHad (v : PrimaryView) : Type 0 where
 
 -- The call was this step of the model, for every such history that the node refined.
 pub record IsPrimaryStep {Told : Type 0} (step : PrimaryHistory → Told × PrimaryHistory) (v : PrimaryView) (told : Told) (w : PrimaryView) : Type 0 where
-  pub said : (h : PrimaryHistory) → PrimaryHas v h → told ≡ (step h).0
+  pub replies : (h : PrimaryHistory) → PrimaryHas v h → told ≡ (step h).0
   pub after : (h : PrimaryHistory) → PrimaryHas v h → PrimaryHas w (step h).1
 
 -- the call was the event's step

@@ -41,7 +41,7 @@ pub record SecondaryIsHad (v : SecondaryView) : Type 0 where
 -- The call was this step of the model, for every such history that the node refined.
 pub record IsSecondaryStep {Told : Type 0} (step : SecondaryHistory → Told × SecondaryHistory) (v : SecondaryView) (told : Told)
     (w : SecondaryView) : Type 0 where
-  pub said : (h : SecondaryHistory) → SecondaryHas v h → told ≡ (step h).0
+  pub replies : (h : SecondaryHistory) → SecondaryHas v h → told ≡ (step h).0
   pub after : (h : SecondaryHistory) → SecondaryHas v h → SecondaryHas w (step h).1
 
 -- the call was the event's step

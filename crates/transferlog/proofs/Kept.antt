@@ -10,7 +10,7 @@ use Rattle.blocks.specs.Positions.{StreamPosition}
 use Rattle.epochs.specs.Epochs.{EpochsState, is_in_last, ended_if, is_awaited, begins_with, acknowledging}
 use Rattle.transferlog.specs.Writes.{LogWrite, is_released, is_settled}
 use Rattle.transferlog.specs.Ring.{Each, ReleasedFrom, ReleasedBelow, on, with_change, changed}
-use Rattle.transferlog.specs.Log.{LogState, moved, changing, ended_by, closes_any, home_in, with_latest, accepted_write, accepting, confirming, may_confirm}
+use Rattle.transferlog.specs.Log.{LogState, moved, changing, ended_by, closes_any, home_in, with_last_write, accepted_write, accepting, confirming, may_confirm}
 use Rattle.transferlog.specs.Log.{lacks_answer, asks_answers}
 use Rattle.transferlog.specs.Fields.{IsKept, IsAlone, IsLog}
 use Rattle.transferlog.specs.declared.log.TransferLog.TheInside.{Inside}
@@ -25,22 +25,22 @@ use Rattle.transferlog.proofs.Sweep.{few_filtered}
 sum-push : (ns : List ℕ) (n : ℕ) → sum (ns ++ n ∷ []) ≡ sum ns + n
 sum-push ns n = grind (arith, common_steps)
 
--- the epochs' writes were accepted after those confirmed
-pub record IsBounded (confirmed accepted : ℕ) (e : EpochsState) : Type 0 where
-  pub confirmed_writes : confirmed + (sum e.sizes + e.size) ≤ accepted
+-- the epochs' writes were accepted after the acknowledged ones
+pub record IsBounded (acknowledged_through accepted : ℕ) (e : EpochsState) : Type 0 where
+  pub confirmed_writes : acknowledged_through + (sum e.sizes + e.size) ≤ accepted
   pub begun : 0 < e.size → e.first + e.size ≤ accepted + 1
 
-bounded_if : (b : Bool) (confirmed accepted : ℕ) (e : EpochsState) → IsBounded confirmed accepted e → IsBounded confirmed accepted (ended_if b e).1
-bounded_if true confirmed accepted e bounded = record {
+bounded_if : (b : Bool) (acknowledged_through accepted : ℕ) (e : EpochsState) → IsBounded acknowledged_through accepted e → IsBounded acknowledged_through accepted (ended_if b e).1
+bounded_if true acknowledged_through accepted e bounded = record {
   confirmed_writes = omega (arith, sum-push e.sizes e.size, bounded.confirmed_writes);
   begun = λ positive. absurd (omega arith);
 }
-bounded_if false confirmed accepted e bounded = bounded
+bounded_if false acknowledged_through accepted e bounded = bounded
 
-pub bounded_ended : (b : Bool) (number confirmed accepted : ℕ) (e : EpochsState) → IsBounded confirmed accepted e
-    → IsBounded confirmed accepted (ended_by b number e).1
-bounded_ended true number confirmed accepted e bounded = bounded_if (is_in_last number e) confirmed accepted e bounded
-bounded_ended false number confirmed accepted e bounded = bounded
+pub bounded_ended : (b : Bool) (number acknowledged_through accepted : ℕ) (e : EpochsState) → IsBounded acknowledged_through accepted e
+    → IsBounded acknowledged_through accepted (ended_by b number e).1
+bounded_ended true number acknowledged_through accepted e bounded = bounded_if (is_in_last number e) acknowledged_through accepted e bounded
+bounded_ended false number acknowledged_through accepted e bounded = bounded
 
 alone_changed : (what : Change) (w : LogWrite) → IsAlone w → IsAlone (changed what w)
 alone_changed (change.Sent answers) w alone = alone
@@ -51,33 +51,33 @@ alone_changed change.Unlinked w alone = refl
 
 -- what is kept about a log is kept where one write was changed, and released if it is
 pub log_changed : (l m : Inside) (number : ℕ) (what : Change) → IsLog l → m.ring.next ≡ l.ring.next → m.accepted ≡ l.accepted → m.connection ≡ l.connection
-    → m.confirmed ≡ l.confirmed → m.backlog ≡ l.backlog
-    → m.ring.writes ≡ filter (λ w. not (is_released l.confirmed w)) (with_change number (changed what) l.ring.writes)
+    → m.acknowledged_through ≡ l.acknowledged_through → m.backlog ≡ l.backlog
+    → m.ring.writes ≡ filter (λ w. not (is_released l.acknowledged_through w)) (with_change number (changed what) l.ring.writes)
     → vec_capacity m.released ≡ vec_capacity l.released → vec_capacity m.completed ≡ vec_capacity l.completed
-    → IsBounded l.confirmed l.accepted m.epochs.state → IsLog m
-log_changed l m number what log next accepted connection confirmed backlog writes released completed bounded =
+    → IsBounded l.acknowledged_through l.accepted m.epochs.state → IsLog m
+log_changed l m number what log next accepted connection acknowledged_through backlog writes released completed bounded =
     let few : length m.ring.writes ≤ length l.ring.writes =
-    rw writes (few_left (λ w. not (is_released l.confirmed w)) (on number (changed what)) l.ring.writes) in
+    rw writes (few_left (λ w. not (is_released l.acknowledged_through w)) (on number (changed what)) l.ring.writes) in
     record {
       next = next ∙ (log.next ∙ ap (λ n. n + 1) (sym accepted));
       few_accepted = rw accepted log.few_accepted;
-      kept = rw (confirmed, writes) (left_kept l.confirmed (with_change number (changed what) l.ring.writes));
+      kept = rw (acknowledged_through, writes) (left_kept l.acknowledged_through (with_change number (changed what) l.ring.writes));
       numbered = rw connection log.numbered;
-      alone = λ none. rw writes (each_filter IsAlone (λ w. not (is_released l.confirmed w)) (with_change number (changed what) l.ring.writes)
+      alone = λ none. rw writes (each_filter IsAlone (λ w. not (is_released l.acknowledged_through w)) (with_change number (changed what) l.ring.writes)
           (each_changed IsAlone number (changed what) l.ring.writes (alone_changed what) (log.alone (sym connection ∙ none))));
       few = omega (arith, few, log.few, backlog);
       some = rw backlog log.some;
       room_for_released = omega (arith, log.room_for_released, backlog, released);
       room_for_completed = omega (arith, log.room_for_completed, backlog, completed);
-      confirmed = rw (confirmed, accepted) bounded.confirmed_writes;
+      acknowledged_through = rw (acknowledged_through, accepted) bounded.confirmed_writes;
       begun = rw accepted bounded.begun;
     }
 
 -- the log after a change, by its parts
 pub changed_is : (s : LogState) (number : ℕ) (f : LogWrite → LogWrite) (writes : List LogWrite) (released : List Released) (completed : List Completed)
     (ended : Option ℕ × EpochsState)
-    → writes ≡ (moved (on number f) s.confirmed s).writes → released ≡ (moved (on number f) s.confirmed s).released
-    → completed ≡ (moved (on number f) s.confirmed s).completed
+    → writes ≡ (moved (on number f) s.acknowledged_through s).writes → released ≡ (moved (on number f) s.acknowledged_through s).released
+    → completed ≡ (moved (on number f) s.acknowledged_through s).completed
     → ended ≡ ended_by (closes_any (on number f) s) number s.epochs
     → let result : Option ℕ × LogState = (ended.0, record s { writes = writes; released = released; completed = completed; epochs = ended.1 }) in result ≡
     changing number f s
@@ -85,20 +85,20 @@ changed_is s number f writes released completed ended w r c e = rw (w, r, c, e) 
 
 -- the log after a write was accepted, by its parts
 pub accepted_is : (s : LogState) (first count : ℕ) (contents : List ℕ) (home : Option StreamPosition) (barrier place : Option ℕ) (e : EpochsState)
-    (latest : List ℕ) (writes : List LogWrite)
+    (last_writes : List ℕ) (writes : List LogWrite)
     (released : List Released) (completed : List Completed)
     → (let answer : Option StreamPosition × (Option ℕ × EpochsState) = (home, (barrier, e)) in answer ≡ home_in s.connection (s.accepted + 1) s.epochs)
-    → place ≡ option_map (λ h. h.place) home → latest ≡ with_latest (s.accepted + 1) first count s.latest
+    → place ≡ option_map (λ h. h.place) home → last_writes ≡ with_last_write (s.accepted + 1) first count s.last_writes
     → writes ≡ s.writes ++ accepted_write first count contents home s ∷ [] → released ≡ [] → completed ≡ []
     → (let result : Accepted × LogState = (
       record { number = s.accepted + 1; place = place; barrier = barrier },
-      record s { accepted = s.accepted + 1; latest = latest; writes = writes; epochs = e; released = released; completed = completed },
+      record s { accepted = s.accepted + 1; last_writes = last_writes; writes = writes; epochs = e; released = released; completed = completed },
     ) in
     result ≡ accepting first count contents s)
-accepted_is s first count contents home barrier place e latest writes released completed is p l w r c =
+accepted_is s first count contents home barrier place e last_writes writes released completed is p l w r c =
     rw (p, l, w, r, c) (rw (ap (λ a. a.0) is, ap (λ a. a.1.0) is, ap (λ a. a.1.1) is) refl)
 
--- what is released newly, where one more epoch is confirmed
+-- what is released newly, where one more epoch is acknowledged
 newly : (settled linked old new : Bool) → (settled && (not linked || old)) ≡ false → (settled && (not linked || new)) ≡ true → (old ≡ false) × (new ≡ true)
 newly false linked old new kept released = cc
 newly true false old new kept released = cc
@@ -136,43 +136,43 @@ and_right : (a b : Bool) → (a && b) ≡ true → b ≡ true
 and_right true b is = is
 and_right false b is = cc
 
--- the epochs' writes were accepted after those confirmed, where one more epoch is
-pub bounded_confirmed : (number size confirmed accepted : ℕ) (e : EpochsState) → is_awaited number size e ≡ true → IsBounded confirmed accepted e
-    → IsBounded (confirmed + size) accepted (acknowledging number size e).1
-bounded_confirmed number size confirmed accepted e awaited bounded =
+-- the epochs' writes were accepted after the acknowledged ones, where one more epoch is
+pub bounded_confirmed : (number size acknowledged_through accepted : ℕ) (e : EpochsState) → is_awaited number size e ≡ true → IsBounded acknowledged_through accepted e
+    → IsBounded (acknowledged_through + size) accepted (acknowledging number size e).1
+bounded_confirmed number size acknowledged_through accepted e awaited bounded =
     let first = sum-first size e.sizes (and_right (number + length e.sizes == e.ended + 1) (begins_with size e.sizes) awaited) in
     rw awaited (record { confirmed_writes = omega (arith, first, bounded.confirmed_writes); begun = bounded.begun })
 
 pub awaited_of : (number size : ℕ) (s : LogState) → may_confirm number size s ≡ true → is_awaited number size s.epochs ≡ true
 awaited_of number size s may = and_left (is_awaited number size s.epochs) (not (asks_answers s.protocol && lacks_answer size s)) may
 
-pub log_confirmed : (l m : Inside) (confirmed : ℕ) → IsLog l → m.ring.next ≡ l.ring.next → m.accepted ≡ l.accepted → m.connection ≡ l.connection
-    → m.confirmed ≡ confirmed → m.backlog ≡ l.backlog
-    → m.ring.writes ≡ filter (λ w. not (is_released confirmed w)) l.ring.writes
+pub log_confirmed : (l m : Inside) (acknowledged_through : ℕ) → IsLog l → m.ring.next ≡ l.ring.next → m.accepted ≡ l.accepted → m.connection ≡ l.connection
+    → m.acknowledged_through ≡ acknowledged_through → m.backlog ≡ l.backlog
+    → m.ring.writes ≡ filter (λ w. not (is_released acknowledged_through w)) l.ring.writes
     → vec_capacity m.released ≡ vec_capacity l.released → vec_capacity m.completed ≡ vec_capacity l.completed
-    → IsBounded confirmed l.accepted m.epochs.state → IsLog m
-log_confirmed l m confirmed log next accepted connection confirmed_is backlog writes released completed bounded =
-    let few : length m.ring.writes ≤ length l.ring.writes = rw writes (few_filtered (λ w. not (is_released confirmed w)) l.ring.writes) in
+    → IsBounded acknowledged_through l.accepted m.epochs.state → IsLog m
+log_confirmed l m acknowledged_through log next accepted connection confirmed_is backlog writes released completed bounded =
+    let few : length m.ring.writes ≤ length l.ring.writes = rw writes (few_filtered (λ w. not (is_released acknowledged_through w)) l.ring.writes) in
     record {
       next = next ∙ (log.next ∙ ap (λ n. n + 1) (sym accepted));
       few_accepted = rw accepted log.few_accepted;
-      kept = rw (confirmed_is, writes) (left_kept confirmed l.ring.writes);
+      kept = rw (confirmed_is, writes) (left_kept acknowledged_through l.ring.writes);
       numbered = rw connection log.numbered;
-      alone = λ none. rw writes (each_filter IsAlone (λ w. not (is_released confirmed w)) l.ring.writes (log.alone (sym connection ∙ none)));
+      alone = λ none. rw writes (each_filter IsAlone (λ w. not (is_released acknowledged_through w)) l.ring.writes (log.alone (sym connection ∙ none)));
       few = omega (arith, few, log.few, backlog);
       some = rw backlog log.some;
       room_for_released = omega (arith, log.room_for_released, backlog, released);
       room_for_completed = omega (arith, log.room_for_completed, backlog, completed);
-      confirmed = rw (confirmed_is, accepted) bounded.confirmed_writes;
+      acknowledged_through = rw (confirmed_is, accepted) bounded.confirmed_writes;
       begun = rw accepted bounded.begun;
     }
 
 -- the log after an epoch was acknowledged, by its parts
-pub confirmed_is : (number size : ℕ) (s : LogState) (confirmed : ℕ) (writes : List LogWrite) (e : EpochsState) (released : List Released)
+pub confirmed_is : (number size : ℕ) (s : LogState) (acknowledged_through : ℕ) (writes : List LogWrite) (e : EpochsState) (released : List Released)
     (completed : List Completed)
-    → confirmed ≡ s.confirmed + size → writes ≡ (confirming number size s).writes → e ≡ (confirming number size s).epochs
+    → acknowledged_through ≡ s.acknowledged_through + size → writes ≡ (confirming number size s).writes → e ≡ (confirming number size s).epochs
     → released ≡ (confirming number size s).released → completed ≡ []
     → (let result : Result (Unit {0}) Refusal × LogState =
-    (Ok tt, record s { confirmed = confirmed; writes = writes; epochs = e; released = released; completed = completed }) in
+    (Ok tt, record s { acknowledged_through = acknowledged_through; writes = writes; epochs = e; released = released; completed = completed }) in
     result ≡ (Ok tt, confirming number size s))
-confirmed_is number size s confirmed writes e released completed c w ep r d = rw (c, w, ep, r, d) refl
+confirmed_is number size s acknowledged_through writes e released completed c w ep r d = rw (c, w, ep, r, d) refl

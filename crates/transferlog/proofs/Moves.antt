@@ -23,22 +23,22 @@ none_above n low (w ∷ ws) above rises = (higher_number w.number n (omega (arit
 
 -- what is kept apart from the write with this number
 abbrev pub KeptBut : ℕ → ℕ → LogWrite → Type 0
-KeptBut n confirmed w = has_number n w ≡ false → is_released confirmed w ≡ false
+KeptBut n acknowledged_through w = has_number n w ≡ false → is_released acknowledged_through w ≡ false
 
 -- a change that keeps a write's number
 abbrev pub KeepsNumber : (LogWrite → LogWrite) → Type 0
 KeepsNumber f = (w : LogWrite) → (f w).number ≡ w.number
 
-changed_kept : (b : Bool) (n confirmed : ℕ) (f : LogWrite → LogWrite) (w : LogWrite) → has_number n w ≡ b → KeepsNumber f → IsKept confirmed w
-    → KeptBut n confirmed (if b then f w else w)
-changed_kept true n confirmed f w is keeps kept = λ other. let has : ((f w).number == n) ≡ true = rw (keeps w) is in cc
-changed_kept false n confirmed f w is keeps kept = λ other. kept
+changed_kept : (b : Bool) (n acknowledged_through : ℕ) (f : LogWrite → LogWrite) (w : LogWrite) → has_number n w ≡ b → KeepsNumber f → IsKept acknowledged_through w
+    → KeptBut n acknowledged_through (if b then f w else w)
+changed_kept true n acknowledged_through f w is keeps kept = λ other. let has : ((f w).number == n) ≡ true = rw (keeps w) is in cc
+changed_kept false n acknowledged_through f w is keeps kept = λ other. kept
 
 -- only the changed write can be released
-pub kept_but : (n confirmed : ℕ) (f : LogWrite → LogWrite) (ws : List LogWrite) → KeepsNumber f → Each (IsKept confirmed) ws
-    → Each (KeptBut n confirmed) (with_change n f ws)
-kept_but n confirmed f [] keeps kept = tt
-kept_but n confirmed f (w ∷ ws) keeps kept = (changed_kept (has_number n w) n confirmed f w refl keeps kept.0, kept_but n confirmed f ws keeps kept.1)
+pub kept_but : (n acknowledged_through : ℕ) (f : LogWrite → LogWrite) (ws : List LogWrite) → KeepsNumber f → Each (IsKept acknowledged_through) ws
+    → Each (KeptBut n acknowledged_through) (with_change n f ws)
+kept_but n acknowledged_through f [] keeps kept = tt
+kept_but n acknowledged_through f (w ∷ ws) keeps kept = (changed_kept (has_number n w) n acknowledged_through f w refl keeps kept.0, kept_but n acknowledged_through f ws keeps kept.1)
 
 changed_number : (b : Bool) (f : LogWrite → LogWrite) (w : LogWrite) → KeepsNumber f → (if b then f w else w).number ≡ w.number
 changed_number true f w keeps = keeps w
@@ -65,33 +65,33 @@ pub skipped : (n : ℕ) (w : LogWrite) (ws : List LogWrite) → has_number n w �
 skipped n w ws is = rw is refl
 
 -- where none has the number, none is released
-none_released : (n confirmed : ℕ) (ws : List LogWrite) → NoneHas n ws → Each (KeptBut n confirmed) ws → filter (is_released confirmed) ws ≡ []
-none_released n confirmed [] none kept = refl
-none_released n confirmed (w ∷ ws) none kept = rw (kept.0 none.0) (none_released n confirmed ws none.1 kept.1)
+none_released : (n acknowledged_through : ℕ) (ws : List LogWrite) → NoneHas n ws → Each (KeptBut n acknowledged_through) ws → filter (is_released acknowledged_through) ws ≡ []
+none_released n acknowledged_through [] none kept = refl
+none_released n acknowledged_through (w ∷ ws) none kept = rw (kept.0 none.0) (none_released n acknowledged_through ws none.1 kept.1)
 
-all_left : (n confirmed : ℕ) (ws : List LogWrite) → NoneHas n ws → Each (KeptBut n confirmed) ws → filter (λ w. not (is_released confirmed w)) ws ≡ ws
-all_left n confirmed [] none kept = refl
-all_left n confirmed (w ∷ ws) none kept = rw (kept.0 none.0) (ap (λ more. w ∷ more) (all_left n confirmed ws none.1 kept.1))
+all_left : (n acknowledged_through : ℕ) (ws : List LogWrite) → NoneHas n ws → Each (KeptBut n acknowledged_through) ws → filter (λ w. not (is_released acknowledged_through w)) ws ≡ ws
+all_left n acknowledged_through [] none kept = refl
+all_left n acknowledged_through (w ∷ ws) none kept = rw (kept.0 none.0) (ap (λ more. w ∷ more) (all_left n acknowledged_through ws none.1 kept.1))
 
 pub one_released : (b : Bool) (w : LogWrite) → map released_of (if b then w ∷ [] else []) ≡ option_to_list (if b then Some (released_of w) else None)
 one_released true w = refl
 one_released false w = refl
 
-released_by : (b : Bool) (n confirmed low : ℕ) (w : LogWrite) (ws : List LogWrite) → has_number n w ≡ b → Rises low (w ∷ ws)
-    → Each (KeptBut n confirmed) (w ∷ ws)
-    → map released_of (filter (is_released confirmed) ws) ≡ option_to_list (option_and_then (release_of confirmed) (write_at n ws))
-    → map released_of (filter (is_released confirmed) (w ∷ ws)) ≡ option_to_list (option_and_then (release_of confirmed) (write_at n (w ∷ ws)))
-released_by true n confirmed low w ws is rises kept rest =
+released_by : (b : Bool) (n acknowledged_through low : ℕ) (w : LogWrite) (ws : List LogWrite) → has_number n w ≡ b → Rises low (w ∷ ws)
+    → Each (KeptBut n acknowledged_through) (w ∷ ws)
+    → map released_of (filter (is_released acknowledged_through) ws) ≡ option_to_list (option_and_then (release_of acknowledged_through) (write_at n ws))
+    → map released_of (filter (is_released acknowledged_through) (w ∷ ws)) ≡ option_to_list (option_and_then (release_of acknowledged_through) (write_at n (w ∷ ws)))
+released_by true n acknowledged_through low w ws is rises kept rest =
     let number = number_is w.number n is in
-    rw is (rw (none_released n confirmed ws (none_above n (suc w.number) ws (omega arith) rises.1) kept.1) (one_released (is_released confirmed w) w))
-released_by false n confirmed low w ws is rises kept rest = rw is (rw (kept.0 is) rest)
+    rw is (rw (none_released n acknowledged_through ws (none_above n (suc w.number) ws (omega arith) rises.1) kept.1) (one_released (is_released acknowledged_through w) w))
+released_by false n acknowledged_through low w ws is rises kept rest = rw is (rw (kept.0 is) rest)
 
 -- what is released is the one write, if it is
-pub released_one : (n confirmed low : ℕ) (ws : List LogWrite) → Rises low ws → Each (KeptBut n confirmed) ws
-    → map released_of (filter (is_released confirmed) ws) ≡ option_to_list (option_and_then (release_of confirmed) (write_at n ws))
-released_one n confirmed low [] rises kept = refl
-released_one n confirmed low (w ∷ ws) rises kept =
-    released_by (has_number n w) n confirmed low w ws refl rises kept (released_one n confirmed (suc w.number) ws rises.1 kept.1)
+pub released_one : (n acknowledged_through low : ℕ) (ws : List LogWrite) → Rises low ws → Each (KeptBut n acknowledged_through) ws
+    → map released_of (filter (is_released acknowledged_through) ws) ≡ option_to_list (option_and_then (release_of acknowledged_through) (write_at n ws))
+released_one n acknowledged_through low [] rises kept = refl
+released_one n acknowledged_through low (w ∷ ws) rises kept =
+    released_by (has_number n w) n acknowledged_through low w ws refl rises kept (released_one n acknowledged_through (suc w.number) ws rises.1 kept.1)
 
 pub one_left : (b : Bool) (w : LogWrite) (ws : List LogWrite)
     → (if not b then w ∷ ws else ws) ≡ (if is_some (if b then Some (released_of w) else None) then ws else w ∷ ws)
@@ -102,24 +102,24 @@ left_after : (b : Bool) (w : LogWrite) (ws vs : List LogWrite) → (if b then w 
 left_after true w ws vs = refl
 left_after false w ws vs = refl
 
-left_by : (b : Bool) (n confirmed low : ℕ) (w : LogWrite) (ws : List LogWrite) → has_number n w ≡ b → Rises low (w ∷ ws) → Each (KeptBut n confirmed) (w ∷ ws)
-    → filter (λ v. not (is_released confirmed v)) ws ≡ (if is_some (option_and_then (release_of confirmed) (write_at n ws)) then without n ws else ws)
-    → filter (λ v. not (is_released confirmed v)) (w ∷ ws) ≡ (if is_some (option_and_then (release_of confirmed) (write_at n (w ∷ ws))) then without n (w ∷ ws)
+left_by : (b : Bool) (n acknowledged_through low : ℕ) (w : LogWrite) (ws : List LogWrite) → has_number n w ≡ b → Rises low (w ∷ ws) → Each (KeptBut n acknowledged_through) (w ∷ ws)
+    → filter (λ v. not (is_released acknowledged_through v)) ws ≡ (if is_some (option_and_then (release_of acknowledged_through) (write_at n ws)) then without n ws else ws)
+    → filter (λ v. not (is_released acknowledged_through v)) (w ∷ ws) ≡ (if is_some (option_and_then (release_of acknowledged_through) (write_at n (w ∷ ws))) then without n (w ∷ ws)
     else w ∷ ws)
-left_by true n confirmed low w ws is rises kept rest =
+left_by true n acknowledged_through low w ws is rises kept rest =
     let number = number_is w.number n is in
     let none = none_above n (suc w.number) ws (omega arith) rises.1 in
-    rw is (rw (all_left n confirmed ws none kept.1) (rw (without-none n ws none) (one_left (is_released confirmed w) w ws)))
-left_by false n confirmed low w ws is rises kept rest =
+    rw is (rw (all_left n acknowledged_through ws none kept.1) (rw (without-none n ws none) (one_left (is_released acknowledged_through w) w ws)))
+left_by false n acknowledged_through low w ws is rises kept rest =
     rw is (rw (kept.0 is) (ap (λ more. w ∷ more) rest
-    ∙ sym (left_after (is_some (option_and_then (release_of confirmed) (write_at n ws))) w (without n ws) ws)))
+    ∙ sym (left_after (is_some (option_and_then (release_of acknowledged_through) (write_at n ws))) w (without n ws) ws)))
 
 -- what is left is all but the one write, if it is released
-pub left_one : (n confirmed low : ℕ) (ws : List LogWrite) → Rises low ws → Each (KeptBut n confirmed) ws
-    → filter (λ v. not (is_released confirmed v)) ws ≡ (if is_some (option_and_then (release_of confirmed) (write_at n ws)) then without n ws else ws)
-left_one n confirmed low [] rises kept = refl
-left_one n confirmed low (w ∷ ws) rises kept =
-    left_by (has_number n w) n confirmed low w ws refl rises kept (left_one n confirmed (suc w.number) ws rises.1 kept.1)
+pub left_one : (n acknowledged_through low : ℕ) (ws : List LogWrite) → Rises low ws → Each (KeptBut n acknowledged_through) ws
+    → filter (λ v. not (is_released acknowledged_through v)) ws ≡ (if is_some (option_and_then (release_of acknowledged_through) (write_at n ws)) then without n ws else ws)
+left_one n acknowledged_through low [] rises kept = refl
+left_one n acknowledged_through low (w ∷ ws) rises kept =
+    left_by (has_number n w) n acknowledged_through low w ws refl rises kept (left_one n acknowledged_through (suc w.number) ws rises.1 kept.1)
 
 -- the completion of a turn, if there was one
 abbrev pub completion_in : Option Turn → List Completed
@@ -199,14 +199,14 @@ closes_one n low f [] rises = refl
 closes_one n low f (w ∷ ws) rises = closes_by (has_number n w) n low f w ws refl rises (closes_one n (suc w.number) f ws rises.1)
 
 -- what is left is kept
-kept_if : (b : Bool) (confirmed : ℕ) (w : LogWrite) (ws : List LogWrite) → is_released confirmed w ≡ b → Each (IsKept confirmed) ws
-    → Each (IsKept confirmed) (if not b then w ∷ ws else ws)
-kept_if true confirmed w ws is rest = rest
-kept_if false confirmed w ws is rest = (is, rest)
+kept_if : (b : Bool) (acknowledged_through : ℕ) (w : LogWrite) (ws : List LogWrite) → is_released acknowledged_through w ≡ b → Each (IsKept acknowledged_through) ws
+    → Each (IsKept acknowledged_through) (if not b then w ∷ ws else ws)
+kept_if true acknowledged_through w ws is rest = rest
+kept_if false acknowledged_through w ws is rest = (is, rest)
 
-pub left_kept : (confirmed : ℕ) (ws : List LogWrite) → Each (IsKept confirmed) (filter (λ w. not (is_released confirmed w)) ws)
-left_kept confirmed [] = tt
-left_kept confirmed (w ∷ ws) = kept_if (is_released confirmed w) confirmed w (filter (λ v. not (is_released confirmed v)) ws) refl (left_kept confirmed ws)
+pub left_kept : (acknowledged_through : ℕ) (ws : List LogWrite) → Each (IsKept acknowledged_through) (filter (λ w. not (is_released acknowledged_through w)) ws)
+left_kept acknowledged_through [] = tt
+left_kept acknowledged_through (w ∷ ws) = kept_if (is_released acknowledged_through w) acknowledged_through w (filter (λ v. not (is_released acknowledged_through v)) ws) refl (left_kept acknowledged_through ws)
 
 each_if : (b : Bool) (P : LogWrite → Type 0) (w : LogWrite) (ws : List LogWrite) → P w → Each P ws → Each P (if b then w ∷ ws else ws)
 each_if true P w ws here rest = (here, rest)

@@ -17,22 +17,22 @@ abbrev After : ℕ → (LogWrite → LogWrite) → LogState → List LogWrite
 After n f s = with_change n f s.writes
 
 pub released_is : (s : LogState) (n : ℕ) (f : LogWrite → LogWrite) (release : Option Released) → KeepsNumber f → Rises 0 s.writes
-    → Each (IsKept s.confirmed) s.writes
-    → release ≡ option_and_then (release_of s.confirmed) (write_at n (After n f s)) → option_to_list release ≡ (moved (on n f) s.confirmed s).released
+    → Each (IsKept s.acknowledged_through) s.writes
+    → release ≡ option_and_then (release_of s.acknowledged_through) (write_at n (After n f s)) → option_to_list release ≡ (moved (on n f) s.acknowledged_through s).released
 released_is s n f release keeps rises kept is =
-    ap option_to_list is ∙ sym (released_one n s.confirmed 0 (After n f s) (rises_changed n 0 f s.writes keeps rises)
-    (kept_but n s.confirmed f s.writes keeps kept))
+    ap option_to_list is ∙ sym (released_one n s.acknowledged_through 0 (After n f s) (rises_changed n 0 f s.writes keeps rises)
+    (kept_but n s.acknowledged_through f s.writes keeps kept))
 
 pub writes_are : (s : LogState) (n : ℕ) (f : LogWrite → LogWrite) (release : Option Released) → KeepsNumber f → Rises 0 s.writes
-    → Each (IsKept s.confirmed) s.writes
-    → release ≡ option_and_then (release_of s.confirmed) (write_at n (After n f s))
-    → (if is_some release then without n (After n f s) else After n f s) ≡ (moved (on n f) s.confirmed s).writes
+    → Each (IsKept s.acknowledged_through) s.writes
+    → release ≡ option_and_then (release_of s.acknowledged_through) (write_at n (After n f s))
+    → (if is_some release then without n (After n f s) else After n f s) ≡ (moved (on n f) s.acknowledged_through s).writes
 writes_are s n f release keeps rises kept is =
     ap (λ (o : Option Released). if is_some o then without n (After n f s) else After n f s) is
-    ∙ sym (left_one n s.confirmed 0 (After n f s) (rises_changed n 0 f s.writes keeps rises) (kept_but n s.confirmed f s.writes keeps kept))
+    ∙ sym (left_one n s.acknowledged_through 0 (After n f s) (rises_changed n 0 f s.writes keeps rises) (kept_but n s.acknowledged_through f s.writes keeps kept))
 
 pub completed_is : (s : LogState) (n : ℕ) (f : LogWrite → LogWrite) (turn : Option Turn) → Rises 0 s.writes
-    → turn ≡ option_map (turn_of f) (write_at n s.writes) → completion_in turn ≡ (moved (on n f) s.confirmed s).completed
+    → turn ≡ option_map (turn_of f) (write_at n s.writes) → completion_in turn ≡ (moved (on n f) s.acknowledged_through s).completed
 completed_is s n f turn rises is = ap completion_in is ∙ sym (completed_one n 0 f s.writes rises)
 
 pub closes_is : (s : LogState) (n : ℕ) (f : LogWrite → LogWrite) (turn : Option Turn) → Rises 0 s.writes
@@ -45,19 +45,19 @@ no_write f (Some w) is = cc
 
 -- where there was no write, none is released
 pub no_release : (s : LogState) (n : ℕ) (f : LogWrite → LogWrite) → KeepsNumber f → None ≡ option_map (turn_of f) (write_at n s.writes)
-    → None ≡ option_and_then (release_of s.confirmed) (write_at n (After n f s))
+    → None ≡ option_and_then (release_of s.acknowledged_through) (write_at n (After n f s))
 no_release s n f keeps is =
     let found = write_at-changed n f s.writes keeps ∙ ap (option_map f) (no_write f (write_at n s.writes) is) in
-    sym (ap (option_and_then (release_of s.confirmed)) found)
+    sym (ap (option_and_then (release_of s.acknowledged_through)) found)
 
 -- the same, where the ring was changed and then released the write
 pub after_release : (s : LogState) (n : ℕ) (f : LogWrite → LogWrite) (mid new : RingState) (release : Option Released) → KeepsNumber f → Rises 0 s.writes
-    → Each (IsKept s.confirmed) s.writes
-    → mid.writes ≡ After n f s → release ≡ option_and_then (release_of s.confirmed) (write_at n mid.writes)
+    → Each (IsKept s.acknowledged_through) s.writes
+    → mid.writes ≡ After n f s → release ≡ option_and_then (release_of s.acknowledged_through) (write_at n mid.writes)
     → new.writes ≡ (if is_some release then without n mid.writes else mid.writes)
-    → (new.writes ≡ (moved (on n f) s.confirmed s).writes) × (option_to_list release ≡ (moved (on n f) s.confirmed s).released)
+    → (new.writes ≡ (moved (on n f) s.acknowledged_through s).writes) × (option_to_list release ≡ (moved (on n f) s.acknowledged_through s).released)
 after_release s n f mid new release keeps rises kept changed released left =
-    let is = released ∙ ap (λ ws. option_and_then (release_of s.confirmed) (write_at n ws)) changed in (
+    let is = released ∙ ap (λ ws. option_and_then (release_of s.acknowledged_through) (write_at n ws)) changed in (
       left ∙ (ap (λ (ws : List LogWrite). if is_some release then without n ws else ws) changed ∙ writes_are s n f release keeps rises kept is),
       released_is s n f release keeps rises kept is,
     )

@@ -16,8 +16,8 @@ log_of l = record {
   backlog = l.backlog;
   accepted = l.accepted;
   connection = index_of l.connection;
-  confirmed = l.confirmed;
-  latest = l.latest.items;
+  acknowledged_through = l.acknowledged_through;
+  last_writes = l.last_writes.items;
   writes = l.ring.writes;
   epochs = l.epochs.state;
   released = l.released.items;
@@ -30,7 +30,7 @@ value_of l = record { state = log_of l; spare = min l.ring.spare l.epochs.spare 
 
 -- the write is not released
 abbrev pub IsKept : ℕ → LogWrite → Type 0
-IsKept confirmed w = is_released confirmed w ≡ false
+IsKept acknowledged_through w = is_released acknowledged_through w ≡ false
 
 -- the write has no connection
 abbrev pub IsAlone : LogWrite → Type 0
@@ -38,16 +38,16 @@ IsAlone w = w.linked ≡ false
 
 -- Invariant: no write in the ring is released, the connection is counted from 1, no write has one while none is
 -- established, there are at most `backlog` writes, and there is room for what a call reports; the epochs' writes were
--- accepted after those confirmed.
+-- accepted after the acknowledged ones.
 pub record IsLog (l : Inside) : Type 0 where
   pub next : l.ring.next ≡ l.accepted + 1
   pub few_accepted : l.accepted ≤ 1048576
-  pub kept : Each (IsKept l.confirmed) l.ring.writes
+  pub kept : Each (IsKept l.acknowledged_through) l.ring.writes
   pub numbered : IfSome l.connection (λ number. 0 < number)
   pub alone : l.connection ≡ None → Each IsAlone l.ring.writes
   pub few : length l.ring.writes ≤ l.backlog
   pub some : 0 < l.backlog
   pub room_for_released : l.backlog ≤ vec_capacity l.released
   pub room_for_completed : l.backlog ≤ vec_capacity l.completed
-  pub confirmed : l.confirmed + (sum l.epochs.state.sizes + l.epochs.state.size) ≤ l.accepted
+  pub acknowledged_through : l.acknowledged_through + (sum l.epochs.state.sizes + l.epochs.state.size) ≤ l.accepted
   pub begun : 0 < l.epochs.state.size → l.epochs.state.first + l.epochs.state.size ≤ l.accepted + 1

@@ -17,10 +17,10 @@ use Rattle.blocks.specs.Contents.{blocks_of}
 use Rattle.blocks.specs.Ranges.{is_between}
 use Rattle.blocks.specs.declared.refusal.Refusal.{Refusal}
 use Rattle.blocks.specs.declared.refusal.Refusal.TheVariants.{BadBarrierAck, UnknownAck}
-use Rattle.transferlog.specs.declared.report.Answer.{Answer}
-use Rattle.transferlog.specs.declared.report.Answer.TheVariants.{Received, Written}
+use Rattle.transferlog.specs.declared.report.PeerAck.{PeerAck}
+use Rattle.transferlog.specs.declared.report.PeerAck.TheVariants.{Received, Written}
 use Rattle.transferlog.specs.declared.report.Completed.{Completed}
-use Rattle.transferlog.specs.declared.report.Named.{Named}
+use Rattle.transferlog.specs.declared.report.AckedWrite.{AckedWrite}
 use Rattle.transferlog.specs.declared.report.Released.{Released}
 
 -- The state of the log: the protocol and the most unreleased writes; how many writes were accepted, which is also the
@@ -33,8 +33,8 @@ pub record LogState : Type 0 where
   pub backlog : ℕ
   pub accepted : ℕ
   pub connection : Option ℕ
-  pub confirmed : ℕ
-  pub latest : List ℕ
+  pub acknowledged_through : ℕ
+  pub last_writes : List ℕ
   pub writes : List LogWrite
   pub epochs : EpochsState
   pub released : List Released
@@ -52,8 +52,8 @@ empty_log protocol blocks max_epoch backlog = record {
   backlog = backlog;
   accepted = 0;
   connection = None;
-  confirmed = 0;
-  latest = replicate blocks 0;
+  acknowledged_through = 0;
+  last_writes = replicate blocks 0;
   writes = [];
   epochs = empty max_epoch;
   released = [];
@@ -62,21 +62,21 @@ empty_log protocol blocks max_epoch backlog = record {
 
 -- begins the stream of the connection with this index: it has no item, and no write has that connection yet
 abbrev pub connecting : ℕ → LogState → LogState
-connecting index s = record s { connection = Some index; confirmed = s.accepted; epochs = empty s.epochs.max_epoch; released = []; completed = [] }
+connecting index s = record s { connection = Some index; acknowledged_through = s.accepted; epochs = empty s.epochs.max_epoch; released = []; completed = [] }
 
--- Changes each write by `f`, with every write with a connection and a number up to `confirmed` acknowledged: reports
+-- Changes each write by `f`, with every write with a connection and a number up to `acknowledged_through` acknowledged: reports
 -- the open writes that are completed by it and the writes that are released by it, and keeps the others.
 abbrev pub moved : (LogWrite → LogWrite) → ℕ → LogState → LogState
-moved f confirmed s = record {
+moved f acknowledged_through s = record {
   protocol = s.protocol;
   backlog = s.backlog;
   accepted = s.accepted;
   connection = s.connection;
-  confirmed = confirmed;
-  latest = s.latest;
-  writes = filter (λ w. not (is_released confirmed w)) (map f s.writes);
+  acknowledged_through = acknowledged_through;
+  last_writes = s.last_writes;
+  writes = filter (λ w. not (is_released acknowledged_through w)) (map f s.writes);
   epochs = s.epochs;
-  released = map released_of (filter (is_released confirmed) (map f s.writes));
+  released = map released_of (filter (is_released acknowledged_through) (map f s.writes));
   completed = map completed_of (filter is_completed (map f (filter is_open s.writes)));
 }
 
@@ -92,7 +92,7 @@ ended_by closed number e = if closed then completing number e else (None, e)
 abbrev pub changing : ℕ → (LogWrite → LogWrite) → LogState → Option ℕ × LogState
 changing number f s =
     let ended = ended_by (closes_any (on number f) s) number s.epochs in
-    (ended.0, record (moved (on number f) s.confirmed s) { epochs = ended.1 })
+    (ended.0, record (moved (on number f) s.acknowledged_through s) { epochs = ended.1 })
 
 -- whether a write is answered once its frame is in the link's queue
 abbrev pub answers_sent : Protocol → Bool
@@ -115,8 +115,8 @@ local_fault number s = changing number failing s
 -- Accepting a write, with a connection or without one.
 
 -- the last write of each block, after this one covers the blocks of a range
-abbrev pub with_latest : ℕ → ℕ → ℕ → List ℕ → List ℕ
-with_latest number first count latest = take first latest ++ replicate count number ++ drop (first + count) latest
+abbrev pub with_last_write : ℕ → ℕ → ℕ → List ℕ → List ℕ
+with_last_write number first count last_writes = take first last_writes ++ replicate count number ++ drop (first + count) last_writes
 
 -- the write that is accepted next, at its home, or without one
 abbrev pub accepted_write : ℕ → ℕ → List ℕ → Option StreamPosition → LogState → LogWrite
@@ -137,7 +137,7 @@ accepted_write first count contents home s = record {
 abbrev pub with_write : LogWrite → EpochsState → LogState → LogState
 with_write w e s = record s {
   accepted = w.number;
-  latest = with_latest w.number w.first w.count s.latest;
+  last_writes = with_last_write w.number w.first w.count s.last_writes;
   writes = s.writes ++ w ∷ [];
   epochs = e;
   released = [];
@@ -179,7 +179,7 @@ uuids_placed s = let answer = uncounted s.epochs in (answer.0, quiet answer.1 s)
 -- The peer's answers.
 
 -- whether the protocol asks for this kind of answer
-abbrev pub is_asked : Protocol → Answer → Bool
+abbrev pub is_asked : Protocol → PeerAck → Bool
 is_asked protocol.A kind = false
 is_asked protocol.B Received = true
 is_asked protocol.B Written = false
@@ -187,13 +187,13 @@ is_asked protocol.C Received = false
 is_asked protocol.C Written = true
 
 -- whether there is a write, and it awaits this answer
-abbrev pub awaits_in : Option LogWrite → Named → Bool
+abbrev pub awaits_in : Option LogWrite → AckedWrite → Bool
 awaits_in None of = false
 awaits_in (Some w) of = awaits of w
 
 -- The peer answers a write: the barrier that is appended, and the log afterwards. An answer that no write awaits is
 -- refused.
-abbrev pub acked : Answer → Named → LogState → Result (Option ℕ) Refusal × LogState
+abbrev pub acked : PeerAck → AckedWrite → LogState → Result (Option ℕ) Refusal × LogState
 acked kind of s =
     let answer = changing of.number answering s in
     if is_asked s.protocol kind && awaits_in (write_at of.number s.writes) of then (Ok answer.0, answer.1) else (Err UnknownAck, s)
@@ -202,7 +202,7 @@ acked kind of s =
 
 -- whether some write of the next epoch to be acknowledged, which has this size, is not answered
 abbrev pub lacks_answer : ℕ → LogState → Bool
-lacks_answer size s = list_any (λ w. is_between (s.confirmed + 1) size w.number && not w.answered) s.writes
+lacks_answer size s = list_any (λ w. is_between (s.acknowledged_through + 1) size w.number && not w.answered) s.writes
 
 -- whether the protocol asks for answers at all
 abbrev pub asks_answers : Protocol → Bool
@@ -218,10 +218,10 @@ may_confirm number size s = is_awaited number size s.epochs && not (asks_answers
 -- the log after an epoch of this size is acknowledged: its settled writes are released, and nothing is completed
 abbrev pub confirming : ℕ → ℕ → LogState → LogState
 confirming number size s = record s {
-  confirmed = s.confirmed + size;
-  writes = filter (λ w. not (is_released (s.confirmed + size) w)) s.writes;
+  acknowledged_through = s.acknowledged_through + size;
+  writes = filter (λ w. not (is_released (s.acknowledged_through + size) w)) s.writes;
   epochs = (acknowledging number size s.epochs).1;
-  released = map released_of (filter (is_released (s.confirmed + size)) s.writes);
+  released = map released_of (filter (is_released (s.acknowledged_through + size)) s.writes);
   completed = [];
 }
 
@@ -234,7 +234,7 @@ barrier_acked number size s =
 
 -- the log after its connection is closed: no stream is open, and no write has a connection
 abbrev pub draining : LogState → LogState
-draining s = record (moved unlinking s.confirmed s) { connection = None; epochs = empty s.epochs.max_epoch }
+draining s = record (moved unlinking s.acknowledged_through s) { connection = None; epochs = empty s.epochs.max_epoch }
 
 -- Closes the connection: how many writes that completed, and the log afterwards.
 abbrev pub drained : LogState → ℕ × LogState
@@ -245,8 +245,8 @@ drained s = (length (draining s).completed, draining s)
 -- whether there is a number, and it is this one
 abbrev pub is_number : ℕ → Option ℕ → Bool
 is_number number None = false
-is_number number (Some latest) = latest == number
+is_number number (Some last_writes) = last_writes == number
 
 -- Whether a release clears the mark of a block: the write clears marks, it covers the block, and no later write does.
 abbrev pub clears : Released → ℕ → List ℕ → Bool
-clears r block latest = (r.clears && is_between r.first r.count block) && is_number r.number (slice_get latest block)
+clears r block last_writes = (r.clears && is_between r.first r.count block) && is_number r.number (slice_get last_writes block)

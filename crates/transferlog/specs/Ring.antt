@@ -48,13 +48,13 @@ abbrev pub Each : (LogWrite → Type 0) → List LogWrite → Type 0
 Each P [] = Unit {0}
 Each P (w ∷ ws) = P w × Each P ws
 
--- given that all up to `confirmed` are acknowledged: if the write is released, its number is at least `number`
+-- given that all up to `acknowledged_through` are acknowledged: if the write is released, its number is at least `number`
 abbrev pub ReleasedFrom : ℕ → ℕ → LogWrite → Type 0
-ReleasedFrom confirmed number w = is_released confirmed w ≡ true → number ≤ w.number
+ReleasedFrom acknowledged_through number w = is_released acknowledged_through w ≡ true → number ≤ w.number
 
--- given that all up to `confirmed` are acknowledged: if the write is released, its number is below `number`
+-- given that all up to `acknowledged_through` are acknowledged: if the write is released, its number is below `number`
 abbrev pub ReleasedBelow : ℕ → ℕ → LogWrite → Type 0
-ReleasedBelow confirmed number w = is_released confirmed w ≡ true → w.number < number
+ReleasedBelow acknowledged_through number w = is_released acknowledged_through w ≡ true → w.number < number
 
 -- whether there is a write, and it is not answered
 abbrev pub is_unanswered : Option LogWrite → Bool

@@ -3,7 +3,7 @@ use Rattle.std.specs.Prelude.{ℕ, nat_le, ◌==◌, Bool, true, false, ◌&&◌
 use Rattle.blocks.specs.Positions.{StreamPosition}
 use Rattle.transferlog.specs.declared.local.Local.{Local}
 use Rattle.transferlog.specs.declared.report.Completed.{Completed}
-use Rattle.transferlog.specs.declared.report.Named.{Named}
+use Rattle.transferlog.specs.declared.report.AckedWrite.{AckedWrite}
 use Rattle.transferlog.specs.declared.report.Released.{Released}
 use Rattle.transferlog.specs.declared.report.Turn.{Turn}
 use Rattle.transferlog.specs.declared.local.Local.TheVariants.{Waiting, OnDisk, Failed}
@@ -47,10 +47,10 @@ is_completed w = is_on_disk w.local && (w.answered || not w.linked)
 abbrev pub is_open : LogWrite → Bool
 is_open w = not (is_completed w) && not (has_failed w.local)
 
--- the write is released, given that every write with a connection and a number up to `confirmed` has its epoch's
+-- the write is released, given that every write with a connection and a number up to `acknowledged_through` has its epoch's
 -- acknowledgement
 abbrev pub is_released : ℕ → LogWrite → Bool
-is_released confirmed w = is_settled w && (not w.linked || nat_le w.number confirmed)
+is_released acknowledged_through w = is_settled w && (not w.linked || nat_le w.number acknowledged_through)
 
 -- records the write as sent, and as answered if the protocol asks for no more
 abbrev pub sending : Bool → LogWrite → LogWrite
@@ -89,7 +89,7 @@ turn_of f w = record {
 
 -- the release of a write, if it is released
 abbrev pub release_of : ℕ → LogWrite → Option Released
-release_of confirmed w = if is_released confirmed w then Some (released_of w) else None
+release_of acknowledged_through w = if is_released acknowledged_through w then Some (released_of w) else None
 
 -- whether a home is at this place
 abbrev pub is_at : ℕ → Option StreamPosition → Bool
@@ -98,7 +98,7 @@ is_at place (Some home) = home.place == place
 
 -- whether an answer names this write: place, first block and count are the write's, and it was sent on the established
 -- connection and is not answered
-abbrev pub awaits : Named → LogWrite → Bool
+abbrev pub awaits : AckedWrite → LogWrite → Bool
 awaits of w = (is_at of.place w.home && ((w.first == of.first) && (w.count == of.count))) && (w.linked && (w.sent && not w.answered))
 
 -- the write was sent on the established connection, and is not answered

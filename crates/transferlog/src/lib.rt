@@ -10,5 +10,5 @@ mod write;
 
 pub use local::Local;
 pub use log::TransferLog;
-pub use report::{Accepted, Answer, Completed, Named, Released};
+pub use report::{Accepted, AckedWrite, Completed, PeerAck, Released};
 pub use write::Write;

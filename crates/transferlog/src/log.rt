@@ -37,8 +37,10 @@ pub struct TransferLog {
     accepted: u64,
     // The number of the connection whose stream is open, counted from 1.
     connection: Option<u32>,
-    confirmed: u64,
-    latest: Vec<u32>,
+    // The number of the last write up to which all epochs are acknowledged.
+    acknowledged_through: u64,
+    // For each block the number of the last write to it, 0 if there is none.
+    last_writes: Vec<u32>,
     ring: Ring,
     epochs: Epochs,
     released: Vec<Released>,
@@ -78,8 +80,8 @@ impl TransferLog {
             backlog,
             accepted: 0,
             connection: None,
-            confirmed: 0,
-            latest: Vec::from_elem(alloc, 0u32, blocks as usize)?,
+            acknowledged_through: 0,
+            last_writes: Vec::from_elem(alloc, 0u32, blocks as usize)?,
             ring: Ring::new(alloc),
             epochs: Epochs::new(alloc, max_epoch),
             released: Vec::with_capacity(alloc, backlog as usize)?,
@@ -161,9 +163,9 @@ impl TransferLog {
 
     /// Returns how many blocks the device has.
     pub fn blocks(&self) -> usize
-        ensures { result ≡ length self.now.state.latest }
+        ensures { result ≡ length self.now.state.last_writes }
     {
-        self.latest.len()
+        self.last_writes.len()
     }
 
     /// Returns the lowest number of a write that waits for the local disk. It takes constant time.
@@ -188,16 +190,16 @@ impl TransferLog {
     /// Returns whether the release of a write, by the last call, clears the mark of this block: the release clears
     /// marks, the write covers the block, and no later write does. It takes constant time.
     pub fn clears(&self, released: &Released, block: Block) -> bool
-        ensures { result ≡ clears released.now block.0 self.now.state.latest }
+        ensures { result ≡ clears released.now block.0 self.now.state.last_writes }
     {
         let inside = released.first <= block.0 && block.0 - released.first < released.count;
-        released.clears && inside && self.latest_on(block) == Some(released.number)
+        released.clears && inside && self.last_write_to(block) == Some(released.number)
     }
 
-    fn latest_on(&self, block: Block) -> Option<u64>
-        ensures { result ≡ slice_get self.now.state.latest block.0 }
+    fn last_write_to(&self, block: Block) -> Option<u64>
+        ensures { result ≡ slice_get self.now.state.last_writes block.0 }
     {
-        let number = self.latest.get(block.0 as usize)?;
+        let number = self.last_writes.get(block.0 as usize)?;
         Some(u64::from(*number))
     }
 

@@ -2,15 +2,15 @@
 ghost use Rattle.std.specs.Prelude.{◌≡◌};
 ghost use Rattle.transferlog.specs.Log.{answers_sent, asks_answers, is_asked};
 
-use crate::report::Answer;
+use crate::report::PeerAck;
 use blocks::Protocol;
 
 /// Returns whether the protocol asks for this kind of answer.
-pub(crate) fn is_asked(protocol: Protocol, kind: Answer) -> bool
+pub(crate) fn is_asked(protocol: Protocol, kind: PeerAck) -> bool
     ensures { result ≡ is_asked protocol kind }
 {
     match (protocol, kind) {
-        (Protocol::B, Answer::Received) | (Protocol::C, Answer::Written) => true,
+        (Protocol::B, PeerAck::Received) | (Protocol::C, PeerAck::Written) => true,
         _ => false,
     }
 }

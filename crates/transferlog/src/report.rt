@@ -46,7 +46,7 @@ pub struct Released {
 
 /// The kind of a peer's answer to a write.
 #[derive(Clone, Copy, Debug, PartialEq, Eq)]
-pub enum Answer {
+pub enum PeerAck {
     /// The peer has received it (RECV_ACK).
     Received,
     /// The peer's disk has it (WRITE_ACK).
@@ -55,7 +55,7 @@ pub enum Answer {
 
 /// The write that an answer names.
 #[derive(Clone, Copy, Debug, PartialEq, Eq)]
-pub struct Named {
+pub struct AckedWrite {
     /// Its number.
     pub number: u64,
     /// Its place in the connection's stream.

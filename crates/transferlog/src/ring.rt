@@ -203,17 +203,17 @@ impl Ring {
     }
 
     /// Removes the write with this number and returns its release, if it is released given that the epochs of all
-    /// writes up to number `confirmed` are acknowledged. Drops the holes before the first remaining write. It takes
+    /// writes up to number `acknowledged_through` are acknowledged. Drops the holes before the first remaining write. It takes
     /// no memory.
-    pub(crate) fn release(&mut self, number: u64, confirmed: u64) -> Option<Released>
-        ensures release { result ≡ option_and_then (release_of confirmed) (write_at number self.old.writes) }
+    pub(crate) fn release(&mut self, number: u64, acknowledged_through: u64) -> Option<Released>
+        ensures release { result ≡ option_and_then (release_of acknowledged_through) (write_at number self.old.writes) }
         ensures next { self.new ≡ record {
           writes = if is_some result then without number self.old.writes else self.old.writes;
           next = self.old.next;
           spare = self.new.spare;
         } }
     {
-        let release = self.get(number)?.release(confirmed)?;
+        let release = self.get(number)?.release(acknowledged_through)?;
         self.remove(number);
         Some(release)
     }
@@ -243,43 +243,43 @@ impl Ring {
     }
 
     /// Removes each write with a number from `from` to below `to` that is released given that the epochs of all
-    /// writes up to number `confirmed` are acknowledged. Adds their releases to a list that has room. It takes no
+    /// writes up to number `acknowledged_through` are acknowledged. Adds their releases to a list that has room. It takes no
     /// memory.
     pub(crate) fn release_all(
         &mut self,
         from: u64,
         to: u64,
-        confirmed: u64,
+        acknowledged_through: u64,
         released: &mut Vec<Released>,
     )
-        requires low { Each (ReleasedFrom confirmed from) self.old.writes }
-        requires high { Each (ReleasedBelow confirmed to) self.old.writes }
+        requires low { Each (ReleasedFrom acknowledged_through from) self.old.writes }
+        requires high { Each (ReleasedBelow acknowledged_through to) self.old.writes }
         requires order { from ≤ to }
         requires room { vec_len released.old + length self.old.writes ≤ vec_capacity released.old }
-        ensures released { released.new.items ≡ released.old.items ++ map released_of (filter (is_released confirmed) self.old.writes) }
+        ensures released { released.new.items ≡ released.old.items ++ map released_of (filter (is_released acknowledged_through) self.old.writes) }
         ensures capacity { vec_capacity released.new ≡ vec_capacity released.old }
-        ensures writes { self.new.writes ≡ filter (λ w. not (is_released confirmed w)) self.old.writes }
+        ensures writes { self.new.writes ≡ filter (λ w. not (is_released acknowledged_through w)) self.old.writes }
         ensures next { self.new.next ≡ self.old.next }
     {
         // Proof hint: brings the invariant that numbers rise into scope.
         let _ = &self.first;
         for number in from..to {
-            note(released, self.release(number, confirmed));
+            note(released, self.release(number, acknowledged_through));
         }
     }
 
-    /// Removes each write that is released given that the epochs of all writes up to number `confirmed` are
+    /// Removes each write that is released given that the epochs of all writes up to number `acknowledged_through` are
     /// acknowledged. Adds their releases to a list that has room. It takes no memory.
-    pub(crate) fn release_rest(&mut self, confirmed: u64, released: &mut Vec<Released>)
+    pub(crate) fn release_rest(&mut self, acknowledged_through: u64, released: &mut Vec<Released>)
         requires { vec_len released.old + length self.old.writes ≤ vec_capacity released.old }
-        ensures released { released.new.items ≡ released.old.items ++ map released_of (filter (is_released confirmed) self.old.writes) }
+        ensures released { released.new.items ≡ released.old.items ++ map released_of (filter (is_released acknowledged_through) self.old.writes) }
         ensures capacity { vec_capacity released.new ≡ vec_capacity released.old }
-        ensures writes { self.new.writes ≡ filter (λ w. not (is_released confirmed w)) self.old.writes }
+        ensures writes { self.new.writes ≡ filter (λ w. not (is_released acknowledged_through w)) self.old.writes }
         ensures next { self.new.next ≡ self.old.next }
     {
         let from = self.first;
         let to = self.first + self.slots.len() as u64;
-        self.release_all(from, to, confirmed, released);
+        self.release_all(from, to, acknowledged_through, released);
     }
 
     /// Takes the connection from each write. Adds each completion that this causes to a list that has room. It takes

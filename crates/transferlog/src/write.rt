@@ -17,7 +17,7 @@ ghost use Rattle.transferlog.specs.Writes.{awaits, completed_of, is_at, is_compl
 ghost use Rattle.transferlog.specs.Ring.{changed};
 
 use crate::local::Local;
-use crate::report::{Completed, Named, Released, Turn};
+use crate::report::{AckedWrite, Completed, Released, Turn};
 use blocks::{Range, StreamPosition};
 use bytes::Bytes;
 use std::marker::Model;
@@ -198,12 +198,12 @@ impl Write {
         }
     }
 
-    /// Returns its release, if it is released given that the epochs of all writes up to number `confirmed` are
+    /// Returns its release, if it is released given that the epochs of all writes up to number `acknowledged_through` are
     /// acknowledged.
-    pub(crate) fn release(&self, confirmed: u64) -> Option<Released>
-        ensures { result ≡ release_of confirmed self.now }
+    pub(crate) fn release(&self, acknowledged_through: u64) -> Option<Released>
+        ensures { result ≡ release_of acknowledged_through self.now }
     {
-        if !self.is_released(confirmed) {
+        if !self.is_released(acknowledged_through) {
             return None;
         }
         Some(Released {
@@ -215,7 +215,7 @@ impl Write {
     }
 
     /// Returns whether it awaits this answer.
-    pub(crate) fn awaits(&self, of: Named) -> bool
+    pub(crate) fn awaits(&self, of: AckedWrite) -> bool
         ensures { result ≡ awaits of self.now }
     {
         self.is_at(of.place)
@@ -267,10 +267,10 @@ impl Write {
         !self.is_completed() && self.local != Local::Failed
     }
 
-    /// Returns whether it is released, given that the epochs of all writes up to number `confirmed` are acknowledged.
-    pub(crate) fn is_released(&self, confirmed: u64) -> bool
-        ensures { result ≡ is_released confirmed self.now }
+    /// Returns whether it is released, given that the epochs of all writes up to number `acknowledged_through` are acknowledged.
+    pub(crate) fn is_released(&self, acknowledged_through: u64) -> bool
+        ensures { result ≡ is_released acknowledged_through self.now }
     {
-        self.is_settled() && (!self.linked || self.number <= confirmed)
+        self.is_settled() && (!self.linked || self.number <= acknowledged_through)
     }
 }

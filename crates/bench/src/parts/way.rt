@@ -10,7 +10,7 @@ use bytes::Bytes;
 use overlap::Held;
 use std::alloc::Global;
 use std::collections::VecDeque;
-use transferlog::{Accepted, Answer, Local, Named, Released, TransferLog};
+use transferlog::{Accepted, AckedWrite, Local, PeerAck, Released, TransferLog};
 
 /// The distance from one write's block to the next one's: odd, so that each block of the device has its turn.
 const STRIDE: u64 = 100_003;
@@ -89,15 +89,15 @@ fn store(log: &mut TransferLog, number: u64) -> Result<Option<u32>, Refusal> {
 /// Records that the peer's disk has the write. `UnknownJob` (16) if the write has no place in a stream.
 fn answer(log: &mut TransferLog, number: u64) -> Result<Option<u32>, Refusal> {
     let named = named(log, number).ok_or(Refusal::UnknownJob)?;
-    log.acked(Answer::Written, named)
+    log.acked(PeerAck::Written, named)
 }
 
 /// Returns how the peer names the write.
-fn named(log: &TransferLog, number: u64) -> Option<Named> {
+fn named(log: &TransferLog, number: u64) -> Option<AckedWrite> {
     let write = log.get(number)?;
     let home = write.home()?;
     let range = write.range();
-    Some(Named {
+    Some(AckedWrite {
         number,
         place: home.place(),
         first: range.first.0,

@@ -40,8 +40,8 @@ end-framed e c frame way l begun long none left = record {
   sync = l.sync;
   loss = l.loss;
   hello = l.hello;
-  heard = let was = l.heard in let size = length-append c.taken (frame ∷ []) in omega arith;
-  said = l.said;
+  hello_received = let was = l.hello_received in let size = length-append c.taken (frame ∷ []) in omega arith;
+  hello_sent = l.hello_sent;
   pushed = l.pushed;
   unsent = l.unsent;
   resync = l.resync;

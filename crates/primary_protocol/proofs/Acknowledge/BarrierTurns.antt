@@ -205,30 +205,30 @@ module _ (settings : Settings) (s : PrimaryState) (h : PrimaryHistory) (e : EndS
         held = held-linked h found.1 unconfirmed linked
 
         -- it is one of those that the log looks at
-        between : is_between (s.log.confirmed + 1) size found.1.write.number ≡ true
+        between : is_between (s.log.acknowledged_through + 1) size found.1.write.number ≡ true
         between =
             let number_of : found.1.write.number ≡ write.number = ap (λ (w : Write). w.number) found.3 in
             let some = first-total s.log (primary_connection h) epochs sized.0 in
-            let low : nat_le write.number (s.log.confirmed + 0) ≡ false = epochs.upto 0 place write (omega arith) at
+            let low : nat_le write.number (s.log.acknowledged_through + 0) ≡ false = epochs.upto 0 place write (omega arith) at
             ∙ lt-leb (epoch_of (primary_connection h).stream place) (epochs.acked + 0) (let n = number_is in omega arith) in
-            let high : nat_le write.number (s.log.confirmed + total (take 1 s.log.epochs.sizes)) ≡ true =
+            let high : nat_le write.number (s.log.acknowledged_through + total (take 1 s.log.epochs.sizes)) ≡ true =
             epochs.upto 1 place write (let many = some.0 in omega arith) at
             ∙ le-leb (epoch_of (primary_connection h).stream place) (epochs.acked + 1) (let n = number_is in omega arith) in
-            let above = leb-false write.number (s.log.confirmed + 0) low in
-            let upto = leb-true write.number (s.log.confirmed + total (take 1 s.log.epochs.sizes)) high in
+            let above = leb-false write.number (s.log.acknowledged_through + 0) low in
+            let upto = leb-true write.number (s.log.acknowledged_through + total (take 1 s.log.epochs.sizes)) high in
             let sum = some.1 in
             let size_is = sized.1 in
-            λ i. le-leb (s.log.confirmed + 1) found.1.write.number (omega arith) i && lt-ltb found.1.write.number (s.log.confirmed + 1 + size) (omega arith) i
+            λ i. le-leb (s.log.acknowledged_through + 1) found.1.write.number (omega arith) i && lt-ltb found.1.write.number (s.log.acknowledged_through + 1 + size) (omega arith) i
 
         answered : asks_answers s.log.protocol ≡ true → is_answered h found.1 ≡ true
         answered asks = elim (cases_Bool (is_answered h found.1)) [
           | inl so ↦ so
           | inr not_yet ↦ absurd (
               let kept = filtered-pick (λ x. not (is_released h x)) h.writes found.0 found.1 found.2 (ap not held) in
-              let lacks : lacks_answer size s.log ≡ true = ap (list_any (λ w. is_between (s.log.confirmed + 1) size w.number && not w.answered))
+              let lacks : lacks_answer size s.log ≡ true = ap (list_any (λ w. is_between (s.log.acknowledged_through + 1) size w.number && not w.answered))
               left.rest.log.writes
-              ∙ (any-map (λ w. is_between (s.log.confirmed + 1) size w.number && not w.answered) (logged_of h) (unreleased h)
-              ∙ any-pick (λ a. is_between (s.log.confirmed + 1) size a.write.number && not (is_answered h a)) (unreleased h) kept.0 found.1 kept.1
+              ∙ (any-map (λ w. is_between (s.log.acknowledged_through + 1) size w.number && not w.answered) (logged_of h) (unreleased h)
+              ∙ any-pick (λ a. is_between (s.log.acknowledged_through + 1) size a.write.number && not (is_answered h a)) (unreleased h) kept.0 found.1 kept.1
               (λ i. between i && not (not_yet i))) in
               both_ways (asks_answers s.log.protocol && lacks_answer size s.log) (not-true (asks_answers s.log.protocol && lacks_answer size s.log) parts.1)
               (λ i. asks i && lacks i))
@@ -352,19 +352,19 @@ module _ (settings : Settings) (s : PrimaryState) (h : PrimaryHistory) (e : EndS
     none-lacks : (asks_answers s.log.protocol && lacks_answer size s.log) ≡ false
     none-lacks = false_from_ne_true (asks_answers s.log.protocol && lacks_answer size s.log) (λ both.
         let halves = and_parts (asks_answers s.log.protocol) (lacks_answer size s.log) both in
-        let some_one = pick-any (λ a. is_between (s.log.confirmed + 1) size a.write.number && not (is_answered h a)) (unreleased h)
-        (sym (ap (list_any (λ w. is_between (s.log.confirmed + 1) size w.number && not w.answered)) left.rest.log.writes
-        ∙ any-map (λ w. is_between (s.log.confirmed + 1) size w.number && not w.answered) (logged_of h) (unreleased h)) ∙ halves.1) in
+        let some_one = pick-any (λ a. is_between (s.log.acknowledged_through + 1) size a.write.number && not (is_answered h a)) (unreleased h)
+        (sym (ap (list_any (λ w. is_between (s.log.acknowledged_through + 1) size w.number && not w.answered)) left.rest.log.writes
+        ∙ any-map (λ w. is_between (s.log.acknowledged_through + 1) size w.number && not w.answered) (logged_of h) (unreleased h)) ∙ halves.1) in
         let stood = pick-filtered (λ x. not (is_released h x)) h.writes some_one.0 some_one.1 some_one.2 in
         by-write some_one.1 stood.0 stood.1
-        (and_parts (is_between (s.log.confirmed + 1) size some_one.1.write.number) (not (is_answered h some_one.1)) some_one.3) halves.0)
+        (and_parts (is_between (s.log.acknowledged_through + 1) size some_one.1.write.number) (not (is_answered h some_one.1)) some_one.3) halves.0)
       where
         by-write : (a : Accepted) (i : ℕ) → slice_get h.writes i ≡ Some a
-            → (is_between (s.log.confirmed + 1) size a.write.number ≡ true) × (not (is_answered h a) ≡ true) → asks_answers s.log.protocol ≡ true → ⊥
+            → (is_between (s.log.acknowledged_through + 1) size a.write.number ≡ true) × (not (is_answered h a) ≡ true) → asks_answers s.log.protocol ≡ true → ⊥
         by-write a i at halves asks =
-            let bounds = and_parts (nat_le (s.log.confirmed + 1) a.write.number) (nat_lt a.write.number (s.log.confirmed + 1 + size)) halves.0 in
-            let low = leb-true (s.log.confirmed + 1) a.write.number bounds.0 in
-            let high = ltb-true a.write.number (s.log.confirmed + 1 + size) bounds.1 in
+            let bounds = and_parts (nat_le (s.log.acknowledged_through + 1) a.write.number) (nat_lt a.write.number (s.log.acknowledged_through + 1 + size)) halves.0 in
+            let low = leb-true (s.log.acknowledged_through + 1) a.write.number bounds.0 in
+            let high = ltb-true a.write.number (s.log.acknowledged_through + 1 + size) bounds.1 in
             let place = left.stream.here on i a at (omega arith) in
             let housed = ordered.1.1.0.0.housed i (last_index h.connections) place.0 a at place.1 in
             let same : housed.0 ≡ primary_connection h = same-at h.connections (last_index h.connections) housed.0 (primary_connection h) housed.1 there in
@@ -373,10 +373,10 @@ module _ (settings : Settings) (s : PrimaryState) (h : PrimaryHistory) (e : EndS
             let sums = first-total s.log (primary_connection h) epochs ended-one in
             let over : nat_le (epoch_of (primary_connection h).stream place.0) (epochs.acked + 0) ≡ false =
             sym (epochs.upto 0 place.0 a.write (omega arith) item)
-            ∙ lt-leb a.write.number (s.log.confirmed + 0) (omega arith) in
+            ∙ lt-leb a.write.number (s.log.acknowledged_through + 0) (omega arith) in
             let under : nat_le (epoch_of (primary_connection h).stream place.0) (epochs.acked + 1) ≡ true =
             sym (epochs.upto 1 place.0 a.write (let many = sums.0 in omega arith) item)
-            ∙ le-leb a.write.number (s.log.confirmed + total (take 1 s.log.epochs.sizes)) (let sum = sums.1 in let is = size-is in omega arith) in
+            ∙ le-leb a.write.number (s.log.acknowledged_through + total (take 1 s.log.epochs.sizes)) (let sum = sums.1 in let is = size-is in omega arith) in
             let above = leb-false (epoch_of (primary_connection h).stream place.0) (epochs.acked + 0) over in
             let upto = leb-true (epoch_of (primary_connection h).stream place.0) (epochs.acked + 1) under in
             let n = next-is in

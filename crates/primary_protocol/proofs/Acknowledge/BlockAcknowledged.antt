@@ -253,7 +253,7 @@ module _ (settings : Settings) (bound : TakesWrites settings) (s : PrimaryState)
   index = ap (λ m. m - 1) (length-change (with_frame frame) h.connections)
 
   -- the epochs before a barrier
-  before : (l : LogState) → l.protocol ≡ s.log.protocol → l.confirmed ≡ s.log.confirmed → l.accepted ≡ s.log.accepted → l.epochs ≡ s.log.epochs
+  before : (l : LogState) → l.protocol ≡ s.log.protocol → l.acknowledged_through ≡ s.log.acknowledged_through → l.accepted ≡ s.log.accepted → l.epochs ≡ s.log.epochs
       → LeavesEpochs l (primary_connection later)
   before l protocol confirmed accepted epochs =
       subst (LeavesEpochs l) (sym out)
@@ -335,7 +335,7 @@ module _ (settings : Settings) (bound : TakesWrites settings) (s : PrimaryState)
       accepted = left.rest.log.accepted;
       connection = left.rest.log.connection ∙ sym (λ i. if is_established (out i) then Some (index i) else None);
       writes = writes-same s h left (with_frame frame) h.tuple h.peer (clearing ack.first h.marks) unseen;
-      latest = left.rest.log.latest;
+      last_writes = left.rest.log.last_writes;
     };
     completed = sym (ap (map (λ a. completed_of (logged_of later a)))
         (quiet-none later (quiet-same s h left (with_frame frame) h.tuple h.peer (clearing ack.first h.marks) unseen)));
@@ -345,9 +345,9 @@ module _ (settings : Settings) (bound : TakesWrites settings) (s : PrimaryState)
     receipts = left.rest.entries.receipts;
     held = held-is;
     marks =
-        ap (λ m. unmarking [] s.log.latest (set m ack.first false)) left.rest.marks
-        ∙ (ap (unmarking [] s.log.latest) (set-marks h.settings.blocks h.marks ack.first)
-        ∙ unmarking-none [] s.log.latest h.settings.blocks (clearing ack.first h.marks) (λ n r at. absurd (cc)));
+        ap (λ m. unmarking [] s.log.last_writes (set m ack.first false)) left.rest.marks
+        ∙ (ap (unmarking [] s.log.last_writes) (set-marks h.settings.blocks h.marks ack.first)
+        ∙ unmarking-none [] s.log.last_writes h.settings.blocks (clearing ack.first h.marks) (λ n r at. absurd (cc)));
     activity = activity-same s h left (with_frame frame) h.tuple h.peer (clearing ack.first h.marks) unseen;
     end = subst (LeavesEnd (record e { under_way = None })) (sym out) cleared-end;
   }

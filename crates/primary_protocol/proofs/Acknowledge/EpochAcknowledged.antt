@@ -137,13 +137,13 @@ module _ (settings : Settings) (bound : TakesWrites settings) (s : PrimaryState)
   seen a = λ j. record (logged_of h a) { linked = not (alone-same a j); sent = sent-same a j; answered = answered-same a j }
 
   abbrev upto : ℕ
-  upto = s.log.confirmed + size
+  upto = s.log.acknowledged_through + size
 
   -- a write on the stream is released up to the new number
   confirmed-number : (i : ℕ) (a : Accepted) → slice_get h.writes i ≡ Some a → is_alone h a ≡ false → is_confirmed later a ≡ nat_le a.write.number upto
   confirmed-number i a at linked =
       let here = not-alone h homes ordered.1.0 i a at linked in
-      let sum : s.log.confirmed + total (take 1 s.log.epochs.sizes) ≡ upto = let t = first.1 in let z = sized in omega arith in
+      let sum : s.log.acknowledged_through + total (take 1 s.log.epochs.sizes) ≡ upto = let t = first.1 in let z = sized in omega arith in
       let one : e0.acked + 1 ≡ suc e0.acked = omega arith in
       ap (λ (v : Option StreamPosition). elim v as (λ _. Bool) [
         | None ↦ false
@@ -238,7 +238,7 @@ module _ (settings : Settings) (bound : TakesWrites settings) (s : PrimaryState)
     accepted = left.rest.log.accepted;
     connection = left.rest.log.connection ∙ sym (λ i. if is_established (out i) then Some (index-then i) else None);
     writes = writes-left;
-    latest = left.rest.log.latest;
+    last_writes = left.rest.log.last_writes;
   }
 
   -- The epochs then.
@@ -315,19 +315,19 @@ module _ (settings : Settings) (bound : TakesWrites settings) (s : PrimaryState)
     resync = ap (λ (x : EpochsState). x.resync) rest-is ∙ e0.resync;
     upto = λ k place write few at.
         let sum = sum-split k in
-        let same : s.log.confirmed + size + total (take k (drop 1 s.log.epochs.sizes)) ≡ s.log.confirmed + total (take (suc k) s.log.epochs.sizes) =
+        let same : s.log.acknowledged_through + size + total (take k (drop 1 s.log.epochs.sizes)) ≡ s.log.acknowledged_through + total (take (suc k) s.log.epochs.sizes) =
         omega arith in
         let count : e0.acked + suc k ≡ suc e0.acked + k = omega arith in
         let many : length s.log.epochs.sizes ≡ suc (length (drop 1 s.log.epochs.sizes)) = ap length sizes-split.0 in
         let within : k ≤ length (drop 1 s.log.epochs.sizes) = subst (λ (x : EpochsState). k ≤ length x.sizes) rest-is few in
-        (λ i. nat_le write.number (s.log.confirmed + size + total (take k (rest-is i).sizes)))
+        (λ i. nat_le write.number (s.log.acknowledged_through + size + total (take k (rest-is i).sizes)))
         ∙ (ap (nat_le write.number) same ∙ (e0.upto (suc k) place write (omega arith) at ∙ ap (nat_le (epoch_of (primary_connection h).stream place)) count));
-    newest = (λ i. s.log.confirmed + size + total (rest-is i).sizes + (rest-is i).size)
+    newest = (λ i. s.log.acknowledged_through + size + total (rest-is i).sizes + (rest-is i).size)
         ∙ (let all : total s.log.epochs.sizes ≡ size + total (drop 1 s.log.epochs.sizes) = ap total sizes-split.0 in let n = e0.newest in omega arith);
     first = λ some. ap (λ (x : EpochsState). x.first) rest-is ∙ (e0.first (subst (λ (x : EpochsState). 0 < x.size) rest-is some)
         ∙ ((let all : total s.log.epochs.sizes ≡ size + total (drop 1 s.log.epochs.sizes) = ap total sizes-split.0 in let is : suc
-        (s.log.confirmed + total s.log.epochs.sizes) ≡ suc (s.log.confirmed + size + total (drop 1 s.log.epochs.sizes)) = omega arith in is)
-        ∙ sym (λ i. suc (s.log.confirmed + size + total (rest-is i).sizes))));
+        (s.log.acknowledged_through + total s.log.epochs.sizes) ≡ suc (s.log.acknowledged_through + size + total (drop 1 s.log.epochs.sizes)) = omega arith in is)
+        ∙ sym (λ i. suc (s.log.acknowledged_through + size + total (rest-is i).sizes))));
     answered = answered-then;
   }
 
@@ -379,9 +379,9 @@ module _ (settings : Settings) (bound : TakesWrites settings) (s : PrimaryState)
     receipts = left.rest.entries.receipts;
     held = held-left;
     marks =
-        ap (unmarking l1.released l1.latest) left.rest.marks
-        ∙ unmarking-is settings h taken l1.released l1.latest ordered after.1.1.0.0 after.1.0 (confirmed-releases settings h number size end.is_open ordered)
-        (reports-of h taken (λ a. a) l1.released released-left (sym (map-id h.writes)) (λ a. refl)) h.settings.blocks h.marks log-left.latest;
+        ap (unmarking l1.released l1.last_writes) left.rest.marks
+        ∙ unmarking-is settings h taken l1.released l1.last_writes ordered after.1.1.0.0 after.1.0 (confirmed-releases settings h number size end.is_open ordered)
+        (reports-of h taken (λ a. a) l1.released released-left (sym (map-id h.writes)) (λ a. refl)) h.settings.blocks h.marks log-left.last_writes;
     activity = subst (λ rs. LeavesActivity (leaving rs s.activity) h.settings.slots (unreleased later))
         (ap (λ ws. map released_of (filter (writes.is_released upto) ws)) (map-none s.log.writes))
         (moved-activity s h later (λ w. w) (λ a. a) upto left homes ordered.1.0 confirmed-moved);

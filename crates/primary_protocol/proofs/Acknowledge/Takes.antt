@@ -132,7 +132,7 @@ module _ (s : PrimaryState) (h : PrimaryHistory) (e : EndState) (reached : IsRea
   taken-alike (Ok packet) = go (primary_connection h).begun refl
     where
       core-by : Bool → core.Taken
-      core-by b = if b then core.taking_ack packet e s else core.taking_hello e.heard packet (core.hearing e) s
+      core-by b = if b then core.taking_ack packet e s else core.taking_hello e.hello_received packet (core.hearing e) s
 
       model-by : Bool → model.Taken
       model-by b = elim b [

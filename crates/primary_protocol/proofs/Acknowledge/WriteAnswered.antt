@@ -206,7 +206,7 @@ module _ (settings : Settings) (s : PrimaryState) (h : PrimaryHistory) (e : EndS
       (λ i a at. refl) refl)
       (held-stays s h later ack.number writes.answering (λ a. a) (with_frame frame) left homes ordered.1.0 ordered.1.1.0.1.on after.1.1.0.0 answered-change
       (λ i a at. refl))
-      (ap (core.unmarking (changing ack.number writes.answering s.log).1.released (changing ack.number writes.answering s.log).1.latest) left.rest.marks
-      ∙ unmarking-none (changing ack.number writes.answering s.log).1.released (changing ack.number writes.answering s.log).1.latest h.settings.blocks h.marks
+      (ap (core.unmarking (changing ack.number writes.answering s.log).1.released (changing ack.number writes.answering s.log).1.last_writes) left.rest.marks
+      ∙ unmarking-none (changing ack.number writes.answering s.log).1.released (changing ack.number writes.answering s.log).1.last_writes h.settings.blocks h.marks
       clears-none)
       (subst (λ v. EndLeft v (primary_connection later)) (sym is) (subst (LeavesEnd e) (sym out) end))

@@ -22,7 +22,7 @@ use Rattle.model.specs.Acknowledgements.{names_sent, was_named, same_protocol}
 use Rattle.transferlog.specs.Log.{LogState, changing, awaits_in, is_asked}
 use Rattle.transferlog.specs.Ring.{write_at}
 use Rattle.transferlog.specs.Writes as writes
-use Rattle.transferlog.specs.declared.report.Answer.TheVariants as answer
+use Rattle.transferlog.specs.declared.report.PeerAck.TheVariants as answer
 use Rattle.laws.proofs.Rules.EpochEnds.{TakesWrites}
 use Rattle.laws.proofs.Releases.InOrderMoves.{Ordered, in-order-kept}
 use Rattle.laws.proofs.Primary.Moves.{with_frame}

@@ -107,7 +107,7 @@ module _ (s : PrimaryState) (h h1 : PrimaryHistory) (k : PrimaryConnection → P
   answered-same : (a : Accepted) → is_answered h1 a ≡ is_answered h a
   answered-same = answered-seen h h1 k c.connections c.settings (answered-by h.settings.protocol)
 
-  closed-moved : IsMoved h h1 writes.unlinking (λ a. a) s.log.confirmed
+  closed-moved : IsMoved h h1 writes.unlinking (λ a. a) s.log.acknowledged_through
   closed-moved = record {
     settings = c.settings;
     journal = c.journal;
@@ -138,8 +138,8 @@ module _ (s : PrimaryState) (h h1 : PrimaryHistory) (k : PrimaryConnection → P
     backlog = left.rest.log.backlog ∙ ap (λ (x : Settings). x.backlog) (sym c.settings);
     accepted = left.rest.log.accepted ∙ ap length (sym c.writes);
     connection = sym (ap (λ b. if b then Some (last_index h1.connections) else None) down);
-    writes = left-then s h h1 writes.unlinking (λ a. a) s.log.confirmed left homes last closed-moved;
-    latest = left.rest.log.latest ∙ ((λ i. map (λ block. latest_in (sym c.writes i) block 0) (below h.settings.blocks))
+    writes = left-then s h h1 writes.unlinking (λ a. a) s.log.acknowledged_through left homes last closed-moved;
+    last_writes = left.rest.log.last_writes ∙ ((λ i. map (λ block. latest_in (sym c.writes i) block 0) (below h.settings.blocks))
         ∙ ap (λ (x : Settings). map (λ block. latest_in h1.writes block 0) (below x.blocks)) (sym c.settings));
   }
 
@@ -182,12 +182,12 @@ module _ (s : PrimaryState) (h h1 : PrimaryHistory) (k : PrimaryConnection → P
           ∙ ap (map holding_write) (λ i. filter (λ a. not (list_any (λ (entry : Completion). entry.write.number == a.write.number) (sym c.journal i))
           && not (is_failed a.outcome)) (sym c.writes i)))
 
-  marks-are : unmarking (draining s.log).released (draining s.log).latest (bits.marking (transition.unreleased_blocks s.log.writes) s.marks) ≡ marks_in
+  marks-are : unmarking (draining s.log).released (draining s.log).last_writes (bits.marking (transition.unreleased_blocks s.log.writes) s.marks) ≡ marks_in
       h1.settings.blocks h1.marks
   marks-are =
-      ap (λ m. unmarking (draining s.log).released (draining s.log).latest (bits.marking (transition.unreleased_blocks s.log.writes) m)) left.rest.marks
-      ∙ (ap (unmarking (draining s.log).released (draining s.log).latest) (marking-in h.settings.blocks (transition.unreleased_blocks s.log.writes) h.marks)
-      ∙ (unmarking-none (draining s.log).released (draining s.log).latest h.settings.blocks
+      ap (λ m. unmarking (draining s.log).released (draining s.log).last_writes (bits.marking (transition.unreleased_blocks s.log.writes) m)) left.rest.marks
+      ∙ (ap (unmarking (draining s.log).released (draining s.log).last_writes) (marking-in h.settings.blocks (transition.unreleased_blocks s.log.writes) h.marks)
+      ∙ (unmarking-none (draining s.log).released (draining s.log).last_writes h.settings.blocks
       (λ block. h.marks block || transition.unreleased_blocks s.log.writes block) clears_none
       ∙ (marks-same h.settings.blocks (λ block. h.marks block || transition.unreleased_blocks s.log.writes block) h1.marks
       (λ block inside. close-marks h block (transition.unreleased_blocks s.log.writes block) (covered block) ∙ sym (c.marks block))
@@ -201,7 +201,7 @@ module _ (s : PrimaryState) (h h1 : PrimaryHistory) (k : PrimaryConnection → P
       clears_none n r at =
           let of = pick-image (λ a. released_of (logged_of h1 a)) (filter (λ a. not (is_released h a) && is_released h1 a) h.writes) n r
           (subst (λ (rs : List Released). slice_get rs n ≡ Some r)
-          (moved-released s h h1 writes.unlinking (λ a. a) s.log.confirmed left homes last closed-moved) at) in
+          (moved-released s h h1 writes.unlinking (λ a. a) s.log.acknowledged_through left homes last closed-moved) at) in
           let stood = pick-filtered (λ a. not (is_released h a) && is_released h1 a) h.writes n of.0 of.1 in
           ap (λ (x : Released). x.clears) (sym of.2) ∙ λ j. not (all-alone stood.0 of.0 stood.1 j) && writes.is_on_disk (local_of of.0.outcome)
 
@@ -246,7 +246,7 @@ module _ (s : PrimaryState) (h h1 : PrimaryHistory) (k : PrimaryConnection → P
     peer = sym peer_is;
     connections = left.rest.connections ∙ (sym (length-change k h.connections) ∙ ap length (sym c.connections));
     log = drained-log;
-    completed = moved-completed s h h1 writes.unlinking (λ a. a) s.log.confirmed left homes last closed-moved;
+    completed = moved-completed s h h1 writes.unlinking (λ a. a) s.log.acknowledged_through left homes last closed-moved;
     barrier_is = sym (ap (λ b. if b then Some (last_epoch (primary_connection h1).stream) else None) (down-on (with_completions h1) down));
     stream = drained-stream;
     entries = entries-are;
@@ -254,7 +254,7 @@ module _ (s : PrimaryState) (h h1 : PrimaryHistory) (k : PrimaryConnection → P
         (left.rest.entries.receipts i number (subst (λ (r : List ℕ). slice_get r i ≡ Some number) c.receipts at));
     held = held-is;
     marks = marks-are;
-    activity = moved-activity s h h1 writes.unlinking (λ a. a) s.log.confirmed left homes last closed-moved;
+    activity = moved-activity s h h1 writes.unlinking (λ a. a) s.log.acknowledged_through left homes last closed-moved;
     end = ap (λ (x : PrimaryConnection). x.closed) c.last ∙ c.closed;
   }
 
@@ -265,7 +265,7 @@ module _ (s : PrimaryState) (h h1 : PrimaryHistory) (k : PrimaryConnection → P
   -- and tells how many writes it completed
   pub close-count : (transition.closing e (record s { peer = peer })).0 ≡ length (follows h1).completed
   close-count =
-      ap length (moved-completed s h h1 writes.unlinking (λ a. a) s.log.confirmed left homes last closed-moved)
+      ap length (moved-completed s h h1 writes.unlinking (λ a. a) s.log.acknowledged_through left homes last closed-moved)
       ∙ (length-map (newly_completed h1) (λ a. completed_of (logged_of h1 a))
       ∙ (sym (length-map (newly_completed h1) (λ a. a.write.number)) ∙ by-end (resync_is_over (parted (with_completions h1)))))
     where

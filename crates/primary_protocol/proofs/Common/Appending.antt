@@ -80,8 +80,8 @@ end-more e c d item same stream sync loss hello begun plain l = record {
   sync = l.sync ∙ sym sync;
   loss = l.loss ∙ sym loss;
   hello = l.hello ∙ sym hello;
-  heard = rw (same.taken) l.heard;
-  said = rw (same.pushed) l.said;
+  hello_received = rw (same.taken) l.hello_received;
+  hello_sent = rw (same.pushed) l.hello_sent;
   pushed = let longer : length d.stream ≡ length c.stream + 1 = ap length stream
       ∙ length-append c.stream (item ∷ []) in let within = l.pushed in let p = same.pushed in omega arith;
   unsent = rw (same.pushed, stream) (ap (λ (u : List StreamItem). u ++ item ∷ []) l.unsent ∙ sym (drop-append-le (c.pushed - 3) c.stream (item ∷ []) l.pushed));
@@ -143,7 +143,7 @@ module _ (t : PrimaryState) (g : PrimaryHistory) (item : StreamItem) (left : Lea
           else None);
       writes = left.log.writes ∙ sym (ap (map (logged_of (appending item g))) unreleased-more
           ∙ map-at (logged_of (appending item g)) (logged_of g) (unreleased g) (λ i a at. seen a));
-      latest = left.log.latest;
+      last_writes = left.log.last_writes;
     };
     entries = record { entries = left.entries.entries; receipts = left.entries.receipts };
     marks = left.marks;

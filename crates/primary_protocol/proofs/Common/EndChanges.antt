@@ -30,7 +30,7 @@ turned f tuple peer marks h = record h { connections = change_last f h.connectio
 
 -- a log that reports nothing, with the epochs of a stream
 abbrev pub unreported : Option ℕ → ℕ → EpochsState → LogState → LogState
-unreported connection confirmed epochs l = record l { connection = connection; confirmed = confirmed; epochs = epochs; released = []; completed = [] }
+unreported connection acknowledged_through epochs l = record l { connection = connection; acknowledged_through = acknowledged_through; epochs = epochs; released = []; completed = [] }
 
 -- where nothing is completed, the journal stays
 pub journal-stays : (h : PrimaryHistory) → IsQuiet h → with_completions h ≡ h
@@ -95,7 +95,7 @@ module _ (s : PrimaryState) (h : PrimaryHistory) (left : Leaves s h) (f : Primar
       accepted = left.rest.log.accepted;
       connection = connection_is;
       writes = writes-same;
-      latest = left.rest.log.latest;
+      last_writes = left.rest.log.last_writes;
     };
     completed = sym (ap (map (λ a. completed_of (logged_of (turned f tuple peer marks h) a))) (quiet-none (turned f tuple peer marks h) quiet-same));
     barrier_is = sym (ap barrier_of journal ∙ ap (λ b. if b then Some (last_number) else None) on);
@@ -103,7 +103,7 @@ module _ (s : PrimaryState) (h : PrimaryHistory) (left : Leaves s h) (f : Primar
     entries = left.rest.entries.entries;
     receipts = left.rest.entries.receipts;
     held = held_is;
-    marks = ap (unmarking [] s.log.latest) bits_are ∙ unmarking-none [] s.log.latest h.settings.blocks marks (λ n r at. absurd (cc));
+    marks = ap (unmarking [] s.log.last_writes) bits_are ∙ unmarking-none [] s.log.last_writes h.settings.blocks marks (λ n r at. absurd (cc));
     activity = activity-same;
     end = subst (LeavesEnd e) (sym (primary-connection-of f h (turned f tuple peer marks h) refl unshut)) end;
   }

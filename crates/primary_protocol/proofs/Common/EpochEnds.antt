@@ -48,35 +48,35 @@ take-all (x ∷ xs) = ap (λ l. x ∷ l) (take-all xs)
 
 -- a write of the stream is in the last epoch where its number is behind those of the ended ones
 pub in-last : (l : LogState) (c : PrimaryConnection) (e : LeavesEpochs l c) (place : ℕ) (write : Write) → slice_get c.stream place ≡ Some (WriteItem write)
-    → nat_le write.number (l.confirmed + total l.epochs.sizes) ≡ nat_le (epoch_of c.stream place) (barriers_in c.stream)
+    → nat_le write.number (l.acknowledged_through + total l.epochs.sizes) ≡ nat_le (epoch_of c.stream place) (barriers_in c.stream)
 in-last l c e place write at =
-    ap (λ xs. nat_le write.number (l.confirmed + total xs)) (sym (take-all l.epochs.sizes))
+    ap (λ xs. nat_le write.number (l.acknowledged_through + total xs)) (sym (take-all l.epochs.sizes))
     ∙ (e.upto (length l.epochs.sizes) place write (omega arith) at ∙ ap (nat_le (epoch_of c.stream place)) (sizes-many l c e))
 
 -- the number of a write that the log places in the last epoch
 pub last-number : (l : LogState) (c : PrimaryConnection) (e : LeavesEpochs l c) (n : ℕ) → 0 < n → n ≤ l.accepted
-    → is_in_last n l.epochs ≡ nat_lt (l.confirmed + total l.epochs.sizes) n
+    → is_in_last n l.epochs ≡ nat_lt (l.acknowledged_through + total l.epochs.sizes) n
 last-number l c e n some few = go (n == 0) refl
   where
     go : (b : Bool) → (n == 0) ≡ b → (if b then l.epochs.resync else nat_lt 0 l.epochs.size && nat_le l.epochs.first n) ≡ nat_lt
-        (l.confirmed + total l.epochs.sizes) n
+        (l.acknowledged_through + total l.epochs.sizes) n
     go true is = absurd (let none = eqb-true n 0 is in omega arith)
     go false is = by-size l.epochs.size refl
       where
-        by-size : (m : ℕ) → l.epochs.size ≡ m → (nat_lt 0 l.epochs.size && nat_le l.epochs.first n) ≡ nat_lt (l.confirmed + total l.epochs.sizes) n
+        by-size : (m : ℕ) → l.epochs.size ≡ m → (nat_lt 0 l.epochs.size && nat_le l.epochs.first n) ≡ nat_lt (l.acknowledged_through + total l.epochs.sizes) n
         by-size zero none =
             ap (λ m. nat_lt 0 m && nat_le l.epochs.first n) none
-            ∙ sym (false_from_ne_true (nat_lt (l.confirmed + total l.epochs.sizes) n)
-            (λ less. let more = ltb-true (l.confirmed + total l.epochs.sizes) n less in let all = e.newest in omega arith))
+            ∙ sym (false_from_ne_true (nat_lt (l.acknowledged_through + total l.epochs.sizes) n)
+            (λ less. let more = ltb-true (l.acknowledged_through + total l.epochs.sizes) n less in let all = e.newest in omega arith))
         by-size (suc m) many =
             let first = e.first (omega arith) in
             let begun : nat_lt 0 l.epochs.size ≡ true = lt-ltb 0 l.epochs.size (omega arith) in
-            ap (λ b. b && nat_le l.epochs.first n) begun ∙ (ap (λ x. nat_le x n) first ∙ both (cases_lt (l.confirmed + total l.epochs.sizes) n))
+            ap (λ b. b && nat_le l.epochs.first n) begun ∙ (ap (λ x. nat_le x n) first ∙ both (cases_lt (l.acknowledged_through + total l.epochs.sizes) n))
           where
-            both : ((l.confirmed + total l.epochs.sizes) < n) ⊎ (n ≤ (l.confirmed + total l.epochs.sizes))
-                → nat_le (suc (l.confirmed + total l.epochs.sizes)) n ≡ nat_lt (l.confirmed + total l.epochs.sizes) n
-            both (inl less) = le-leb (suc (l.confirmed + total l.epochs.sizes)) n (omega arith) ∙ sym (lt-ltb (l.confirmed + total l.epochs.sizes) n less)
-            both (inr more) = lt-leb (suc (l.confirmed + total l.epochs.sizes)) n (omega arith) ∙ sym (le-ltb (l.confirmed + total l.epochs.sizes) n more)
+            both : ((l.acknowledged_through + total l.epochs.sizes) < n) ⊎ (n ≤ (l.acknowledged_through + total l.epochs.sizes))
+                → nat_le (suc (l.acknowledged_through + total l.epochs.sizes)) n ≡ nat_lt (l.acknowledged_through + total l.epochs.sizes) n
+            both (inl less) = le-leb (suc (l.acknowledged_through + total l.epochs.sizes)) n (omega arith) ∙ sym (lt-ltb (l.acknowledged_through + total l.epochs.sizes) n less)
+            both (inr more) = lt-leb (suc (l.acknowledged_through + total l.epochs.sizes)) n (omega arith) ∙ sym (le-ltb (l.acknowledged_through + total l.epochs.sizes) n more)
 
 module _ (s : PrimaryState) (h h1 : PrimaryHistory) (n : ℕ) (f : LogWrite → LogWrite) (g : Accepted → Accepted) (k : PrimaryConnection → PrimaryConnection)
     (left : Leaves s h) (homes : HasHomes h) (last : IsLastOpen h) (quiet : epoch_is_over h ≡ false) (homes1 : HasHomes h1) (done1 : (i : ℕ) (a : Accepted)
@@ -179,11 +179,11 @@ module _ (s : PrimaryState) (h h1 : PrimaryHistory) (n : ℕ) (f : LogWrite → 
             let b_index = homes.numbered i b ati in
             let within = slice_get_within h.writes i b ati in
             let all = left.rest.log.accepted in
-            let behind : nat_le write.number (s.log.confirmed + total s.log.epochs.sizes) ≡ false = in-last s.log (primary_connection h) e place write here
+            let behind : nat_le write.number (s.log.acknowledged_through + total s.log.epochs.sizes) ≡ false = in-last s.log (primary_connection h) e place write here
             ∙ lt-leb (epoch_of (primary_connection h).stream place) (barriers_in (primary_connection h).stream) (omega arith) in
-            let more = leb-false write.number (s.log.confirmed + total s.log.epochs.sizes) behind in
+            let more = leb-false write.number (s.log.acknowledged_through + total s.log.epochs.sizes) behind in
             and_from _ _ closed (last-number s.log (primary_connection h) e n (omega arith) (omega arith)
-            ∙ lt-ltb (s.log.confirmed + total s.log.epochs.sizes) n (omega arith))
+            ∙ lt-ltb (s.log.acknowledged_through + total s.log.epochs.sizes) n (omega arith))
 
     -- the other way: where the write of the number is open no more, and is in the last epoch, that epoch is over
     settled-then : closes_any (on n f) s.log ≡ true → is_in_last n s.log.epochs ≡ true
@@ -196,7 +196,7 @@ module _ (s : PrimaryState) (h h1 : PrimaryHistory) (n : ℕ) (f : LogWrite → 
         let index = homes.numbered some.0 some.1 some.2 in
         let within = slice_get_within h.writes some.0 some.1 some.2 in
         let all = left.rest.log.accepted in
-        let behind = ltb-true (s.log.confirmed + total s.log.epochs.sizes) n (sym (last-number s.log (primary_connection h) e n (omega arith) (omega arith))
+        let behind = ltb-true (s.log.acknowledged_through + total s.log.epochs.sizes) n (sym (last-number s.log (primary_connection h) e n (omega arith) (omega arith))
         ∙ in_it) in
         let place = left.stream.here standing some.0 some.1 some.2 (omega arith) in
         let housed = homes.housed some.0 (last_index h.connections) place.0 some.1 some.2 place.1 in
@@ -205,7 +205,7 @@ module _ (s : PrimaryState) (h h1 : PrimaryHistory) (n : ℕ) (f : LogWrite → 
         subst (λ (x : PrimaryConnection). slice_get x.stream place.0 ≡ Some (WriteItem some.1.write)) same housed.2 in
         let late : nat_le (epoch_of (primary_connection h).stream place.0) (barriers_in (primary_connection h).stream) ≡ false =
         sym (in-last s.log (primary_connection h) e place.0 some.1.write item)
-        ∙ lt-leb some.1.write.number (s.log.confirmed + total s.log.epochs.sizes) (omega arith) in
+        ∙ lt-leb some.1.write.number (s.log.acknowledged_through + total s.log.epochs.sizes) (omega arith) in
         let more = leb-false (epoch_of (primary_connection h).stream place.0) (barriers_in (primary_connection h).stream) late in
         let bound = epoch-bound (primary_connection h).stream place.0 in
         let epoch : (epoch_of (primary_connection h).stream place.0 == last_epoch (primary_connection h).stream) ≡ true =
@@ -313,7 +313,7 @@ module _ (s : PrimaryState) (h h1 : PrimaryHistory) (n : ℕ) (f : LogWrite → 
   stream-then = go (epoch_is_over (with_completions h1)) refl (ap (λ x. x.1) ended-is)
     where
       -- the epochs before a barrier
-      before : (l : LogState) → l.protocol ≡ s.log.protocol → l.confirmed ≡ s.log.confirmed → l.accepted ≡ s.log.accepted → l.epochs ≡ s.log.epochs
+      before : (l : LogState) → l.protocol ≡ s.log.protocol → l.acknowledged_through ≡ s.log.acknowledged_through → l.accepted ≡ s.log.accepted → l.epochs ≡ s.log.epochs
           → is_established (primary_connection h) ≡ true → LeavesEpochs l (primary_connection h1)
       before l protocol confirmed accepted epochs standing =
           subst (LeavesEpochs l) (sym c.last)
@@ -327,7 +327,7 @@ module _ (s : PrimaryState) (h h1 : PrimaryHistory) (n : ℕ) (f : LogWrite → 
       index = ap (λ (cs : List PrimaryConnection). length cs - 1) c.connections ∙ ap (λ m. m - 1) (length-change k h.connections)
 
       -- a write behind the confirmed ones has its place
-      here : is_established (primary_connection h) ≡ true → (i : ℕ) (a : Accepted) → slice_get h1.writes i ≡ Some a → s.log.confirmed < a.write.number
+      here : is_established (primary_connection h) ≡ true → (i : ℕ) (a : Accepted) → slice_get h1.writes i ≡ Some a → s.log.acknowledged_through < a.write.number
           → (place : ℕ) × (a.home ≡ Some (record { index = last_index h.connections; place = place }))
       here standing i a at behind =
           let of = pick-image g h.writes i a (subst (λ (ws : List Accepted). slice_get ws i ≡ Some a) c.writes at) in

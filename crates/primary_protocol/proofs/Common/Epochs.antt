@@ -84,7 +84,7 @@ resync-more items item plain =
 
 module _ (l l' : LogState) (c d : PrimaryConnection) (item : StreamItem) (e : LeavesEpochs l c) (same : SeesSame c d)
     (stream : d.stream ≡ c.stream ++ item ∷ [])
-    (protocol : l'.protocol ≡ l.protocol) (confirmed : l'.confirmed ≡ l.confirmed) where
+    (protocol : l'.protocol ≡ l.protocol) (confirmed : l'.acknowledged_through ≡ l.acknowledged_through) where
   -- an old item stands where it stood
   old : (place : ℕ) (write : Write) → slice_get d.stream place ≡ Some (WriteItem write)
       → (slice_get c.stream place ≡ Some (WriteItem write)) ⊎ ((place ≡ length c.stream) × (item ≡ WriteItem write))
@@ -217,7 +217,7 @@ module _ (l l' : LogState) (c d : PrimaryConnection) (item : StreamItem) (e : Le
           ∙ (sym (numbers-end e.acked (barriers_in c.stream - e.acked)) ∙ ap (numbers_after e.acked) (sym count))
 
       upto_old : (k place : ℕ) (write : Write) → k ≤ length (l.epochs.sizes ++ l.epochs.size ∷ []) → slice_get c.stream place ≡ Some (WriteItem write)
-          → nat_le write.number (l.confirmed + total (take k (l.epochs.sizes ++ l.epochs.size ∷ []))) ≡ nat_le (epoch_of c.stream place) (e.acked + k)
+          → nat_le write.number (l.acknowledged_through + total (take k (l.epochs.sizes ++ l.epochs.size ∷ []))) ≡ nat_le (epoch_of c.stream place) (e.acked + k)
       upto_old k place write within at = elim (cases_lt (length l.epochs.sizes) k) [
         | inl past ↦
             let size = length-append l.epochs.sizes (l.epochs.size ∷ []) in
@@ -230,9 +230,9 @@ module _ (l l' : LogState) (c d : PrimaryConnection) (item : StreamItem) (e : Le
             let bound = epoch-bound c.stream place in
             let s = length-sizes in
             let w = e.within in
-            le-leb write.number (l.confirmed + total (take k (l.epochs.sizes ++ l.epochs.size ∷ []))) (omega arith)
+            le-leb write.number (l.acknowledged_through + total (take k (l.epochs.sizes ++ l.epochs.size ∷ []))) (omega arith)
             ∙ sym (le-leb (epoch_of c.stream place) (e.acked + k) (omega arith))
-        | inr front ↦ ap (λ xs. nat_le write.number (l.confirmed + total xs)) (take-append-le k l.epochs.sizes (l.epochs.size ∷ []) (omega arith))
+        | inr front ↦ ap (λ xs. nat_le write.number (l.acknowledged_through + total xs)) (take-append-le k l.epochs.sizes (l.epochs.size ∷ []) (omega arith))
             ∙ e.upto k place write (omega arith) at
       ]
 
@@ -306,7 +306,7 @@ module _ (l l' : LogState) (c d : PrimaryConnection) (item : StreamItem) (e : Le
           let w = e.within in
           let epoch : epoch_of d.stream place ≡ last_epoch c.stream = ap (epoch_of d.stream) added.0 ∙ epoch-new in
           (λ i. nat_le write.number (confirmed i + total (take k (epochs i).sizes)))
-          ∙ (lt-leb write.number (l.confirmed + total (take k l.epochs.sizes)) (omega arith)
+          ∙ (lt-leb write.number (l.acknowledged_through + total (take k l.epochs.sizes)) (omega arith)
           ∙ sym (lt-leb (epoch_of d.stream place) (e.acked + k) (omega arith)))
     ];
     newest = (λ i. confirmed i + total (epochs i).sizes + (epochs i).size) ∙ (let n = e.newest in let a = accepted in omega arith);
@@ -347,7 +347,7 @@ module _ (l l' : LogState) (c d : PrimaryConnection) (item : StreamItem) (e : Le
       sizes_ended = map-at (epoch_size c.stream) (epoch_size d.stream) (numbers_after e.acked (barriers_in c.stream - e.acked))
           (λ i n at. let bound = numbers-bound e.acked (barriers_in c.stream - e.acked) i n at in let w = e.within in grown n (omega arith))
 
-      first_is : (b : Bool) → (l.epochs.size == 0) ≡ b → (if b then l.accepted + 1 else l.epochs.first) ≡ suc (l.confirmed + total l.epochs.sizes)
+      first_is : (b : Bool) → (l.epochs.size == 0) ≡ b → (if b then l.accepted + 1 else l.epochs.first) ≡ suc (l.acknowledged_through + total l.epochs.sizes)
       first_is true is = let none : l.epochs.size ≡ 0 = eqb-true l.epochs.size 0 is in let n = e.newest in omega arith
       first_is false is = e.first (some l.epochs.size is)
         where
@@ -359,7 +359,7 @@ module _ (l l' : LogState) (c d : PrimaryConnection) (item : StreamItem) (e : Le
 pub epochs-same : (l l' : LogState) (c d : PrimaryConnection) → LeavesEpochs l c → d.stream ≡ c.stream
     → ((epoch : ℕ) → barrier_acknowledged d epoch ≡ barrier_acknowledged c epoch)
     → ((asked : Protocol) (place : ℕ) (item : StreamItem) → is_answered_by asked c place item ≡ true → is_answered_by asked d place item ≡ true)
-    → l'.protocol ≡ l.protocol → l'.confirmed ≡ l.confirmed → l'.accepted ≡ l.accepted → l'.epochs ≡ l.epochs → LeavesEpochs l' d
+    → l'.protocol ≡ l.protocol → l'.acknowledged_through ≡ l.acknowledged_through → l'.accepted ≡ l.accepted → l'.epochs ≡ l.epochs → LeavesEpochs l' d
 epochs-same l l' c d e stream acknowledged answers protocol confirmed accepted epochs = record {
   acked = e.acked;
   acknowledged = λ epoch some. acknowledged epoch ∙ e.acknowledged epoch some;

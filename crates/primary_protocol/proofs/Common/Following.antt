@@ -66,7 +66,7 @@ pub record IsDue (s : PrimaryState) (barrier : Option ℕ) (h : PrimaryHistory) 
   pub entries : s.entries ≡ map (entry_of h) h.writes
   pub receipts : (i number : ℕ) → slice_get h.receipts i ≡ Some number → number ≤ length h.writes
   pub held : s.held ≡ held_of h
-  pub marks : unmarking s.log.released s.log.latest s.marks ≡ marks_in h.settings.blocks h.marks
+  pub marks : unmarking s.log.released s.log.last_writes s.marks ≡ marks_in h.settings.blocks h.marks
   pub activity : LeavesActivity (leaving s.log.released s.activity) h.settings.slots (unreleased h)
   pub end : EndLeft s.end (primary_connection h)
 
@@ -154,7 +154,7 @@ module _ (s : PrimaryState) (barrier : Option ℕ) (h : PrimaryHistory) (due : I
       accepted = due.log.accepted;
       connection = due.log.connection;
       writes = due.log.writes;
-      latest = due.log.latest;
+      last_writes = due.log.last_writes;
     };
     entries = record { entries = (λ i. entering (due.completed i) (due.entries i)) ∙ entries-completed h may; receipts = due.receipts };
     marks = due.marks;
@@ -269,7 +269,7 @@ module _ (s : PrimaryState) (barrier : Option ℕ) (h : PrimaryHistory) (due : I
           connection = rest-parted.log.connection ∙ sym (λ i. if is_established (last i) then Some (last_index (parted (with_completions h)).connections)
               else None);
           writes = rest-parted.log.writes;
-          latest = rest-parted.log.latest;
+          last_writes = rest-parted.log.last_writes;
         };
         entries = record { entries = rest-parted.entries.entries; receipts = rest-parted.entries.receipts };
         marks = rest-parted.marks;

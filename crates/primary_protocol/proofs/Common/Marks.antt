@@ -129,21 +129,21 @@ pub record Reports (h later : PrimaryHistory) (released : List Released) : Type 
       × (r ≡ released_of (logged_of later b))
   pub all : (i : ℕ) (b : Accepted) → IsNew h later i b → (n : ℕ) × (slice_get released n ≡ Some (released_of (logged_of later b)))
 
-module _ (settings : Settings) (h later : PrimaryHistory) (released : List Released) (latest : List ℕ) (ordered : Ordered settings h) (homes : HasHomes later)
+module _ (settings : Settings) (h later : PrimaryHistory) (released : List Released) (last_writes : List ℕ) (ordered : Ordered settings h) (homes : HasHomes later)
     (shut : IsLastOpen later) (release : IsRelease h later) (reports : Reports h later released) where
   from-one : AreNumberedFrom 1 later.writes
   from-one i a at = homes.numbered i a at ∙ omega arith
 
   -- a block that the report clears is cleared
-  forth : (block : ℕ) → slice_get latest block ≡ Some (latest_in later.writes block 0) → list_any (λ r. clears r block latest) released ≡ true
+  forth : (block : ℕ) → slice_get last_writes block ≡ Some (latest_in later.writes block 0) → list_any (λ r. clears r block last_writes) released ≡ true
       → is_cleared h later block ≡ true
   forth block latest_is some =
-      let r = pick-any (λ r. clears r block latest) released some in
+      let r = pick-any (λ r. clears r block last_writes) released some in
       let of = reports.only r.0 r.1 r.2 in
       let b : Accepted = of.1 in
-      let passed : clears (released_of (logged_of later of.1)) block latest ≡ true = ap (λ x. clears x block latest) (sym of.4) ∙ r.3 in
+      let passed : clears (released_of (logged_of later of.1)) block last_writes ≡ true = ap (λ x. clears x block last_writes) (sym of.4) ∙ r.3 in
       let outer = and_parts ((not (is_alone later of.1) && _) && is_between of.1.write.first (length of.1.write.contents) block)
-      (is_number of.1.write.number (slice_get latest block)) passed in
+      (is_number of.1.write.number (slice_get last_writes block)) passed in
       let inner = and_parts (not (is_alone later of.1) && _) (is_between of.1.write.first (length of.1.write.contents) block) outer.0 in
       let linked = and_parts (not (is_alone later of.1)) _ inner.0 in
       let newest : latest_in later.writes block 0 ≡ of.1.write.number = eqb-true (latest_in later.writes block 0) of.1.write.number
@@ -164,8 +164,8 @@ module _ (settings : Settings) (h later : PrimaryHistory) (released : List Relea
       })
 
   -- and the other way
-  back : (block : ℕ) → slice_get latest block ≡ Some (latest_in later.writes block 0) → is_cleared h later block ≡ true
-      → list_any (λ r. clears r block latest) released ≡ true
+  back : (block : ℕ) → slice_get last_writes block ≡ Some (latest_in later.writes block 0) → is_cleared h later block ≡ true
+      → list_any (λ r. clears r block last_writes) released ≡ true
   back block latest_is cleared =
       let w = release-clearing settings h later block ordered homes shut release cleared in
       let a : Accepted = w.cleared.accepted in
@@ -174,43 +174,43 @@ module _ (settings : Settings) (h later : PrimaryHistory) (released : List Relea
       ∙ (established-parts (primary_connection later) w.cleared.standing).0 in
       let newest : latest_in later.writes block 0 ≡ w.cleared.accepted.write.number =
       latest-is later.writes block 0 w.cleared.index w.cleared.accepted w.cleared.at w.cleared.covered w.cleared.last in
-      any-pick (λ r. clears r block latest) released there.0 (released_of (logged_of later w.cleared.accepted)) there.1
+      any-pick (λ r. clears r block last_writes) released there.0 (released_of (logged_of later w.cleared.accepted)) there.1
       (and_from _ _ (and_from _ _ (and_from _ _ (ap not unshut) (disk-seen w.cleared.accepted.outcome ∙ w.cleared.done)) w.cleared.covered)
       (ap (is_number w.cleared.accepted.write.number) latest_is ∙ eq-eqb (latest_in later.writes block 0) w.cleared.accepted.write.number newest))
 
   -- The marks that the report leaves are those that the history leaves.
-  pub unmarking-is : (blocks : ℕ) (marks : ℕ → Bool) → latest ≡ map (λ block. latest_in later.writes block 0) (below blocks)
-      → unmarking released latest (marks_in blocks marks) ≡ marks_in blocks (λ block. marks block && not (is_cleared h later block))
+  pub unmarking-is : (blocks : ℕ) (marks : ℕ → Bool) → last_writes ≡ map (λ block. latest_in later.writes block 0) (below blocks)
+      → unmarking released last_writes (marks_in blocks marks) ≡ marks_in blocks (λ block. marks block && not (is_cleared h later block))
   unmarking-is blocks marks latest_is =
-      ap (λ n. map (λ block. marked (marks_in blocks marks) block && not (list_any (λ r. clears r block latest) released)) (below n))
+      ap (λ n. map (λ block. marked (marks_in blocks marks) block && not (list_any (λ r. clears r block last_writes) released)) (below n))
       (length-marks blocks marks)
-      ∙ marks-same blocks (λ block. marked (marks_in blocks marks) block && not (list_any (λ r. clears r block latest) released))
+      ∙ marks-same blocks (λ block. marked (marks_in blocks marks) block && not (list_any (λ r. clears r block last_writes) released))
       (λ block. marks block && not (is_cleared h later block))
       (λ block inside. λ i. marked-in blocks marks block inside i && not (same block inside i))
     where
-      same : (block : ℕ) → block < blocks → list_any (λ r. clears r block latest) released ≡ is_cleared h later block
+      same : (block : ℕ) → block < blocks → list_any (λ r. clears r block last_writes) released ≡ is_cleared h later block
       same block inside =
-          let known : slice_get latest block ≡ Some (latest_in later.writes block 0) = ap (λ (l : List ℕ). slice_get l block) latest_is
+          let known : slice_get last_writes block ≡ Some (latest_in later.writes block 0) = ap (λ (l : List ℕ). slice_get l block) latest_is
           ∙ (slice_get-map (λ block. latest_in later.writes block 0) (below blocks) block
           ∙ ap (option_map (λ block. latest_in later.writes block 0)) (get-below blocks block inside)) in
-          both-ways known (list_any (λ r. clears r block latest) released) (is_cleared h later block) refl refl
+          both-ways known (list_any (λ r. clears r block last_writes) released) (is_cleared h later block) refl refl
         where
-          both-ways : slice_get latest block ≡ Some (latest_in later.writes block 0) → (b d : Bool) → list_any (λ r. clears r block latest) released ≡ b
+          both-ways : slice_get last_writes block ≡ Some (latest_in later.writes block 0) → (b d : Bool) → list_any (λ r. clears r block last_writes) released ≡ b
               → is_cleared h later block ≡ d → b ≡ d
           both-ways known true d some is = sym (forth block known some) ∙ is
-          both-ways known false true none is = absurd (both_ways (list_any (λ r. clears r block latest) released) none (back block known is))
+          both-ways known false true none is = absurd (both_ways (list_any (λ r. clears r block last_writes) released) none (back block known is))
           both-ways known false false none is = refl
 
 -- Reports that clear nothing leave the marks.
-pub unmarking-none : (released : List Released) (latest : List ℕ) (blocks : ℕ) (marks : ℕ → Bool)
+pub unmarking-none : (released : List Released) (last_writes : List ℕ) (blocks : ℕ) (marks : ℕ → Bool)
     → ((n : ℕ) (r : Released) → slice_get released n ≡ Some r → r.clears ≡ false)
-    → unmarking released latest (marks_in blocks marks) ≡ marks_in blocks marks
-unmarking-none released latest blocks marks none =
-    ap (λ n. map (λ block. marked (marks_in blocks marks) block && not (list_any (λ r. clears r block latest) released)) (below n)) (length-marks blocks marks)
-    ∙ marks-same blocks (λ block. marked (marks_in blocks marks) block && not (list_any (λ r. clears r block latest) released)) marks
+    → unmarking released last_writes (marks_in blocks marks) ≡ marks_in blocks marks
+unmarking-none released last_writes blocks marks none =
+    ap (λ n. map (λ block. marked (marks_in blocks marks) block && not (list_any (λ r. clears r block last_writes) released)) (below n)) (length-marks blocks marks)
+    ∙ marks-same blocks (λ block. marked (marks_in blocks marks) block && not (list_any (λ r. clears r block last_writes) released)) marks
     (λ block inside. ap (λ b. marked (marks_in blocks marks) block && not b)
-    (any-at (λ r. clears r block latest) (λ r. false) released
-    (λ n r at. ap (λ b. (b && is_between r.first r.count block) && is_number r.number (slice_get latest block)) (none n r at)) ∙ nothing released)
+    (any-at (λ r. clears r block last_writes) (λ r. false) released
+    (λ n r at. ap (λ b. (b && is_between r.first r.count block) && is_number r.number (slice_get last_writes block)) (none n r at)) ∙ nothing released)
     ∙ (and-true (marked (marks_in blocks marks) block) ∙ marked-in blocks marks block inside))
   where
     nothing : (rs : List Released) → list_any (λ (r : Released). false) rs ≡ false

@@ -56,12 +56,12 @@ module _ (s : PrimaryState) (h h1 : PrimaryHistory) (n : ℕ) (f : LogWrite → 
   abbrev l1 : LogState
   l1 = (changing n f s.log).1
 
-  released-then : (i : ℕ) (a : Accepted) → slice_get h.writes i ≡ Some a → log.is_released s.log.confirmed (on n f (logged_of h a)) ≡ is_released h1 (g a)
+  released-then : (i : ℕ) (a : Accepted) → slice_get h.writes i ≡ Some a → log.is_released s.log.acknowledged_through (on n f (logged_of h a)) ≡ is_released h1 (g a)
   released-then i a at =
-      ap (log.is_released s.log.confirmed) (sym (c.logged i a at))
+      ap (log.is_released s.log.acknowledged_through) (sym (c.logged i a at))
       ∙ released-with h1 (g a) _ _ _ (settled-seen (g a).outcome) (not-not (is_alone h1 (g a)))
       (λ linked. c.confirmed i a at ∙ (confirmed-number h s.log homes last left.rest.log.protocol left.stream.on i a at (sym (c.alone i a at) ∙ linked)
-      ∙ ap (λ (w : Write). nat_le w.number s.log.confirmed) (sym (c.write a))))
+      ∙ ap (λ (w : Write). nat_le w.number s.log.acknowledged_through) (sym (c.write a))))
 
   -- what was released stays so
   released-stays : (i : ℕ) (a : Accepted) → slice_get h.writes i ≡ Some a → is_released h a ≡ true → is_released h1 (g a) ≡ true
@@ -70,7 +70,7 @@ module _ (s : PrimaryState) (h h1 : PrimaryHistory) (n : ℕ) (f : LogWrite → 
       released-by h1 (g a) (c.settled i a at parts.done) (freed-same h h1 a (g a) (c.confirmed i a at) (c.alone i a at) ∙ parts.freed)
 
   -- the writes are moved
-  pub change-moved : IsMoved h h1 (on n f) g s.log.confirmed
+  pub change-moved : IsMoved h h1 (on n f) g s.log.acknowledged_through
   change-moved = record {
     settings = c.settings;
     journal = c.journal;
@@ -85,11 +85,11 @@ module _ (s : PrimaryState) (h h1 : PrimaryHistory) (n : ℕ) (f : LogWrite → 
   -- what the log reports released
   pub released-is : (changing n f s.log).1.released ≡ map (λ a. released_of (logged_of h1 (g a)))
       (filter (λ a. not (is_released h a) && is_released h1 (g a)) h.writes)
-  released-is = moved-released s h h1 (on n f) g s.log.confirmed left homes last change-moved
+  released-is = moved-released s h h1 (on n f) g s.log.acknowledged_through left homes last change-moved
 
   -- what the log reports completed
   pub completed-is : (changing n f s.log).1.completed ≡ map (λ a. completed_of (logged_of h1 a)) (newly_completed h1)
-  completed-is = moved-completed s h h1 (on n f) g s.log.confirmed left homes last change-moved
+  completed-is = moved-completed s h h1 (on n f) g s.log.acknowledged_through left homes last change-moved
 
   pub established-then : is_established (primary_connection h1) ≡ is_established (primary_connection h)
   established-then = ap is_established c.last ∙ λ i. not (c.closed i) && c.begun i
@@ -104,12 +104,12 @@ module _ (s : PrimaryState) (h h1 : PrimaryHistory) (n : ℕ) (f : LogWrite → 
     backlog = left.rest.log.backlog ∙ ap (λ (x : Settings). x.backlog) (sym c.settings);
     accepted = left.rest.log.accepted ∙ (sym (length-map h.writes g) ∙ ap length (sym c.writes));
     connection = left.rest.log.connection ∙ sym (λ i. if established-then i then Some (index-then i) else None);
-    writes = left-then s h h1 (on n f) g s.log.confirmed left homes last change-moved;
-    latest = left.rest.log.latest ∙
-        ((λ i. map (λ block. sym (latest-then s h h1 (on n f) g s.log.confirmed left homes last change-moved block 0) i) (below h.settings.blocks))
+    writes = left-then s h h1 (on n f) g s.log.acknowledged_through left homes last change-moved;
+    last_writes = left.rest.log.last_writes ∙
+        ((λ i. map (λ block. sym (latest-then s h h1 (on n f) g s.log.acknowledged_through left homes last change-moved block 0) i) (below h.settings.blocks))
         ∙ ap (λ (x : Settings). map (λ block. latest_in h1.writes block 0) (below x.blocks)) (sym c.settings));
   }
 
   -- the active extents are left
   pub activity-then : LeavesActivity (leaving (changing n f s.log).1.released s.activity) h1.settings.slots (unreleased h1)
-  activity-then = moved-activity s h h1 (on n f) g s.log.confirmed left homes last change-moved
+  activity-then = moved-activity s h h1 (on n f) g s.log.acknowledged_through left homes last change-moved

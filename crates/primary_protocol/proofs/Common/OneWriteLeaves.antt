@@ -90,7 +90,7 @@ module _ (s : PrimaryState) (h h1 : PrimaryHistory) (n : ℕ) (f : LogWrite → 
   pub change-due : (entries : List JournalEntry) (held : List Holding) (marks : List Bool) (end : Option EndState) → h1.tuple ≡ h.tuple → h1.peer ≡ h.peer
       → h1.receipts ≡ h.receipts
       → entries ≡ map (entry_of h1) h1.writes → held ≡ held_of h1
-      → unmarking (changing n f s.log).1.released (changing n f s.log).1.latest marks ≡ marks_in h1.settings.blocks h1.marks
+      → unmarking (changing n f s.log).1.released (changing n f s.log).1.last_writes marks ≡ marks_in h1.settings.blocks h1.marks
       → EndLeft end (primary_connection h1)
       → IsDue (record s { log = (changing n f s.log).1; entries = entries; held = held; marks = marks; end = end }) (changing n f s.log).0 h1
   change-due entries held marks end tuple peer receipts entries_are held_is marks_are end_left = record {

@@ -61,19 +61,19 @@ not-alone h homes last i a at linked = go a.home refl
 module _ (h : PrimaryHistory) (l : LogState) (homes : HasHomes h) (last : IsLastOpen h) (protocol : l.protocol ≡ h.settings.protocol)
     (stream : is_established (primary_connection h) ≡ true → LeavesEpochs l (primary_connection h)) where
   -- its epoch is acknowledged where its number is confirmed
-  pub confirmed-number : (i : ℕ) (a : Accepted) → slice_get h.writes i ≡ Some a → is_alone h a ≡ false → is_confirmed h a ≡ nat_le a.write.number l.confirmed
+  pub confirmed-number : (i : ℕ) (a : Accepted) → slice_get h.writes i ≡ Some a → is_alone h a ≡ false → is_confirmed h a ≡ nat_le a.write.number l.acknowledged_through
   confirmed-number i a at linked =
       let here = not-alone h homes last i a at linked in
       let e = stream here.standing in
       let epoch : ℕ = epoch_of (primary_connection h).stream here.place in
-      let none : l.confirmed + 0 ≡ l.confirmed = omega arith in
+      let none : l.acknowledged_through + 0 ≡ l.acknowledged_through = omega arith in
       let same : e.acked + 0 ≡ e.acked = omega arith in
       confirmed-at h a (record { index = last_index h.connections; place = here.place }) (primary_connection h) here.home here.connected
       ∙ (e.acknowledged epoch (omega arith)
       ∙ (ap (nat_le epoch) (sym same) ∙ (sym (e.upto 0 here.place a.write (omega arith) here.there) ∙ ap (nat_le a.write.number) none)))
 
   -- the log releases what the history does
-  pub released-seen : (i : ℕ) (a : Accepted) → slice_get h.writes i ≡ Some a → log.is_released l.confirmed (logged_of h a) ≡ is_released h a
+  pub released-seen : (i : ℕ) (a : Accepted) → slice_get h.writes i ≡ Some a → log.is_released l.acknowledged_through (logged_of h a) ≡ is_released h a
   released-seen i a at = released-with h a _ _ _ (settled-seen a.outcome) (not-not (is_alone h a)) (confirmed-number i a at)
 
   -- a write that is confirmed is answered

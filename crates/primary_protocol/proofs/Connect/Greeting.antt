@@ -95,8 +95,8 @@ greeted-end e c frame l empty fresh none = record {
   sync = l.sync;
   loss = l.loss;
   hello = l.hello;
-  heard = heard-more c frame e.heard l.heard;
-  said = l.said;
+  hello_received = heard-more c frame e.hello_received l.hello_received;
+  hello_sent = l.hello_sent;
   pushed = l.pushed;
   unsent = l.unsent;
   resync = l.resync;
@@ -182,7 +182,7 @@ module _ (s : PrimaryState) (h : PrimaryHistory) (left : Leaves s h) (homes : Ha
             ∙ (ap (λ b. if b then Some (last_index h.connections) else None) down
             ∙ sym (ap (λ b. if b then Some (last_index (with_primary_connection (with_frame frame) h).connections) else None) down-too));
         writes = writes-same s h left (with_frame frame) h.tuple h.peer h.marks unseen;
-        latest = left.rest.log.latest;
+        last_writes = left.rest.log.last_writes;
       };
       entries = record { entries = left.rest.entries.entries; receipts = left.rest.entries.receipts };
       marks = left.rest.marks;

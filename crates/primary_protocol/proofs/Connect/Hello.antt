@@ -229,7 +229,7 @@ module _ (settings : Settings) (bound : TakesWrites settings) (s : PrimaryState)
 -- A frame is taken by an end whose stream has not begun.
 pub hello-agrees : (settings : Settings) (bound : TakesWrites settings) (s : PrimaryState) (h : PrimaryHistory) (e : EndState) → Leaves s h → Ordered settings h
     → resync_is_over h ≡ false → s.end ≡ Some e → LeavesEnd e (primary_connection h) → (primary_connection h).begun ≡ false → (packet : Packet)
-    → TakenAlike (Ok packet) s h (core.taking_hello e.heard packet (hearing e) s)
+    → TakenAlike (Ok packet) s h (core.taking_hello e.hello_received packet (hearing e) s)
     (model.taking_hello (length (primary_connection h).taken) packet (with_primary_connection (with_frame (Ok packet)) h))
 hello-agrees settings bound s h e left ordered rests is end fresh packet = by-count settings bound s h e left ordered end fresh
-    (length (primary_connection h).taken) e.heard refl end.heard packet
+    (length (primary_connection h).taken) e.hello_received refl end.hello_received packet

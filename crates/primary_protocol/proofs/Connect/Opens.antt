@@ -41,7 +41,7 @@ fresh-is settings disk tuple marks = record {
     tuple = refl;
     peer = refl;
     connections = refl;
-    log = record { protocol = refl; backlog = refl; accepted = refl; connection = refl; writes = refl; latest = zeros settings.blocks };
+    log = record { protocol = refl; backlog = refl; accepted = refl; connection = refl; writes = refl; last_writes = zeros settings.blocks };
     entries = record { entries = refl; receipts = λ i number at. absurd (cc) };
     marks = refl;
     held = refl;
@@ -136,7 +136,7 @@ module _ (sync loss : ℕ) (s : PrimaryState) (h : PrimaryHistory) (left : Leave
             ∙ sym (ap (map (logged_of (step.opened h sync loss))) (unreleased-more h new homes)
             ∙ map-at (logged_of (step.opened h sync loss)) (logged_of h) (unreleased h)
             (λ i a at. let there = pick-filtered (λ x. not (is_released h x)) h.writes i a at in seen-more h new homes there.0 a there.1));
-        latest = left.rest.log.latest;
+        last_writes = left.rest.log.last_writes;
       };
       entries = record { entries = left.rest.entries.entries; receipts = left.rest.entries.receipts };
       marks = left.rest.marks;
@@ -150,8 +150,8 @@ module _ (sync loss : ℕ) (s : PrimaryState) (h : PrimaryHistory) (left : Leave
         sync = refl;
         loss = refl;
         hello = left.rest.tuple;
-        heard = refl;
-        said = refl;
+        hello_received = refl;
+        hello_sent = refl;
         pushed = omega arith;
         unsent = refl;
         resync = refl;

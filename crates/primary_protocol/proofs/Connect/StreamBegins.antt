@@ -56,8 +56,8 @@ joined-end e c frame l none fresh other = record {
   sync = l.sync;
   loss = l.loss;
   hello = l.hello;
-  heard = heard-more c frame e.heard l.heard;
-  said = l.said;
+  hello_received = heard-more c frame e.hello_received l.hello_received;
+  hello_sent = l.hello_sent;
   pushed = l.pushed;
   unsent = l.unsent;
   resync = l.resync ∙ ((λ i. (not c.closed && fresh i) && in_resync (none i))
@@ -83,8 +83,8 @@ led-end e c frame l none other = record {
   sync = l.sync;
   loss = l.loss;
   hello = l.hello;
-  heard = heard-more c frame e.heard l.heard;
-  said = l.said;
+  hello_received = heard-more c frame e.hello_received l.hello_received;
+  hello_sent = l.hello_sent;
   pushed = let few : c.pushed - 3 ≤ 0 = unsaid in omega arith;
   unsent = ap (λ word. SyncUuidItem word ∷ []) l.sync
       ∙ sym (ap (λ n. drop n (SyncUuidItem c.sync ∷ [])) (let few = unsaid in let zero_is : c.pushed - 3 ≡ 0 = omega arith in zero_is));
@@ -101,7 +101,7 @@ led-end e c frame l none other = record {
 -- The log's epochs at the beginning.
 epochs-none : (l : LogState) (c : PrimaryConnection) (max_epoch : ℕ) → c.stream ≡ [] → ((epoch : ℕ) → barrier_acknowledged c epoch ≡ false)
     → l.epochs ≡ empty max_epoch
-    → l.confirmed ≡ l.accepted → LeavesEpochs l c
+    → l.acknowledged_through ≡ l.accepted → LeavesEpochs l c
 epochs-none l c max_epoch stream unsaid epochs confirmed = record {
   acked = 0;
   acknowledged = λ epoch some. unsaid epoch ∙ sym (lt-leb epoch 0 some);
@@ -114,7 +114,7 @@ epochs-none l c max_epoch stream unsaid epochs confirmed = record {
   resync = ap (λ (x : EpochsState). x.resync) epochs
       ∙ sym (ap (λ (items : List StreamItem). list_any (λ (entry : ℕ × StreamItem). is_resync entry.1) (items_of_epoch items (last_epoch items))) stream);
   upto = λ k place write within at. absurd (nowhere place write at);
-  newest = (λ i. l.confirmed + total (epochs i).sizes + (epochs i).size) ∙ (let same = confirmed in omega arith);
+  newest = (λ i. l.acknowledged_through + total (epochs i).sizes + (epochs i).size) ∙ (let same = confirmed in omega arith);
   first = λ some. absurd (let none : 0 < 0 = subst (λ (x : EpochsState). 0 < x.size) epochs some in omega arith);
   answered = λ place write at upto. absurd (nowhere place write at);
 }

@@ -172,15 +172,15 @@ module _ (settings : Settings) (bound : TakesWrites settings) (s : PrimaryState)
           absurd (both_ways (not (is_released h a)) (ap not now) parts.0)
 
   -- the marks then
-  marks-are : core.unmarking (changing number writes.failing s.log).1.released (changing number writes.failing s.log).1.latest
+  marks-are : core.unmarking (changing number writes.failing s.log).1.released (changing number writes.failing s.log).1.last_writes
       (bits.marking (is_between the.accepted.write.first (length the.accepted.write.contents)) s.marks)
       ≡ marks_in h.settings.blocks (marking the.accepted.write h.marks)
   marks-are =
-      ap (λ m. core.unmarking (changing number writes.failing s.log).1.released (changing number writes.failing s.log).1.latest
+      ap (λ m. core.unmarking (changing number writes.failing s.log).1.released (changing number writes.failing s.log).1.last_writes
       (bits.marking (is_between the.accepted.write.first (length the.accepted.write.contents)) m)) left.rest.marks
-      ∙ (ap (core.unmarking (changing number writes.failing s.log).1.released (changing number writes.failing s.log).1.latest)
+      ∙ (ap (core.unmarking (changing number writes.failing s.log).1.released (changing number writes.failing s.log).1.last_writes)
       (marking-in h.settings.blocks (is_between the.accepted.write.first (length the.accepted.write.contents)) h.marks)
-      ∙ unmarking-none (changing number writes.failing s.log).1.released (changing number writes.failing s.log).1.latest h.settings.blocks
+      ∙ unmarking-none (changing number writes.failing s.log).1.released (changing number writes.failing s.log).1.last_writes h.settings.blocks
       (marking the.accepted.write h.marks) clears-none)
 
   -- the entries then

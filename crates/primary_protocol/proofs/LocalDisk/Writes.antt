@@ -188,7 +188,7 @@ module _ (settings : Settings) (bound : TakesWrites settings) (s : PrimaryState)
       left.rest.end
     where
       bits_unmarking : List Bool → List Bool
-      bits_unmarking = core.unmarking (changing number writes.storing s.log).1.released (changing number writes.storing s.log).1.latest
+      bits_unmarking = core.unmarking (changing number writes.storing s.log).1.released (changing number writes.storing s.log).1.last_writes
 
       waiting-unfailed : (o : LocalOutcome) → is_waiting o ≡ true → is_failed o ≡ false
       waiting-unfailed Waiting waits = refl
@@ -198,17 +198,17 @@ module _ (settings : Settings) (bound : TakesWrites settings) (s : PrimaryState)
       unfailed : (i : ℕ) (a : Accepted) → slice_get h.writes i ≡ Some a → is_failed (set_outcome number OnDisk a).outcome ≡ is_failed a.outcome
       unfailed i a at = outcomes is_failed refl i a at (waiting-unfailed a.outcome)
 
-      marks : core.unmarking (changing number writes.storing s.log).1.released (changing number writes.storing s.log).1.latest
+      marks : core.unmarking (changing number writes.storing s.log).1.released (changing number writes.storing s.log).1.last_writes
           (marks_in h.settings.blocks h.marks) ≡ marks_in h.settings.blocks (releasing h (with_outcome number OnDisk h)).marks
       marks =
           unmarking-is settings h (with_outcome number OnDisk h) (changing number writes.storing s.log).1.released
-          (changing number writes.storing s.log).1.latest ordered after.1.1.0.0 after.1.0 (done-releases h number ordered.1.1.0.0)
+          (changing number writes.storing s.log).1.last_writes ordered after.1.1.0.0 after.1.0 (done-releases h number ordered.1.1.0.0)
           (reports-of h (with_outcome number OnDisk h) (set_outcome number OnDisk) (changing number writes.storing s.log).1.released
           (released-is s h (releasing h (with_outcome number OnDisk h)) number writes.storing (set_outcome number OnDisk)
           (λ c. c) left ordered.1.1.0.0 ordered.1.0 done-change) refl (outcome-write number OnDisk))
           h.settings.blocks h.marks
           (log-then s h (releasing h (with_outcome number OnDisk h)) number writes.storing (set_outcome number OnDisk) (λ c. c) left ordered.1.1.0.0 ordered.1.0
-          done-change).latest
+          done-change).last_writes
 
 -- the local disk does a write
 pub writes-agree : WritesAgree

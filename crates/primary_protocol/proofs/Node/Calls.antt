@@ -122,7 +122,7 @@ submit-number n first contents out_of_memory done core had steps = ap told to
     h = had.history
 
     said : reply.Ok done ≡ (step.submit first contents out_of_memory h).0
-    said = steps.said h had.has
+    said = steps.replies h had.has
 
     to : reply.Ok done ≡ (step.succeeding (what.Write (suc (length h.writes))) (step.submitted h first contents)).0
     to = said ∙ ap (λ (p : Reply × PrimaryHistory). p.0) (submits-to first contents out_of_memory h done said)

@@ -89,5 +89,5 @@ pub takes-told : (n : NodeState) (frame : Received) (result : Result Done Refusa
 takes-told n frame result core some is had other none =
     let h = had.history in
     told-step frame h other (ap (replied reply.Ok) (sym none)
-    ∙ ((node-takes n frame result core some is).said h had.has
+    ∙ ((node-takes n frame result core some is).replies h had.has
     ∙ ap (λ (p : Reply × PrimaryHistory). p.0) (ack-in-takes frame h (unshut-end n frame result core some is h had.has))))

@@ -54,7 +54,7 @@ module _ (n : NodeState) (number : ℕ) (got : Result JournalEntry Refusal) (cor
       → told ≡ Ok (receipt_with number entry kind home))
       → IsStep (take_receipt number) n told (record n { core = core })
   node-receipt told refused given = record {
-    said = λ h has. go got (step.take_completed number h).0 refl (answer h has);
+    replies = λ h has. go got (step.take_completed number h).0 refl (answer h has);
     after = λ h has. node-receipted.after h has;
   }
     where

@@ -60,7 +60,7 @@ pub record NodeAgrees (said : Reply) (next : NodeState) (step : Reply × Primary
 pub node-steps : (event : PrimaryEvent) (n : NodeState) (reply : Reply) (next : NodeState)
     → ((h : PrimaryHistory) → NodeHas n h → NodeAgrees reply next (primary_step event h)) → NodeSteps event n reply next
 node-steps event n reply next agrees = record {
-  said = λ h has. (agrees h has).reply;
+  replies = λ h has. (agrees h has).reply;
   after = λ h has. record { leaves = (agrees h has).leaves; reached = reached-step event h has.reached };
 }
 

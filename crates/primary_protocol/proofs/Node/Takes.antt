@@ -271,14 +271,14 @@ IsShort (RsDataReplyFrame block contents at) = ⊥
 IsShort packet = Unit {0}
 
 accepted-short : (packet : Packet) (e : EndState) (s : PrimaryState) (done : Done × PrimaryState) → taking (Ok packet) e s ≡ Ok done → IsShort packet
-accepted-short (DataFrame write at) e s done is = go (is_established s) e.heard is
+accepted-short (DataFrame write at) e s done is = go (is_established s) e.hello_received is
   where
     go : (b : Bool) (n : ℕ) → (if b then taking_ack (DataFrame write at) e s else taking_hello n (DataFrame write at) (hearing e) s) ≡ Ok done → ⊥
     go true n is = cc
     go false zero is = cc
     go false (suc zero) is = cc
     go false (suc (suc n)) is = cc
-accepted-short (RsDataReplyFrame block contents at) e s done is = go (is_established s) e.heard is
+accepted-short (RsDataReplyFrame block contents at) e s done is = go (is_established s) e.hello_received is
   where
     go : (b : Bool) (n : ℕ) → (if b then taking_ack (RsDataReplyFrame block contents at) e s
         else taking_hello n (RsDataReplyFrame block contents at) (hearing e) s) ≡ Ok done → ⊥

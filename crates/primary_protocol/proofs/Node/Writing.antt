@@ -58,7 +58,7 @@ kept_by number kept h unfinished count = elim (first_refusal ((not unfinished, U
 stays-step : (step : PrimaryHistory → Reply × PrimaryHistory) (n : NodeState) (e : Refusal)
     → ((h : PrimaryHistory) → NodeHas n h → step h ≡ (reply.Refused e, h)) → IsStep step n (reply.Refused e) n
 stays-step step n e is = record {
-  said = λ h has. sym (ap (λ (p : Reply × PrimaryHistory). p.0) (is h has));
+  replies = λ h has. sym (ap (λ (p : Reply × PrimaryHistory). p.0) (is h has));
   after = λ h has. subst (NodeHas n) (sym (ap (λ (p : Reply × PrimaryHistory). p.1) (is h has))) has;
 }
 
@@ -87,7 +87,7 @@ module _ (number : ℕ) (n : NodeState) (w : LogWrite) (found : write_at number 
   pub fault-kept : (kept : ℕ) (said : Reply) (next : NodeState) → kept ≤ w.count → NodeSteps (FailsLocally number (below kept)) n said next
       → IsStep (local_fault_kept number kept) n said next
   fault-kept kept said next few steps = record {
-    said = λ h has. steps.said h has ∙ sym (ap (λ (p : Reply × PrimaryHistory). p.0) (same h has));
+    replies = λ h has. steps.replies h has ∙ sym (ap (λ (p : Reply × PrimaryHistory). p.0) (same h has));
     after = λ h has. subst (NodeHas next) (sym (ap (λ (p : Reply × PrimaryHistory). p.1) (same h has))) (steps.after h has);
   }
     where

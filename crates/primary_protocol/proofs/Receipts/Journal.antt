@@ -1,4 +1,4 @@
--- A receipt is told as the journal has it.
+-- A receipt is given as the journal has it.
 use Rattle.std.proofs.Common.{ℕ, zero, suc, ◌≡◌, ◌+◌, inl, inr, Bool, true, false, not, ◌&&◌, ◌||◌, List, [], ◌∷◌, ◌++◌, length, Option, Some, None, slice_get}
 use Rattle.std.proofs.Common.{Result, Err, refl, sym, ◌∙◌, ap, subst, arith, ◌==◌}
 use Rattle.std.specs.Prelude.{find, is_some, is_none, option_map, if◌then◌else◌}
@@ -17,7 +17,7 @@ use Rattle.laws.proofs.Primary.Journal.{JournalIsAccepted}
 use Rattle.model.specs.Contents.{Write}
 use Rattle.model.specs.Primary as history
 use Rattle.primary_protocol.specs.Core.{Fate, Failed, JournalEntry, PrimaryState, with_entry}
-use Rattle.primary_protocol.specs.Transitions.{entry_at, told, is_given, take_completed}
+use Rattle.primary_protocol.specs.Transitions.{entry_at, completed_entry, is_given, take_completed}
 use Rattle.primary_protocol.specs.Transitions as core
 use Rattle.primary_protocol.proofs.Common.Numbers.{AreNumberedFrom, find-number, find-none, any-number, get-map, with-entry-map, any-some}
 use Rattle.primary_protocol.specs.Leaves.{fate_in, fate_of, entry_of, LeavesEntries}
@@ -120,7 +120,7 @@ module _ (h : PrimaryHistory) (known : IsNumbered h) (n : ℕ) (a : Accepted) (a
 
   -- what the transition is then
   abbrev core-by : Option JournalEntry → Result JournalEntry Refusal × PrimaryState
-  core-by v = (told v, if is_given (told v) then core.receipted (suc n) s else s)
+  core-by v = (completed_entry v, if is_given (completed_entry v) then core.receipted (suc n) s else s)
 
   -- both alike
   abbrev Alike : Result JournalEntry Refusal × PrimaryState → Result Completion Refusal × PrimaryHistory → Type 0
@@ -174,8 +174,8 @@ tells-none h number s left none nothing =
     let step : model.take_completed number h ≡ (Err UnknownJob, h) =
     sym (receipt-by number h true _ _ (sym (ap (λ (v : Option Accepted). is_none v || list_any (λ taken. taken == number) h.receipts) none)) refl refl) in
     let got : take_completed number s ≡ (Err UnknownJob, s) = ap (λ (v : Option JournalEntry). (
-      told v,
-      if is_given (told v) then core.receipted number s
+      completed_entry v,
+      if is_given (completed_entry v) then core.receipted number s
           else s,
     ))
     nothing in
@@ -186,7 +186,7 @@ tells-none h number s left none nothing =
           (subst (LeavesEntries s) (sym (ap (λ x. x.1) step)) left);
     }
 
--- a receipt is told as the journal has it
+-- a receipt is given as the journal has it
 pub tells : (h : PrimaryHistory) → IsNumbered h → (number : ℕ) (s : PrimaryState) → LeavesEntries s h → TellsEntries number s h
 tells h known zero s left = tells-none h 0 s left (find-none 0 1 h.writes (λ i accepted there. known.numbered i accepted there ∙ omega arith) (omega arith))
     refl

@@ -7,7 +7,7 @@ use Rattle.laws.proofs.Rules.Receipts.{receipt-has}
 use Rattle.laws.proofs.Primary.Journal.{journal-run, JournalIsAccepted}
 use Rattle.primary_protocol.specs.Core.{JournalEntry, PrimaryState}
 use Rattle.primary_protocol.specs.Transitions as transition
-use Rattle.primary_protocol.specs.Transitions.{told, entry_at, is_given}
+use Rattle.primary_protocol.specs.Transitions.{completed_entry, entry_at, is_given}
 use Rattle.primary_protocol.specs.Leaves.{LeavesEntries, Leaves}
 use Rattle.primary_protocol.specs.Steps.{ReceiptsAgree}
 use Rattle.primary_protocol.proofs.Common.Reached.{reached-ordered}
@@ -30,7 +30,7 @@ leaves-but s h entries receipts left told_so = record {
       accepted = left.rest.log.accepted;
       connection = left.rest.log.connection;
       writes = left.rest.log.writes;
-      latest = left.rest.log.latest;
+      last_writes = left.rest.log.last_writes;
     };
     entries = told_so;
     marks = left.rest.marks;
@@ -63,7 +63,7 @@ receipts-agree number s h reached left = record {
         left.rest.entries
 
     given : Bool
-    given = is_given (told (entry_at number s))
+    given = is_given (completed_entry (entry_at number s))
 
     kept : (b : Bool) → LeavesEntries (if b then transition.receipted number s else s) h → Leaves (if b then transition.receipted number s else s) h
     kept true e = leaves-but s h (transition.receipted number s).entries h.receipts left e

@@ -121,8 +121,8 @@ carried e c block contents place epoch l none on place_is epoch_is = record {
   sync = l.sync;
   loss = l.loss;
   hello = l.hello;
-  heard = l.heard;
-  said = l.said;
+  hello_received = l.hello_received;
+  hello_sent = l.hello_sent;
   pushed = let more = length-append c.stream (ResyncItem block contents ∷ []) in let within = l.pushed in omega arith;
   unsent = ap (λ (u : List StreamItem). u ++ ResyncItem block contents ∷ []) l.unsent
       ∙ sym (drop-append-le (c.pushed - 3) c.stream (ResyncItem block contents ∷ []) l.pushed);
@@ -233,7 +233,7 @@ module _ (settings : Settings) (bound : TakesWrites settings) (s : PrimaryState)
       ((in-order-kept settings bound).resyncs h block runs (ap (λ (l : List (ℕ × StreamItem)). nat_lt 0 (length l)) none) free ordered).1.1.0.0
       (goes-on h block (unwrap_or (local_map h block) []) on ordered.1.1.0.1.on
       ((end.unasked (length (primary_connection h).stream) (ResyncItem block (unwrap_or (local_map h block) [])) (omega arith)).2))
-      end.is_open s.tuple left.rest.tuple s.peer left.rest.peer s.log.connection s.log.confirmed (with_resync s.log.epochs)
+      end.is_open s.tuple left.rest.tuple s.peer left.rest.peer s.log.connection s.log.acknowledged_through (with_resync s.log.epochs)
       (left.rest.log.connection ∙ sym (λ i. if is_established (out i) then Some (index i) else None)) stream s.marks left.rest.marks
       (holding_too (holding 0 block 1) s.held) held
       (carrying block (unwrap_or (local_map h block) []) s.log.epochs.places (suc s.log.epochs.ended) e)

@@ -83,24 +83,24 @@ module _ (s : PrimaryState) (h : PrimaryHistory) (e : EndState) (left : Leaves s
       let all = length-drop ((primary_connection h).pushed - 3) (primary_connection h).stream end.pushed in
       omega arith
 
-  pub said-early : (primary_connection h).pushed < 3 → nat_lt e.said 3 ≡ true
-  said-early early = ap (λ n. nat_lt n 3) end.said ∙ lt-ltb (min (primary_connection h).pushed 3) 3 (omega arith)
+  pub said-early : (primary_connection h).pushed < 3 → nat_lt e.hello_sent 3 ≡ true
+  said-early early = ap (λ n. nat_lt n 3) end.hello_sent ∙ lt-ltb (min (primary_connection h).pushed 3) 3 (omega arith)
 
-  pub said-late : 3 ≤ (primary_connection h).pushed → nat_lt e.said 3 ≡ false
-  said-late late = ap (λ n. nat_lt n 3) end.said ∙ le-ltb (min (primary_connection h).pushed 3) 3 (omega arith)
+  pub said-late : 3 ≤ (primary_connection h).pushed → nat_lt e.hello_sent 3 ≡ false
+  said-late late = ap (λ n. nat_lt n 3) end.hello_sent ∙ le-ltb (min (primary_connection h).pushed 3) 3 (omega arith)
 
   pub owed-late : 3 ≤ (primary_connection h).pushed
       → owed e s ≡ option_map (frame_of (items_sent (primary_connection h))) (slice_get (primary_connection h).stream (items_sent (primary_connection h)))
   owed-late late =
-      ap (λ b. if b then slice_get (hello_of s.settings e.hello) e.said else option_map (frame_of (next_place e s)) (slice_get e.unsent 0)) (said-late late)
+      ap (λ b. if b then slice_get (hello_of s.settings e.hello) e.hello_sent else option_map (frame_of (next_place e s)) (slice_get e.unsent 0)) (said-late late)
       ∙ λ i. option_map (frame_of (place-is i)) ((ap (λ (l : List StreamItem). slice_get l 0) end.unsent
       ∙ get-drop ((primary_connection h).pushed - 3) (primary_connection h).stream) i)
 
   pub owed-is : owed e s ≡ slice_get (frames_due h.settings (primary_connection h)) (primary_connection h).pushed
   owed-is = elim (cases_lt (primary_connection h).pushed 3) [
     | inl early ↦
-        ap (λ b. if b then slice_get (hello_of s.settings e.hello) e.said else option_map (frame_of (next_place e s)) (slice_get e.unsent 0)) (said-early early)
-        ∙ ((λ i. slice_get (hello_of (left.rest.settings i) (end.hello i)) ((end.said ∙ same early) i))
+        ap (λ b. if b then slice_get (hello_of s.settings e.hello) e.hello_sent else option_map (frame_of (next_place e s)) (slice_get e.unsent 0)) (said-early early)
+        ∙ ((λ i. slice_get (hello_of (left.rest.settings i) (end.hello i)) ((end.hello_sent ∙ same early) i))
         ∙ sym (due-hello h.settings (primary_connection h) (primary_connection h).pushed early))
     | inr late ↦
         let index : (primary_connection h).pushed ≡ 3 + items_sent (primary_connection h) = omega arith in
@@ -164,7 +164,7 @@ module _ (s : PrimaryState) (h : PrimaryHistory) (e f : EndState) (left : Leaves
             ∙ sym (ap (map (logged_of (with_primary_connection pushing h))) unreleased-same
             ∙ map-at (logged_of (with_primary_connection pushing h)) (logged_of h) (unreleased h)
             (λ i a at. let there = pick-filtered (λ x. not (is_released h x)) h.writes i a at in seen there.0 a there.1));
-        latest = left.rest.log.latest;
+        last_writes = left.rest.log.last_writes;
       };
       entries = record { entries = left.rest.entries.entries; receipts = left.rest.entries.receipts };
       marks = left.rest.marks;

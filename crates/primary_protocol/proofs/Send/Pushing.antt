@@ -25,15 +25,15 @@ way-pushed None c is = is
 way-pushed (Some way) c is = is
 
 -- a frame of the hello
-pub hello-pushed : (e : EndState) (c : PrimaryConnection) → c.pushed < 3 → LeavesEnd e c → LeavesEnd (record e { said = suc e.said }) (pushing c)
+pub hello-pushed : (e : EndState) (c : PrimaryConnection) → c.pushed < 3 → LeavesEnd e c → LeavesEnd (record e { hello_sent = suc e.hello_sent }) (pushing c)
 hello-pushed e c early l = record {
   is_open = l.is_open;
   plain = l.plain;
   sync = l.sync;
   loss = l.loss;
   hello = l.hello;
-  heard = l.heard;
-  said = let was = l.said in omega arith;
+  hello_received = l.hello_received;
+  hello_sent = let was = l.hello_sent in omega arith;
   pushed = omega arith;
   unsent = l.unsent ∙ ap (λ n. drop n c.stream) (omega arith);
   resync = l.resync;
@@ -51,8 +51,8 @@ item-pushed e c late within l = record {
   sync = l.sync;
   loss = l.loss;
   hello = l.hello;
-  heard = l.heard;
-  said = let was = l.said in omega arith;
+  hello_received = l.hello_received;
+  hello_sent = let was = l.hello_sent in omega arith;
   pushed = omega arith;
   unsent = let next_is : suc (c.pushed - 3) ≡ suc c.pushed - 3 = omega arith in ap (drop 1) l.unsent
       ∙ (drop-more (c.pushed - 3) c.stream ∙ ap (λ n. drop n c.stream) next_is);

@@ -224,8 +224,8 @@ module _ (settings : Settings) (bound : TakesWrites settings) (s : PrimaryState)
       ordered.1.1.0.1.on after.1.1.0.0 sent-change (λ i a at. refl) refl)
       (held-stays s h (with_primary_connection pushing h) write.number (writes.sending (answers_sent s.log.protocol)) (λ a. a) pushing left homes ordered.1.0
       ordered.1.1.0.1.on after.1.1.0.0 sent-change (λ i a at. refl))
-      (ap (core.unmarking (log.sent write.number s.log).1.released (log.sent write.number s.log).1.latest) left.rest.marks
-      ∙ unmarking-none (log.sent write.number s.log).1.released (log.sent write.number s.log).1.latest h.settings.blocks h.marks clears-none)
+      (ap (core.unmarking (log.sent write.number s.log).1.released (log.sent write.number s.log).1.last_writes) left.rest.marks
+      ∙ unmarking-none (log.sent write.number s.log).1.released (log.sent write.number s.log).1.last_writes h.settings.blocks h.marks clears-none)
       (subst (LeavesEnd (record e { unsent = drop 1 e.unsent })) (sym out-write)
       (item-pushed e (primary_connection h) late (slice_get_within (primary_connection h).stream (items_sent (primary_connection h)) (WriteItem write) there)
       end))
@@ -268,13 +268,13 @@ module _ (settings : Settings) (bound : TakesWrites settings) (s : PrimaryState)
   by-hello name early =
       subst (λ b. Agrees reply.Ok (Ok (sent_by b).0, (sent_by b).1) (step.succeeding name (with_primary_connection pushing h)))
       (sym (said-early s h e left ordered.1.1.0.0 end early))
-      (pushed-agrees s h e (record e { said = suc e.said }) left ordered.1.1.0.0 end is
+      (pushed-agrees s h e (record e { hello_sent = suc e.hello_sent }) left ordered.1.1.0.0 end is
       (λ i a at. unseen h ordered.1.1.0.0 i a at (λ place item. ap (nat_lt place) same)) (hello-pushed e (primary_connection h) early end) ordered.1.1.0.1.on
       rests
       name)
     where
       sent_by : Bool → Done × PrimaryState
-      sent_by b = if b then (done_with name, record s { end = Some (record e { said = suc e.said }) })
+      sent_by b = if b then (done_with name, record s { end = Some (record e { hello_sent = suc e.hello_sent }) })
           else pushed_item name (slice_get e.unsent 0) (record s { end = Some (record e { unsent = drop 1 e.unsent }) })
 
       same : items_sent (pushing (primary_connection h)) ≡ items_sent (primary_connection h)
@@ -290,7 +290,7 @@ module _ (settings : Settings) (bound : TakesWrites settings) (s : PrimaryState)
       (cases item there))
     where
       sent_by : Bool → Option StreamItem → Done × PrimaryState
-      sent_by b v = if b then (done_with name, record s { end = Some (record e { said = suc e.said }) })
+      sent_by b v = if b then (done_with name, record s { end = Some (record e { hello_sent = suc e.hello_sent }) })
           else pushed_item name v (record s { end = Some (record e { unsent = drop 1 e.unsent }) })
 
       first : slice_get e.unsent 0 ≡ Some item

@@ -13,7 +13,7 @@ use Rattle.model.specs.Primary.{Accepted, PrimaryHistory, primary_connection, la
 use Rattle.model.specs.Primary.{unreleased, under_way}
 use Rattle.model.specs.PrimarySteps.{with_completions, appending, submission, submitted}
 use Rattle.transferlog.specs.Log as log
-use Rattle.transferlog.specs.Log.{LogState, home_in, accepted_write, with_latest}
+use Rattle.transferlog.specs.Log.{LogState, home_in, accepted_write, with_last_write}
 use Rattle.transferlog.specs.Writes.{completed_of}
 use Rattle.transferlog.specs.declared.local.Local.TheVariants as local
 use Rattle.overlap.specs.Holdings.{Holding, holding, holding_too}
@@ -112,8 +112,8 @@ module _ (settings : Settings) (bound : TakesWrites settings) (s : PrimaryState)
     connection = left.rest.log.connection;
     writes = (λ i. left.rest.log.writes i ++ new-logged i ∷ [])
         ∙ (sym (map-append (logged_of later) (unreleased h) (new ∷ [])) ∙ ap (map (logged_of later)) (sym unreleased-is));
-    latest =
-        ap (with_latest (s.log.accepted + 1) first (length (whole_blocks bytes))) left.rest.log.latest
+    last_writes =
+        ap (with_last_write (s.log.accepted + 1) first (length (whole_blocks bytes))) left.rest.log.last_writes
         ∙ latest-more h.settings.blocks h.writes new (s.log.accepted + 1) first (length (whole_blocks bytes)) (let all = left.rest.log.accepted in omega arith)
         refl refl range.inside;
   }
@@ -177,9 +177,9 @@ module _ (settings : Settings) (bound : TakesWrites settings) (s : PrimaryState)
     receipts = λ i number at. let few = left.rest.entries.receipts i number at in let size = length-append h.writes (new ∷ []) in omega arith;
     held = held-left;
     marks =
-        ap (λ m. unmarking [] l1.latest (bits.marking (is_between first (length (whole_blocks bytes))) m)) left.rest.marks
-        ∙ (ap (unmarking [] l1.latest) (marking-in h.settings.blocks (is_between first (length (whole_blocks bytes))) h.marks)
-        ∙ unmarking-none [] l1.latest h.settings.blocks (marking write h.marks) (λ n r at. absurd (cc)));
+        ap (λ m. unmarking [] l1.last_writes (bits.marking (is_between first (length (whole_blocks bytes))) m)) left.rest.marks
+        ∙ (ap (unmarking [] l1.last_writes) (marking-in h.settings.blocks (is_between first (length (whole_blocks bytes))) h.marks)
+        ∙ unmarking-none [] l1.last_writes h.settings.blocks (marking write h.marks) (λ n r at. absurd (cc)));
     activity = subst (LeavesActivity (begun (extent_of first) s.activity) h.settings.slots) (sym unreleased-is)
         (begins-activity s.activity h.settings.slots (unreleased h) new left.rest.activity begins);
     end = left.rest.end;

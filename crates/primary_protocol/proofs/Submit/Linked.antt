@@ -18,7 +18,7 @@ use Rattle.model.specs.Primary.{is_alone, is_failed, is_completed, is_open, open
 use Rattle.model.specs.PrimarySteps.{completion_of, newly_completed, with_completions, epoch_is_over, appending, submission, submitted}
 use Rattle.epochs.specs.Epochs.{EpochsState, with_write, with_resync, write_placed, ended_if, placed}
 use Rattle.transferlog.specs.Log as log
-use Rattle.transferlog.specs.Log.{LogState, home_in, accepted_write, with_latest}
+use Rattle.transferlog.specs.Log.{LogState, home_in, accepted_write, with_last_write}
 use Rattle.transferlog.specs.Writes.{LogWrite, completed_of}
 use Rattle.overlap.specs.Holdings.{Holding, holding, holding_too}
 use Rattle.activitylog.specs.Activity.{can_begin, begun}
@@ -216,8 +216,8 @@ module _ (settings : Settings) (bound : TakesWrites settings) (s : PrimaryState)
         (λ i. left.rest.log.writes i ++ new-logged an-end.0 an-end.2 i ∷ [])
         ∙ (ap (λ (l : List LogWrite). l ++ logged_of later new ∷ []) (map-at (logged_of h) (logged_of later) (unreleased h) (λ i a at. sym (seen a)))
         ∙ (sym (map-append (logged_of later) (unreleased h) (new ∷ [])) ∙ ap (map (logged_of later)) (sym unreleased-is)));
-    latest =
-        ap (with_latest (s.log.accepted + 1) first (length (whole_blocks bytes))) left.rest.log.latest
+    last_writes =
+        ap (with_last_write (s.log.accepted + 1) first (length (whole_blocks bytes))) left.rest.log.last_writes
         ∙ latest-more h.settings.blocks h.writes new (s.log.accepted + 1) first (length (whole_blocks bytes)) (let all = left.rest.log.accepted in omega arith)
         refl refl range.inside;
   }
@@ -357,7 +357,7 @@ module _ (settings : Settings) (bound : TakesWrites settings) (s : PrimaryState)
   stream-left : LeavesStream l1 (parted (with_completions later))
   stream-left = go (epoch_is_over (with_completions later)) refl (ap (λ x. x.1) write-placed-is)
     where
-      here : (i : ℕ) (a : Accepted) → slice_get later.writes i ≡ Some a → s.log.confirmed < a.write.number
+      here : (i : ℕ) (a : Accepted) → slice_get later.writes i ≡ Some a → s.log.acknowledged_through < a.write.number
           → (place : ℕ) × (a.home ≡ Some (record { index = last_index h.connections; place = place }))
       here i a at behind = elim (get-more h.writes new i a at) [
         | inl old ↦ left.stream.here on i a old behind
@@ -444,7 +444,7 @@ module _ (settings : Settings) (bound : TakesWrites settings) (s : PrimaryState)
     })) left fresh refl refl refl;
     receipts = λ i number at. let few = left.rest.entries.receipts i number at in let size = length-append h.writes (new ∷ []) in omega arith;
     held = held-left;
-    marks = ap (unmarking [] l1.latest) left.rest.marks ∙ unmarking-none [] l1.latest h.settings.blocks h.marks (λ n r at. absurd (cc));
+    marks = ap (unmarking [] l1.last_writes) left.rest.marks ∙ unmarking-none [] l1.last_writes h.settings.blocks h.marks (λ n r at. absurd (cc));
     activity = subst (LeavesActivity (begun (extent_of first) s.activity) h.settings.slots) (sym unreleased-is)
         (begins-activity s.activity h.settings.slots (unreleased h) new left.rest.activity begins);
     end = ends an-end.0 an-end.1 an-end.2;

@@ -12,7 +12,7 @@ use Rattle.blocks.specs.Ranges.{below, is_between}
 use Rattle.model.specs.Contents.{covers}
 use Rattle.model.specs.Primary.{Accepted}
 use Rattle.overlap.specs.Holdings.{Holding, holding_too}
-use Rattle.transferlog.specs.Log.{with_latest}
+use Rattle.transferlog.specs.Log.{with_last_write}
 use Rattle.primary_protocol.specs.Transitions.{whole_blocks}
 use Rattle.primary_protocol.specs.Leaves.{latest_in}
 use Rattle.primary_protocol.proofs.Common.Filters.{map-at}
@@ -93,7 +93,7 @@ latest-end (a ∷ ws) new block number = latest-end ws new block (if covers a.wr
 -- the log's record of the last writes, with one more
 pub latest-more : (blocks : ℕ) (ws : List Accepted) (new : Accepted) (number first count : ℕ) → number ≡ new.write.number → first ≡ new.write.first
     → count ≡ length new.write.contents → first + count ≤ blocks
-    → with_latest number first count (map (λ block. latest_in ws block 0) (below blocks)) ≡ map (λ block. latest_in (ws ++ new ∷ []) block 0) (below blocks)
+    → with_last_write number first count (map (λ block. latest_in ws block 0) (below blocks)) ≡ map (λ block. latest_in (ws ++ new ∷ []) block 0) (below blocks)
 latest-more blocks ws new number first count number_is first_is count_is inside =
     let size = length-below blocks in
     latest-map (λ block. latest_in ws block 0) number 0 first count (below blocks) (omega arith) (λ i b at.

@@ -138,7 +138,7 @@ module _ (n : NodeState) (place : ℕ) (item : StreamItem) (starts : start place
   pub node-applies : (disk : List (List ℕ)) → ((block : ℕ) → LaidAt item (below (length (contents_of item))) n.disk disk block)
       → NodeSteps (Applies place) n (reply.Ok (done_with what.Nothing)) (record n { core = applied place n.core; disk = disk })
   node-applies disk laid = record {
-    said = λ h has. (done-agrees h has.leaves.core).reply;
+    replies = λ h has. (done-agrees h has.leaves.core).reply;
     after = λ h has.
         let c = secondary_connection h in
         let may = may-apply n place item h has starts in
@@ -186,7 +186,7 @@ module _ (n : NodeState) (place : ℕ) (item : StreamItem) (starts : start place
   pub node-fails : (offsets : List ℕ) (disk : List (List ℕ)) → ((block : ℕ) → LaidAt item (within (length (contents_of item)) offsets) n.disk disk block)
       → NodeSteps (FailsToApply place offsets) n (reply.Ok (done_with what.Nothing)) (record n { core = core.failing place n.core; disk = disk })
   node-fails offsets disk laid = record {
-    said = λ h has. (failed-agrees offsets h has.leaves.core).reply;
+    replies = λ h has. (failed-agrees offsets h has.leaves.core).reply;
     after = λ h has.
         let may = may-apply n place item h has starts in
         let to = fails-to place offsets h (done_with what.Nothing) (failed-agrees offsets h has.leaves.core).reply in

@@ -35,7 +35,7 @@ by-tests place kept tests item h =
 refuses : (step : SecondaryHistory → Reply × SecondaryHistory) (n : NodeState) (e : Refusal)
     → ((h : SecondaryHistory) → NodeHas n h → step h ≡ (reply.Refused e, h)) → IsStep step n (reply.Refused e) n
 refuses step n e is = record {
-  said = λ h has. sym (ap (λ (p : Reply × SecondaryHistory). p.0) (is h has));
+  replies = λ h has. sym (ap (λ (p : Reply × SecondaryHistory). p.0) (is h has));
   after = λ h has. subst (NodeHas n) (sym (ap (λ (p : Reply × SecondaryHistory). p.1) (is h has))) has;
 }
 
@@ -97,7 +97,7 @@ module _ (n : NodeState) (place kept : ℕ) (item : StreamItem) (starts : start 
       let steps = node-fails n place item starts (below kept) disk laid in
       let is : (h : SecondaryHistory) → NodeHas n h → peer_fault_kept place kept h ≡ peer_fault place (below kept) h = λ h has. started h has
       ∙ ap (λ b. left b h) (le-ltb (length (contents_of item)) kept few) in record {
-        said = λ h has. steps.said h has ∙ sym (ap (λ (p : Reply × SecondaryHistory). p.0) (is h has));
+        replies = λ h has. steps.replies h has ∙ sym (ap (λ (p : Reply × SecondaryHistory). p.0) (is h has));
         after = λ h has. subst (NodeHas (record n { core = failing place n.core; disk = disk })) (sym (ap (λ (p : Reply × SecondaryHistory). p.1) (is h has)))
             (steps.after h has);
       }

@@ -12,9 +12,9 @@ three : (n : ℕ) → nat_le 3 (min n 3) ≡ nat_le 3 n
 three n = grind (arith, nat_tests)
 
 pub hello-done : (v : Option EndState) (c : SecondaryConnection) → EndLeft v c
-    → elim v as (λ _. Bool) [ None ↦ false | Some e ↦ nat_le 3 e.heard && nat_le 3 e.said ] ≡ (not c.closed && hello_is_done c)
+    → elim v as (λ _. Bool) [ None ↦ false | Some e ↦ nat_le 3 e.hello_received && nat_le 3 e.hello_sent ] ≡ (not c.closed && hello_is_done c)
 hello-done None c left = ap (λ b. not b && hello_is_done c) (sym left)
 hello-done (Some e) c left =
-    ap (λ n. nat_le 3 n && nat_le 3 e.said) left.heard ∙ ap (λ n. nat_le 3 (min (length c.taken) 3) && nat_le 3 n) left.said
+    ap (λ n. nat_le 3 n && nat_le 3 e.hello_sent) left.hello_received ∙ ap (λ n. nat_le 3 (min (length c.taken) 3) && nat_le 3 n) left.hello_sent
     ∙ ap (λ b. b && nat_le 3 (min c.pushed 3)) (three (length c.taken)) ∙ ap (λ b. nat_le 3 (length c.taken) && b) (three c.pushed)
     ∙ ap (λ b. not b && hello_is_done c) (sym left.is_open)

@@ -38,11 +38,11 @@ keeps-item packet e s = tt
 
 keeps : (frame : Received) (e : EndState) (s : SecondaryState) → Keeps s.number (judging frame e s)
 keeps (Err fault) e s = tt
-keeps (Ok packet) e s = go (nat_lt e.heard 3)
+keeps (Ok packet) e s = go (nat_lt e.hello_received 3)
   where
-    go : (early : Bool) → Keeps s.number (if early then judging_hello e.heard packet (record s { end = Some (hearing e) })
+    go : (early : Bool) → Keeps s.number (if early then judging_hello e.hello_received packet (record s { end = Some (hearing e) })
         else judging_item packet (hearing e) (record s { end = Some (hearing e) }))
-    go true = keeps-hello e.heard packet (record s { end = Some (hearing e) })
+    go true = keeps-hello e.hello_received packet (record s { end = Some (hearing e) })
     go false = keeps-item packet (hearing e) (record s { end = Some (hearing e) })
 
 -- A frame that is taken leaves it.

@@ -51,7 +51,7 @@ pub record NodeAgrees (said : Reply) (next : NodeState) (step : Reply × Seconda
 pub node-steps : (event : SecondaryEvent) (n : NodeState) (reply : Reply) (next : NodeState)
     → ((h : SecondaryHistory) → NodeLeaves n h → NodeAgrees reply next (secondary_step event h)) → NodeSteps event n reply next
 node-steps event n reply next agrees = record {
-  said = λ h has. (agrees h has.leaves).reply;
+  replies = λ h has. (agrees h has.leaves).reply;
   after = λ h has. record { leaves = (agrees h has.leaves).leaves; reached = reached-step event h has.reached };
 }
 

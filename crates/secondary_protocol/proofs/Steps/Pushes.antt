@@ -43,16 +43,16 @@ get-before (x ∷ xs) ys (suc i) less = get-before xs ys i (omega arith)
 pub owed-same : (settings : Settings) (e : EndState) (d : SecondaryConnection) → LeavesEnd e d → owed settings e ≡ slice_get (answers_due settings d) d.pushed
 owed-same settings e d left = elim (cases_lt d.pushed 3) [
   | inl early ↦
-      let goes_on : nat_lt e.said 3 ≡ true = pushing-goes-on e d left.said ∙ lt-ltb d.pushed 3 early in
-      let said : e.said ≡ d.pushed = omega (arith, left.said) in
-      ap (λ b. if b then slice_get (hello_of settings e.hello) e.said else slice_get e.due 0) goes_on
+      let goes_on : nat_lt e.hello_sent 3 ≡ true = pushing-goes-on e d left.hello_sent ∙ lt-ltb d.pushed 3 early in
+      let said : e.hello_sent ≡ d.pushed = omega (arith, left.hello_sent) in
+      ap (λ b. if b then slice_get (hello_of settings e.hello) e.hello_sent else slice_get e.due 0) goes_on
       ∙ (ap (slice_get (hello_of settings e.hello)) said
       ∙ (ap (λ t. slice_get (hello_of settings t) d.pushed) left.hello ∙ sym (get-before (hello_of settings d.hello) d.due d.pushed early)))
   | inr late ↦
-      let over : nat_lt e.said 3 ≡ false = pushing-goes-on e d left.said ∙ le-ltb d.pushed 3 late in
+      let over : nat_lt e.hello_sent 3 ≡ false = pushing-goes-on e d left.hello_sent ∙ le-ltb d.pushed 3 late in
       let index : (d.pushed - 3) + 0 ≡ d.pushed - 3 = omega arith in
       let all : 3 + (d.pushed - 3) ≡ d.pushed = omega arith in
-      ap (λ b. if b then slice_get (hello_of settings e.hello) e.said else slice_get e.due 0) over
+      ap (λ b. if b then slice_get (hello_of settings e.hello) e.hello_sent else slice_get e.due 0) over
       ∙ (ap (λ (l : List Packet). slice_get l 0) left.due
       ∙ (get-drop (d.pushed - 3) 0 d.due
       ∙ (ap (slice_get d.due) index ∙ (sym (get-past (hello_of settings d.hello) d.due (d.pushed - 3)) ∙ ap (slice_get (answers_due settings d)) all))))

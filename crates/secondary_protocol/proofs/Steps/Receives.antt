@@ -377,21 +377,21 @@ module _ (frame : Received) (s : SecondaryState) (h : SecondaryHistory) (e : End
           → SameJudged (judging (Ok packet) e s) (step.checking (Ok packet) (secondary_connection h) (with_secondary_connection (framed frame) h))
       go true early =
           let less : length (secondary_connection h).taken < 3 = ltb-true (length (secondary_connection h).taken) 3 early in
-          let goes_on : nat_lt e.heard 3 ≡ true = hello-goes-on e (secondary_connection h) there.heard ∙ early in
-          let count : length (secondary_connection h).taken ≡ e.heard = omega (arith, there.heard) in
-          subst (λ (b : Bool). SameJudged (if b then judging_hello e.heard packet heard
+          let goes_on : nat_lt e.hello_received 3 ≡ true = hello-goes-on e (secondary_connection h) there.hello_received ∙ early in
+          let count : length (secondary_connection h).taken ≡ e.hello_received = omega (arith, there.hello_received) in
+          subst (λ (b : Bool). SameJudged (if b then judging_hello e.hello_received packet heard
           else judging_item packet (hearing e) heard) (step.checking (Ok packet) (secondary_connection h) taken)) (sym goes_on)
-          (subst (λ (b : Bool). SameJudged (judging_hello e.heard packet heard)
+          (subst (λ (b : Bool). SameJudged (judging_hello e.hello_received packet heard)
           (elim b as (λ _. Checked) [
             | true ↦ step.checking_hello (length (secondary_connection h).taken) packet taken
             | false ↦ step.checking_item packet
                 (length (items_taken (secondary_connection h))) (secondary_connection h) taken
           ])) (sym early)
-          (subst (λ (n : ℕ). SameJudged (judging_hello e.heard packet heard) (step.checking_hello n packet taken)) (sym count)
-          (hello-same e.heard packet heard taken (hello-left less))))
+          (subst (λ (n : ℕ). SameJudged (judging_hello e.hello_received packet heard) (step.checking_hello n packet taken)) (sym count)
+          (hello-same e.hello_received packet heard taken (hello-left less))))
       go false late =
-          let over : nat_lt e.heard 3 ≡ false = hello-goes-on e (secondary_connection h) there.heard ∙ late in
-          subst (λ (b : Bool). SameJudged (if b then judging_hello e.heard packet heard
+          let over : nat_lt e.hello_received 3 ≡ false = hello-goes-on e (secondary_connection h) there.hello_received ∙ late in
+          subst (λ (b : Bool). SameJudged (if b then judging_hello e.hello_received packet heard
           else judging_item packet (hearing e) heard) (step.checking (Ok packet) (secondary_connection h) taken)) (sym over)
           (subst (λ (b : Bool). SameJudged (judging_item packet (hearing e) heard)
           (elim b as (λ _. Checked) [

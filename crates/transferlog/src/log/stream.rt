@@ -17,7 +17,7 @@ impl TransferLog {
         self.released.clear();
         self.completed.clear();
         self.connection = Some(connection);
-        self.confirmed = self.accepted;
+        self.acknowledged_through = self.accepted;
         self.epochs.restart();
     }
 
@@ -67,15 +67,15 @@ impl TransferLog {
         if !self.may_confirm(number, size) {
             return Err(Refusal::BadBarrierAck);
         }
-        let first = self.confirmed + 1;
+        let first = self.acknowledged_through + 1;
         let _ = self.epochs.acknowledge(number, size);
         self.released.clear();
         self.completed.clear();
-        self.confirmed += u64::from(size);
+        self.acknowledged_through += u64::from(size);
         self.ring.release_all(
             first,
-            self.confirmed + 1,
-            self.confirmed,
+            self.acknowledged_through + 1,
+            self.acknowledged_through,
             &mut self.released,
         );
         Ok(())
@@ -85,7 +85,9 @@ impl TransferLog {
         ensures { result ≡ may_confirm number size self.now.state }
     {
         let lacks = asks_answers(self.protocol)
-            && self.ring.lacks_answer(self.confirmed + 1, u64::from(size));
+            && self
+                .ring
+                .lacks_answer(self.acknowledged_through + 1, u64::from(size));
         self.epochs.is_awaited(number, size) && !lacks
     }
 
@@ -99,7 +101,8 @@ impl TransferLog {
         self.released.clear();
         self.completed.clear();
         self.ring.unlink_all(&mut self.completed);
-        self.ring.release_rest(self.confirmed, &mut self.released);
+        self.ring
+            .release_rest(self.acknowledged_through, &mut self.released);
         self.connection = None;
         self.epochs.restart();
         self.completed.len() as u32

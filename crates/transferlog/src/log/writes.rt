@@ -9,7 +9,7 @@ ghost use Rattle.blocks.specs.declared.refusal.Refusal.TheVariants.{LogFull, NoM
 
 use super::TransferLog;
 use crate::protocol::{answers_sent, is_asked};
-use crate::report::{Accepted, Answer, Named, note, note_completed};
+use crate::report::{Accepted, AckedWrite, PeerAck, note, note_completed};
 use crate::write::{Change, Write};
 use blocks::{Range, Refusal, StreamPosition};
 use bytes::Bytes;
@@ -43,7 +43,7 @@ impl TransferLog {
     /// `LogFull` (3) if `backlog` writes are unreleased; `NoMemory` (7) if there is no memory for the write or for
     /// its epoch, but never after `reserve`.
     pub fn accept(&mut self, range: Range, contents: Bytes) -> Result<Accepted, Refusal>
-        requires inside { range.first.0 + range.count ≤ length self.old.state.latest }
+        requires inside { range.first.0 + range.count ≤ length self.old.state.last_writes }
         requires few { self.old.state.accepted < 1048576 }
         requires places { self.old.state.epochs.places < 4294967290 }
         ensures accepted { IfOk result (λ accepted. (accepted, self.new.state) ≡ accepting range.first.0 range.count contents self.old.state) }
@@ -61,7 +61,7 @@ impl TransferLog {
         self.completed.clear();
         self.accepted = number;
         put(
-            &mut self.latest,
+            &mut self.last_writes,
             range.first.0 as usize,
             range.count as usize,
             number as u32,
@@ -107,7 +107,7 @@ impl TransferLog {
     ///
     /// `UnknownAck` (25) unless the protocol asks for this kind of answer, and the write was sent on the established
     /// connection, is not answered, and has exactly this number, place, first block and count. It takes no memory.
-    pub fn acked(&mut self, kind: Answer, of: Named) -> Result<Option<u32>, Refusal>
+    pub fn acked(&mut self, kind: PeerAck, of: AckedWrite) -> Result<Option<u32>, Refusal>
         ensures { (result, self.new.state) ≡ acked kind of self.old.state }
     {
         let Some(write) = self.ring.get(of.number) else {
@@ -130,7 +130,7 @@ impl TransferLog {
         note_completed(&mut self.completed, turn.completion);
         note(
             &mut self.released,
-            self.ring.release(number, self.confirmed),
+            self.ring.release(number, self.acknowledged_through),
         );
         if !turn.closes {
             return None;

@@ -41,7 +41,7 @@ returns-clause-each c = c.loop-event.invariant.told ∙ ended c
 pub returns-clause-replies : goal.returns-clause-replies
 returns-clause-replies c h has =
     (all-ran c.args.events.now c.loop-event.event-index c.loop-event.replies.items (vec_len c.loop-event.replies)
-    (vec_capacity c.loop-event.replies) c.args.pair c.loop-event.pair c.loop-event.invariant (ended c)).said h has
+    (vec_capacity c.loop-event.replies) c.args.pair c.loop-event.pair c.loop-event.invariant (ended c)).answers h has
 
 pub returns-clause-history : goal.returns-clause-history
 returns-clause-history c h has =

@@ -10,7 +10,7 @@ loop-write-preserved c =
     let items = c.released-write-items.ensures in
     let inside = rw (← items) at was.inside in
     let rest = rw (← items) at was.rest in
-    let step = unmark-step c.released-write-items.result.now c.loop-write.write-index none c.args.log.now.state.latest c.args.marks.now c.loop-write.marks
+    let step = unmark-step c.released-write-items.result.now c.loop-write.write-index none c.args.log.now.state.last_writes c.args.marks.now c.loop-write.marks
     c.clear.new.marks
     c.loop-write-test.true was.size inside rest c.clear.ensures in
     rw (← items) (record { size = step.0; inside = step.1.0; rest = step.1.1 })
@@ -19,5 +19,5 @@ pub returns : goal.returns
 returns c =
     let items = c.released-write-items.ensures in
     let rest = rw (← items) at c.loop-write.invariant.rest in
-    rw (← items) (unmark-all c.released-write-items.result.now c.loop-write.write-index c.args.log.now.state.latest c.args.marks.now c.loop-write.marks
+    rw (← items) (unmark-all c.released-write-items.result.now c.loop-write.write-index c.args.log.now.state.last_writes c.args.marks.now c.loop-write.marks
     c.loop-write-test.false rest)

@@ -9,5 +9,5 @@ abbrev pub invariant-loop-write : goal.invariant-loop-write
 invariant-loop-write l = record {
   size : length l.marks ≡ length l.fn.marks;
   inside : AllByRecursion (LiesInside (length l.marks)) (drop l.write-index l.log.state.released);
-  rest : unmarking (drop l.write-index l.log.state.released) l.log.state.latest l.marks ≡ unmarking l.log.state.released l.log.state.latest l.fn.marks;
+  rest : unmarking (drop l.write-index l.log.state.released) l.log.state.last_writes l.marks ≡ unmarking l.log.state.released l.log.state.last_writes l.fn.marks;
 }

@@ -58,7 +58,7 @@ invariant_of-self-2 c =
     c.lay_inward.new.self c.ack_in-done.new.self c.give_inward.new.self c.in-Some.queue c.in-Some-give_inward.queue c.ack_in-done.result c.self.invariant
     c.in-Some.ensures.given c.give_outward.ensures.rest c.lay_inward.ensures.laid c.lay_inward.ensures.rest c.ack_in-done.ensures.step
     c.ack_in-done.ensures.rest c.in-Some-give_inward.ensures.given c.give_inward.ensures.rest
-    c.lay_outward.ensures.laid c.lay_outward.ensures.rest c.told_back.ensures
+    c.lay_outward.ensures.laid c.lay_outward.ensures.rest c.packets_follow_back.ensures
 
 pub returns : goal.returns
 returns c = record {
@@ -67,5 +67,5 @@ returns c = record {
       c.lay_inward.new.self c.ack_in-done.new.self c.give_inward.new.self c.in-Some.queue c.in-Some-give_inward.queue c.ack_in-done.result c.self.invariant
       c.in-Some.ensures.given c.give_outward.ensures.rest c.lay_inward.ensures.laid c.lay_inward.ensures.rest c.ack_in-done.ensures.step
       c.ack_in-done.ensures.rest c.in-Some-give_inward.ensures.given c.give_inward.ensures.rest
-      c.lay_outward.ensures.laid c.lay_outward.ensures.rest c.told_back.ensures);
+      c.lay_outward.ensures.laid c.lay_outward.ensures.rest c.packets_follow_back.ensures);
 }

@@ -8,7 +8,7 @@ invariant_of-self c =
     answer-is (record { primary = c.self.inside.primary; secondary = c.self.inside.secondary }) c.ack_out-done.new.self c.ack_out-done.result c.self.invariant
     c.ack_out-done.ensures.link c.ack_out-done.ensures.step
     (ap (λ (v : SecondaryView). v.incoming) c.ack_out-done.ensures.rest) (ap (λ (v : SecondaryView). v.steady) c.ack_out-done.ensures.rest
-    ∙ c.self.invariant.peer) c.told_back.ensures
+    ∙ c.self.invariant.peer) c.packets_follow_back.ensures
 
 pub returns : goal.returns
 returns c = record {

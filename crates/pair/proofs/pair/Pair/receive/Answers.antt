@@ -58,7 +58,7 @@ invariant_of-self-2 c =
     c.lay_inward.new.self c.receive-done.new.self c.give_inward.new.self c.in-Some.queue c.in-Some-give_inward.queue c.receive-done.result c.self.invariant
     c.in-Some.ensures.given c.give_outward.ensures.rest c.lay_inward.ensures.laid c.lay_inward.ensures.rest c.receive-done.ensures.step
     c.receive-done.ensures.rest c.in-Some-give_inward.ensures.given c.give_inward.ensures.rest
-    c.lay_outward.ensures.laid c.lay_outward.ensures.rest c.told_there.ensures
+    c.lay_outward.ensures.laid c.lay_outward.ensures.rest c.packets_follow_there.ensures
 
 pub returns : goal.returns
 returns c = record {
@@ -68,5 +68,5 @@ returns c = record {
       c.self.invariant
       c.in-Some.ensures.given c.give_outward.ensures.rest c.lay_inward.ensures.laid c.lay_inward.ensures.rest c.receive-done.ensures.step
       c.receive-done.ensures.rest c.in-Some-give_inward.ensures.given c.give_inward.ensures.rest
-      c.lay_outward.ensures.laid c.lay_outward.ensures.rest c.told_there.ensures);
+      c.lay_outward.ensures.laid c.lay_outward.ensures.rest c.packets_follow_there.ensures);
 }

@@ -8,7 +8,7 @@ invariant_of-self c =
     send-is (record { primary = c.self.inside.primary; secondary = c.self.inside.secondary }) c.send-done.new.self c.send-done.result c.self.invariant
     c.send-done.ensures.link c.send-done.ensures.step
     (ap (λ (v : PrimaryView). v.incoming) c.send-done.ensures.rest) (ap (λ (v : PrimaryView). v.steady) c.send-done.ensures.rest
-    ∙ c.self.invariant.local) c.told_there.ensures
+    ∙ c.self.invariant.local) c.packets_follow_there.ensures
 
 pub returns : goal.returns
 returns c = record {

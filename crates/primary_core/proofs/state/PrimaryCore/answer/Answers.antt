@@ -30,8 +30,8 @@ invariant_of-self-2 c =
     (acked-steps s.settings c.args.kind (named (meaning.named c.args.ack)) s.log.state c.acked.new.self.state c.acked.result c.in_ok-barrier.barrier
     (c.acked.ensures ∙ ap (λ of. acked c.args.kind of c.self.inside.log.state) c.as_named.ensures) c.in_ok-barrier.was c.self.invariant.sound.log)
 
-pub follow-requires : goal.follow-requires
-follow-requires c =
+pub finish_step-requires : goal.finish_step-requires
+finish_step-requires c =
     let s = c.self.inside in
     record {
       room =

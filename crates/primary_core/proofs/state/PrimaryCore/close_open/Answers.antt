@@ -13,7 +13,7 @@ returns c e loss =
     let mark = λ (x : PrimaryState). record x { marks = marking (unreleased_blocks x.log.writes) x.marks } in
     let lose = λ (x : PrimaryState). record x { tuple = if is_established x then lost c.args.loss x.tuple else x.tuple } in
     let drained = c.drain-completed.ensures ∙ ap without_stream (c.lose.ensures ∙ ap lose c.mark_unreleased.ensures) in
-    ap (λ (x : PrimaryState). (c.drain-completed.result, x)) c.report.ensures.state
+    ap (λ (x : PrimaryState). (c.drain-completed.result, x)) c.apply_log_report.ensures.state
     ∙ (ap (λ (p : ℕ × PrimaryState). (p.0, reporting p.1)) drained
     ∙ ap (λ (word : ℕ). (
       (without_stream (lose (mark s))).0,

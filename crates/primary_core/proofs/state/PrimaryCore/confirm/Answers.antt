@@ -27,8 +27,8 @@ invariant_of-self-2 c =
     (confirmed-steps s.settings c.args.number c.args.size s.log.state c.barrier_acked.new.self.state c.barrier_acked.result c.in_ok-barrier_acked.field-0
     c.barrier_acked.ensures c.in_ok-barrier_acked.was c.self.invariant.sound.log)
 
-pub follow-requires : goal.follow-requires
-follow-requires c =
+pub finish_step-requires : goal.finish_step-requires
+finish_step-requires c =
     let s = c.self.inside in
     record {
       room =

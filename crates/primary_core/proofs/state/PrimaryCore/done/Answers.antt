@@ -21,9 +21,9 @@ returns c =
     let number = c.args.number in
     let step = log.local_done number s.log in
     let done = follows-logged s what.Nothing step c.local_done-barrier.result c.local_done-barrier.new.self.state (
-      c.follow.result,
-      c.follow.new.self.state,
-    ) c.local_done-barrier.ensures c.follow.ensures in
-    seen-as s c.args.self.now.state (local_done number) (Ok c.follow.result, c.follow.new.self.state) (ap (λ v. v.state) c.self.view_is)
-    (finishes number s (c.follow.result, c.follow.new.self.state) (logged what.Nothing step s)
+      c.finish_step.result,
+      c.finish_step.new.self.state,
+    ) c.local_done-barrier.ensures c.finish_step.ensures in
+    seen-as s c.args.self.now.state (local_done number) (Ok c.finish_step.result, c.finish_step.new.self.state) (ap (λ v. v.state) c.self.view_is)
+    (finishes number s (c.finish_step.result, c.finish_step.new.self.state) (logged what.Nothing step s)
     (ap (λ v. is_unfinished number v.state) c.self.view_is ∙ c.requires) done)

@@ -12,7 +12,7 @@ returns-in-Some-next-clause-due c =
     let x = c.in-Some.connection in
     let item = c.in-Some-next.item.now in
     let is = end-at c.self.inside s x c.self.view_is c.in-Some.is in
-    let over = all-said x.handshake.said c.self.inside.settings x.handshake.own (sym c.due.ensures ∙ c.in_default-due.is) in
+    let over = all-said x.handshake.hello_sent c.self.inside.settings x.handshake.own (sym c.due.ensures ∙ c.in_default-due.is) in
     let owed = item-is-due s.state (end_of x) item c.next_place.result is over c.in-Some-next.ensures.lookup (c.in-Some-next.ensures.variant.0 refl)
     (c.next_place.ensures (end_of x) is) in
     due-told c.packet.result (due s.state) (frame_of c.next_place.result item) owed c.packet.ensures.packet c.packet.ensures.refused

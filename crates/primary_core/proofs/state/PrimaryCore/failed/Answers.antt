@@ -18,8 +18,8 @@ invariant_of-self c =
     (steps-changing c.self.inside.settings c.args.number failing c.self.inside.log.state c.local_fault-barrier.new.self.state c.local_fault-barrier.result
     keeps-failing c.local_fault-barrier.ensures c.self.invariant.sound.log)
 
-pub follow-requires : goal.follow-requires
-follow-requires c = record {
+pub finish_step-requires : goal.finish_step-requires
+finish_step-requires c = record {
   room =
       room-logged (state_of c.self.inside) c.local_fault-barrier.new.self.state c.local_fault-barrier.result _ c.self.invariant.room
       (steps-changing c.self.inside.settings c.args.number failing c.self.inside.log.state c.local_fault-barrier.new.self.state c.local_fault-barrier.result
@@ -38,9 +38,9 @@ returns c =
     ∙ ap (λ (k : ℕ). given_up number w.first k s) c.range-range.ensures.count) in
     let failed : transition.failing number s ≡ given_up number w.first w.count s = rw (write.0, transition.failing) refl in
     let step = log.local_fault number t.log in
-    let r : Done × PrimaryState = (c.follow.result, c.follow.new.self.state) in
+    let r : Done × PrimaryState = (c.finish_step.result, c.finish_step.new.self.state) in
     let done = follows-logged t what.Nothing step c.local_fault-barrier.result c.local_fault-barrier.new.self.state r c.local_fault-barrier.ensures
-    c.follow.ensures
+    c.finish_step.ensures
     ∙ (ap (λ (x : PrimaryState). logged what.Nothing (log.local_fault number x.log) x) given
     ∙ ap (logged what.Nothing (log.local_fault number s.log)) (sym failed)) in
     finishes number s r (logged what.Nothing (log.local_fault number s.log) (transition.failing number s)) c.requires done

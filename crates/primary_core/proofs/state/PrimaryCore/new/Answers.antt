@@ -9,7 +9,7 @@ invariant_of-result c =
     record {
       sound = record {
         in_range = c.in_ok-check.ensures.accepted.0 refl;
-        log = rw log (record { backlog = refl; latest = length-replicate c.args.settings.blocks 0; writes = tt; completed = tt; released = tt });
+        log = rw log (record { backlog = refl; last_writes = length-replicate c.args.settings.blocks 0; writes = tt; completed = tt; released = tt });
         marks = omega (arith, marks, c.if-marks-settings.false);
         counted = rw c.in_ok-new-2.ensures.fresh tt;
         standing = λ e is resync. absurd (cc);

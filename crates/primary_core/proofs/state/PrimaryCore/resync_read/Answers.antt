@@ -48,7 +48,7 @@ returns c e at =
             });
           }) in
           let epoch : c.epoch-epoch.result ≡ suc s.log.state.epochs.ended = c.epoch-epoch.ensures ∙ add-one s.log.state.epochs.ended in
-          c.follow.ensures ∙ (ap (following (what.Block c.args.block place) None) (c.append.ensures.state
+          c.finish_step.ensures ∙ (ap (following (what.Block c.args.block place) None) (c.append.ensures.state
           ∙ (ap (λ i. appending (item ∷ []) (state_of i)) w.self-inside-is
           ∙ ap (λ (r : ResyncState). appending (item ∷ []) (state_of (record s { log = c.place_resync.new.self; connection = Some (record x { resync = r }) })))
           w.copy.ensures))

@@ -31,16 +31,16 @@ returns-in-Some-write c =
     let x = c.in-Some.connection in
     let item = c.in-Some-pop.item in
     let at = end-at c.self.inside c.args.self.now x c.self.view_is c.in-Some.is in
-    let over = all-said x.handshake.said c.self.inside.settings x.handshake.own (sym c.due.ensures ∙ c.in_default-due.is) in
+    let over = all-said x.handshake.hello_sent c.self.inside.settings x.handshake.own (sym c.due.ensures ∙ c.in_default-due.is) in
     let first = ap (λ o. slice_get (items_in o) 0) (sym at) ∙ (sym c.pop.ensures.item ∙ c.in-Some-pop.is) in
     let name = what.Frame c.command-2.result (Some c.next_place-place.result) in
     let v = state_of c.self-in-Some-write.inside in
     let t : PrimaryState = with_end (λ e. record e { unsent = drop 1 e.unsent }) s in
     let left : v ≡ t = ap (λ y. y.state) c.self-in-Some-write.view_is ∙ c.pop.ensures.state in
-    let r : Done × PrimaryState = (c.follow.result, c.follow.new.self.state) in
+    let r : Done × PrimaryState = (c.finish_step.result, c.finish_step.new.self.state) in
     let write = is-write (is_write item) (number_of item) c.in-Some-write.number c.write.result c.write.ensures c.in-Some-write.is in
     let pushes : pushed_item name (Some item) t ≡ logged name (log.sent (number_of item) t.log) t = rw write.0 refl in
-    follows-logged v name (log.sent c.in-Some-write.number v.log) c.sent-barrier.result c.sent-barrier.new.self.state r c.sent-barrier.ensures c.follow.ensures
+    follows-logged v name (log.sent c.in-Some-write.number v.log) c.sent-barrier.result c.sent-barrier.new.self.state r c.sent-barrier.ensures c.finish_step.ensures
     ∙ (ap (λ (y : PrimaryState). logged name (log.sent c.in-Some-write.number y.log) y) left
     ∙ (ap (λ k. logged name (log.sent k t.log) t) write.1
     ∙ (sym pushes ∙ sent-item s (end_of x) item c.command-2.result c.next_place-place.result at over first c.command-2.ensures
@@ -52,7 +52,7 @@ returns c =
     let x = c.in-Some.connection in
     let item = c.in-Some-pop.item in
     let at = end-at c.self.inside c.args.self.now x c.self.view_is c.in-Some.is in
-    let over = all-said x.handshake.said c.self.inside.settings x.handshake.own (sym c.due.ensures ∙ c.in_default-due.is) in
+    let over = all-said x.handshake.hello_sent c.self.inside.settings x.handshake.own (sym c.due.ensures ∙ c.in_default-due.is) in
     let first = ap (λ o. slice_get (items_in o) 0) (sym at) ∙ (sym c.pop.ensures.item ∙ c.in-Some-pop.is) in
     let name = what.Frame c.command-2.result (Some c.next_place-place.result) in
     let t : PrimaryState = with_end (λ e. record e { unsent = drop 1 e.unsent }) s in

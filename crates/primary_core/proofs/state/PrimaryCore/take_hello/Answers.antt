@@ -20,6 +20,6 @@ returns-in_err-command c e is =
     let ends = sym (end-at c.self.inside c.args.self.now x c.self.view_is c.in-Some.is) ∙ is in
     let same : end_of x ≡ e = cc in
     let refused : c.from_residual.result ≡ Err r = search rules in
-    let judges = ap (λ v. judged x.handshake.heard p v.state.settings) (sym c.self.view_is) ∙ (sym c.judge.ensures ∙ c.in_err-command.was) in
-    rw refused (sym (hello-refused x.handshake.heard p (hearing (end_of x)) s r judges)
-    ∙ ap (λ (y : EndState). taking_hello y.heard (meaning p) (hearing y) s) same)
+    let judges = ap (λ v. judged x.handshake.hello_received p v.state.settings) (sym c.self.view_is) ∙ (sym c.judge.ensures ∙ c.in_err-command.was) in
+    rw refused (sym (hello-refused x.handshake.hello_received p (hearing (end_of x)) s r judges)
+    ∙ ap (λ (y : EndState). taking_hello y.hello_received (meaning p) (hearing y) s) same)

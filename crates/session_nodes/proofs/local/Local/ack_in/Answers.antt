@@ -18,7 +18,7 @@ takes-over g c =
       frame = took.frame;
       step = steps-over event tt (primary_step event) (λ h. refl) c.self.inside.node c.ack_in.new.self (replied reply.Ok c.ack_in.result)
           (ends-took c.ack_in.result took.frame took.link (ap (λ (v : PrimaryView). v.outgoing) c.ack_in.ensures.rest))
-          took.step.said took.step.after;
+          took.step.replies took.step.after;
     }
 
 pub invariant_of-self : goal.invariant_of-self

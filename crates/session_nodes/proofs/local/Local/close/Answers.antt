@@ -13,7 +13,7 @@ abbrev step-over : (g : _) (c : goal.After-close g) → PrimarySteps Closes c.se
 step-over g c =
     steps-over Closes tt (primary_step Closes) (λ h. refl) c.self.inside.node c.close.new.self (replied reply.Closed c.close.result)
     (ends-of (ap (λ (v : PrimaryView). v.outgoing) c.close.ensures.rest)
-    (ap (λ (v : PrimaryView). v.incoming) c.close.ensures.rest)) c.close.ensures.step.said c.close.ensures.step.after
+    (ap (λ (v : PrimaryView). v.incoming) c.close.ensures.rest)) c.close.ensures.step.replies c.close.ensures.step.after
 
 pub invariant_of-self : goal.invariant_of-self
 invariant_of-self g c = had-over (primary_step Closes) c.self.inside.node c.close.new.self (replied reply.Closed c.close.result) c.self.invariant

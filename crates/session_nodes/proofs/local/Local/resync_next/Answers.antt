@@ -20,12 +20,12 @@ ran g c = elim c.resync_next.ensures.step [
   | inl done ↦ runs-step (Resyncs (is_out_of_memory c.resync_next.result)) c.self.inside.node c.resync_next.new.self (replied reply.Ok c.resync_next.result)
       (λ h. refl)
       (steps-over (Resyncs (is_out_of_memory c.resync_next.result)) tt (primary_step (Resyncs (is_out_of_memory c.resync_next.result)))
-      (λ h. refl) c.self.inside.node c.resync_next.new.self (replied reply.Ok c.resync_next.result) (same g c) done.1.said done.1.after)
+      (λ h. refl) c.self.inside.node c.resync_next.new.self (replied reply.Ok c.resync_next.result) (same g c) done.1.replies done.1.after)
   | inr failed ↦ runs-step (FailsResync (is_out_of_memory c.resync_next.result)) c.self.inside.node c.resync_next.new.self
       (replied reply.Ok c.resync_next.result)
       (λ h. refl)
       (steps-over (FailsResync (is_out_of_memory c.resync_next.result)) tt (primary_step (FailsResync (is_out_of_memory c.resync_next.result)))
-      (λ h. refl) c.self.inside.node c.resync_next.new.self (replied reply.Ok c.resync_next.result) (same g c) failed.1.said failed.1.after)
+      (λ h. refl) c.self.inside.node c.resync_next.new.self (replied reply.Ok c.resync_next.result) (same g c) failed.1.replies failed.1.after)
 ]
 
 pub invariant_of-self : goal.invariant_of-self

@@ -16,7 +16,7 @@ step-over g c =
     let event = Sends (has_room c.send.result) (is_out_of_memory c.send.result) in
     steps-over event tt (primary_step event) (λ h. refl) c.self.inside.node c.send.new.self (replied reply.Ok c.send.result)
     (ends-sent c.send.result c.send.ensures.link (ap (λ (v : PrimaryView). v.incoming) c.send.ensures.rest))
-    c.send.ensures.step.said c.send.ensures.step.after
+    c.send.ensures.step.replies c.send.ensures.step.after
 
 -- src/local.rt
 pub invariant_of-self : goal.invariant_of-self

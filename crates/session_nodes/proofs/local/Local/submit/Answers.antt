@@ -19,7 +19,7 @@ step-over g c =
     (primary_step (Submits c.args.first (whole_blocks c.args.bytes.now) (is_out_of_memory c.submit.result))) (λ h. refl) c.self.inside.node c.submit.new.self
     (replied (λ told. reply.Ok told.1) c.submit.result)
     (ends-of (ap (λ (v : PrimaryView). v.outgoing) c.submit.ensures.rest)
-    (ap (λ (v : PrimaryView). v.incoming) c.submit.ensures.rest)) c.submit.ensures.step.said c.submit.ensures.step.after
+    (ap (λ (v : PrimaryView). v.incoming) c.submit.ensures.rest)) c.submit.ensures.step.replies c.submit.ensures.step.after
 
 pub invariant_of-self : goal.invariant_of-self
 invariant_of-self g c = had-over (primary_step (Submits c.args.first (whole_blocks c.args.bytes.now) (is_out_of_memory c.submit.result))) c.self.inside.node

@@ -12,7 +12,7 @@ abbrev step-over : (g : _) (c : goal.After-take_completed g)
 step-over g c =
     steps-over (Receipts c.args.number) tt (take_receipt c.args.number) (λ h. refl) c.self.inside.node c.take_completed.new.self c.take_completed.result
     (ends-of (ap (λ (v : PrimaryView). v.outgoing) c.take_completed.ensures.rest)
-    (ap (λ (v : PrimaryView). v.incoming) c.take_completed.ensures.rest)) c.take_completed.ensures.step.said c.take_completed.ensures.step.after
+    (ap (λ (v : PrimaryView). v.incoming) c.take_completed.ensures.rest)) c.take_completed.ensures.step.replies c.take_completed.ensures.step.after
 
 pub invariant_of-self : goal.invariant_of-self
 invariant_of-self g c = had-over (take_receipt c.args.number) c.self.inside.node c.take_completed.new.self c.take_completed.result c.self.invariant

@@ -15,10 +15,10 @@ passed : (number size : ℕ) (s now : LogState) (b : Bool) → s ≡ now → b �
 passed number size s now b same is so = ap (may_confirm number size) same ∙ (sym is ∙ so)
 
 pub release_all-requires-clause-low : goal.release_all-requires-clause-low
-release_all-requires-clause-low c = newly_from c.self.inside.confirmed _ c.self.inside.ring.writes c.self.invariant.kept
+release_all-requires-clause-low c = newly_from c.self.inside.acknowledged_through _ c.self.inside.ring.writes c.self.invariant.kept
 
 pub release_all-requires-clause-high : goal.release_all-requires-clause-high
-release_all-requires-clause-high c = newly_below c.self.inside.confirmed _ c.self.inside.ring.writes c.self.invariant.kept
+release_all-requires-clause-high c = newly_below c.self.inside.acknowledged_through _ c.self.inside.ring.writes c.self.invariant.kept
 
 pub invariant_of-self : goal.invariant_of-self
 invariant_of-self c =
@@ -27,10 +27,10 @@ invariant_of-self c =
     let inv = c.self.invariant in
     let may = passed c.args.number c.args.size s _ c.may_confirm.result (ap (λ (v : LogValue). v.state) c.self.view_is) c.may_confirm.ensures
     c.if-not-may_confirm.false in
-    let bounded = bounded_confirmed c.args.number c.args.size l.confirmed l.accepted l.epochs.state (awaited_of c.args.number c.args.size s may)
-    (record { confirmed_writes = inv.confirmed; begun = inv.begun }) in
-    log_confirmed l _ (l.confirmed + c.args.size) inv c.release_all.ensures.next refl refl (ap (λ n. l.confirmed + n) c.from.ensures) refl
-    (c.release_all.ensures.writes ∙ ap (λ n. filter (λ w. not (is_released (l.confirmed + n) w)) l.ring.writes) c.from.ensures)
+    let bounded = bounded_confirmed c.args.number c.args.size l.acknowledged_through l.accepted l.epochs.state (awaited_of c.args.number c.args.size s may)
+    (record { confirmed_writes = inv.acknowledged_through; begun = inv.begun }) in
+    log_confirmed l _ (l.acknowledged_through + c.args.size) inv c.release_all.ensures.next refl refl (ap (λ n. l.acknowledged_through + n) c.from.ensures) refl
+    (c.release_all.ensures.writes ∙ ap (λ n. filter (λ w. not (is_released (l.acknowledged_through + n) w)) l.ring.writes) c.from.ensures)
     (c.release_all.ensures.capacity ∙ c.clear.ensures.capacity) c.clear-2.ensures.capacity (rw (ap (λ p. p.1) c.acknowledge.ensures) bounded)
 
 pub returns : goal.returns
@@ -40,8 +40,8 @@ returns c =
     let may = passed c.args.number c.args.size s _ c.may_confirm.result (ap (λ (v : LogValue). v.state) c.self.view_is) c.may_confirm.ensures
     c.if-not-may_confirm.false in
     let released = onto_empty _ _ _ c.release_all.ensures.released c.clear.ensures.items in
-    rw (← c.self.view_is) (rw may (confirmed_is c.args.number c.args.size s _ _ _ _ _ (ap (λ n. l.confirmed + n) c.from.ensures)
-    (c.release_all.ensures.writes ∙ ap (λ n. filter (λ w. not (is_released (l.confirmed + n) w)) l.ring.writes) c.from.ensures)
+    rw (← c.self.view_is) (rw may (confirmed_is c.args.number c.args.size s _ _ _ _ _ (ap (λ n. l.acknowledged_through + n) c.from.ensures)
+    (c.release_all.ensures.writes ∙ ap (λ n. filter (λ w. not (is_released (l.acknowledged_through + n) w)) l.ring.writes) c.from.ensures)
     (ap (λ p. p.1) c.acknowledge.ensures)
-    (released ∙ ap (λ n. map released_of (filter (is_released (l.confirmed + n)) l.ring.writes)) c.from.ensures)
+    (released ∙ ap (λ n. map released_of (filter (is_released (l.acknowledged_through + n)) l.ring.writes)) c.from.ensures)
     c.clear-2.ensures.items))

@@ -29,7 +29,7 @@ invariant_of-self c =
     let none = sym c.in_default.is ∙ c.change.ensures.turn in
     let writes = writes_are s n f None (number-changed c.args.change) c.change.ensures.rises inv.kept (no_release s n f (number-changed c.args.change) none) in
     log_changed l _ n c.args.change inv (ap (λ r. r.next) c.change.ensures.next) refl refl refl refl (ap (λ r. r.writes) c.change.ensures.next ∙ writes)
-    c.clear.ensures.capacity c.clear-2.ensures.capacity (record { confirmed_writes = inv.confirmed; begun = inv.begun })
+    c.clear.ensures.capacity c.clear-2.ensures.capacity (record { confirmed_writes = inv.acknowledged_through; begun = inv.begun })
 
 pub returns-in_default : goal.returns-in_default
 returns-in_default c =
@@ -59,7 +59,7 @@ invariant_of-self-then-not-turn c =
     (ap (λ r. r.writes) c.change.ensures.next) c.release.ensures.release (ap (λ r. r.writes) c.release.ensures.next) in
     log_changed l _ n c.args.change inv (ap (λ r. r.next) c.release.ensures.next ∙ ap (λ r. r.next) c.change.ensures.next) refl refl refl refl ring.0
     (c.note.ensures.capacity ∙ c.clear.ensures.capacity) (c.note_completed.ensures.capacity
-    ∙ c.clear-2.ensures.capacity) (record { confirmed_writes = inv.confirmed; begun = inv.begun })
+    ∙ c.clear-2.ensures.capacity) (record { confirmed_writes = inv.acknowledged_through; begun = inv.begun })
 
 pub returns-then-not-turn : goal.returns-then-not-turn
 returns-then-not-turn c =
@@ -88,7 +88,7 @@ invariant_of-self-2 c =
     let inv = c.self.invariant in
     let ring = after_release s n f c.change.new.self c.release.new.self c.release.result (number-changed c.args.change) c.change.ensures.rises inv.kept
     (ap (λ r. r.writes) c.change.ensures.next) c.release.ensures.release (ap (λ r. r.writes) c.release.ensures.next) in
-    let bounded = bounded_ended true n l.confirmed l.accepted l.epochs.state (record { confirmed_writes = inv.confirmed; begun = inv.begun }) in
+    let bounded = bounded_ended true n l.acknowledged_through l.accepted l.epochs.state (record { confirmed_writes = inv.acknowledged_through; begun = inv.begun }) in
     log_changed l _ n c.args.change inv (ap (λ r. r.next) c.release.ensures.next ∙ ap (λ r. r.next) c.change.ensures.next) refl refl refl refl ring.0
     (c.note.ensures.capacity ∙ c.clear.ensures.capacity) (c.note_completed.ensures.capacity ∙ c.clear-2.ensures.capacity)
     (rw (ap (λ p. p.1) c.completed.ensures) bounded)

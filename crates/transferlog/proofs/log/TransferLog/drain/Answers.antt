@@ -20,18 +20,18 @@ invariant_of-self c =
     let l = c.self.inside in
     let inv = c.self.invariant in
     let ws = map unlinking l.ring.writes in
-    let is = c.release_rest.ensures.writes ∙ ap (λ (r : RingState). filter (λ w. not (is_released l.confirmed w)) r.writes) c.unlink_all.ensures.next in
-    let few : length c.release_rest.new.self.writes ≤ length l.ring.writes = rw is (few_left (λ w. not (is_released l.confirmed w)) unlinking l.ring.writes) in
+    let is = c.release_rest.ensures.writes ∙ ap (λ (r : RingState). filter (λ w. not (is_released l.acknowledged_through w)) r.writes) c.unlink_all.ensures.next in
+    let few : length c.release_rest.new.self.writes ≤ length l.ring.writes = rw is (few_left (λ w. not (is_released l.acknowledged_through w)) unlinking l.ring.writes) in
     record {
       next = c.release_rest.ensures.next ∙ (ap (λ (r : RingState). r.next) c.unlink_all.ensures.next ∙ inv.next);
       few_accepted = inv.few_accepted;
-      kept = rw is (left_kept l.confirmed ws);
+      kept = rw is (left_kept l.acknowledged_through ws);
       numbered = tt;
-      alone = λ none. rw is (each_filter IsAlone (λ w. not (is_released l.confirmed w)) ws (each_alone l.ring.writes));
+      alone = λ none. rw is (each_filter IsAlone (λ w. not (is_released l.acknowledged_through w)) ws (each_alone l.ring.writes));
       few = omega (arith, few, inv.few);
       some = inv.some;
       room_for_released = omega (arith, c.release_rest.ensures.capacity, c.clear.ensures.capacity, inv.room_for_released);
       room_for_completed = omega (arith, c.unlink_all.ensures.capacity, c.clear-2.ensures.capacity, inv.room_for_completed);
-      confirmed = rw c.restart.ensures (omega (arith, inv.confirmed));
+      acknowledged_through = rw c.restart.ensures (omega (arith, inv.acknowledged_through));
       begun = rw c.restart.ensures (λ positive. absurd (omega arith));
     }

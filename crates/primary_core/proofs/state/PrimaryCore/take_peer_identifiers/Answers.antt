@@ -6,7 +6,7 @@ use Rattle.primary_protocol.specs.Core.{EndState, PrimaryState, following}
 use Rattle.primary_protocol.specs.Taking.{begun_with, hearing}
 use Rattle.primary_core.specs.State.{core_of, end_of}
 use Rattle.primary_core.proofs.Beginning.{begun-over, meets}
-use Rattle.primary_core.proofs.state.PrimaryCore.meet.Goals as goal
+use Rattle.primary_core.proofs.state.PrimaryCore.take_peer_identifiers.Goals as goal
 
 pub returns : goal.returns
 returns c e is =
@@ -23,9 +23,9 @@ returns c e is =
     let decided = c.in_ok-decided.decided in
     let allowed = ap (λ x. decision x.state.tuple peer) (sym c.self.view_is) ∙ (sym c.decide.ensures ∙ c.in_ok-decided.was) in
     let seen : PrimaryState = record v.state { peer = Some peer } in
-    let begun = c.begin.ensures (hearing e) (ap (λ (x : PrimaryState). x.end) c.hear.ensures ∙ ap (option_map hearing) here)
-    ∙ (ap (begun_with decided (hearing e)) c.hear.ensures
+    let begun = c.begin.ensures (hearing e) (ap (λ (x : PrimaryState). x.end) c.hello_frame_received.ensures ∙ ap (option_map hearing) here)
+    ∙ (ap (begun_with decided (hearing e)) c.hello_frame_received.ensures
     ∙ (begun-over decided (hearing e) seen (option_map hearing v.state.end)
     ∙ ap (λ x. begun_with decided (hearing e) (record x.state { peer = Some peer })) c.self.view_is)) in
-    meets peer (hearing e) s decided (c.follow.result, c.follow.new.self.state) (rw (sync, loss) refl) allowed (c.follow.ensures
+    meets peer (hearing e) s decided (c.finish_step.result, c.finish_step.new.self.state) (rw (sync, loss) refl) allowed (c.finish_step.ensures
     ∙ ap (following (what.Decided decided) None) begun)

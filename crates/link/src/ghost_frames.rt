@@ -9,36 +9,36 @@ use std::marker::Model;
 /// The frames that passed a point of a link on the current connection, in order, and those of the connections
 /// before it. It takes no bytes, and its calls do nothing when the program runs.
 #[derive(Drop)]
-pub struct Trail {
+pub struct GhostFrames {
     pub ghost went: { Went },
 }
 
-impl Model for Trail {
+impl Model for GhostFrames {
     ghost also_owns = { λ _. ftrue };
 }
 
 // It owns nothing.
-unsafe impl Send for Trail {}
+unsafe impl Send for GhostFrames {}
 
-impl Trail {
-    /// Returns the trail at the beginning of a first connection.
-    pub fn new() -> Trail
+impl GhostFrames {
+    /// Returns the frames at the beginning of a first connection.
+    pub fn new() -> GhostFrames
         ensures { result.went ≡ record { frames = []; past = [] } }
     {
-        Trail {}
+        GhostFrames {}
     }
 
-    /// Returns the trail after another frame has passed.
-    pub fn and(&self, _frame: &Frame) -> Trail
+    /// Returns the frames after another frame has passed.
+    pub fn and(&self, _frame: &Frame) -> GhostFrames
         ensures { result.went ≡ and_then _frame.now self.now.went }
     {
-        Trail {}
+        GhostFrames {}
     }
 
-    /// Returns the trail after the end of connection `_number`.
-    pub fn over(&self, _number: &u32) -> Trail
+    /// Returns the frames after the end of connection `_number`.
+    pub fn over(&self, _number: &u32) -> GhostFrames
         ensures { result.went ≡ over _number.now self.now.went }
     {
-        Trail {}
+        GhostFrames {}
     }
 }

@@ -20,11 +20,11 @@ use denote.Triple.Entry.{on_entry, alive}
 use denote.Triple.Spec.{Meets, triple_of}
 use denote.Triple.Table.{entered}
 use denote.Triple.Walked.{says, Stays, walk_of, Walks, ends_at, walked, walk_Meets}
-use Rattle.link.specs.contracts.trail.Trail.new.Key.{name as key}
-use Rattle.link.specs.contracts.trail.Trail.new as f
-use Rattle.link.proofs.trail.Trail.new.Statement as stated
-use Rattle.link.proofs.trail.Trail.new.Code as code
-use Rattle.link.specs.contracts.trail.Trail as made
+use Rattle.link.specs.contracts.ghost_frames.GhostFrames.new.Key.{name as key}
+use Rattle.link.specs.contracts.ghost_frames.GhostFrames.new as f
+use Rattle.link.proofs.ghost_frames.GhostFrames.new.Statement as stated
+use Rattle.link.proofs.ghost_frames.GhostFrames.new.Code as code
+use Rattle.link.specs.contracts.ghost_frames.GhostFrames as made
 
 abbrev stayed : Stays (f.ended).signature.params (f.ended).kept
 stayed = tt

@@ -20,11 +20,11 @@ use denote.Triple.Entry.{on_entry, alive}
 use denote.Triple.Spec.{Meets, triple_of}
 use denote.Triple.Table.{entered}
 use denote.Triple.Walked.{says, Stays, walk_of, Walks, ends_at, walked, walk_Meets}
-use Rattle.blocks.specs.contracts.tally.Tally.new.Key.{name as key}
-use Rattle.blocks.specs.contracts.tally.Tally.new as f
-use Rattle.blocks.proofs.tally.Tally.new.Statement as stated
-use Rattle.blocks.proofs.tally.Tally.new.Code as code
-use Rattle.blocks.specs.contracts.tally.Tally as made
+use Rattle.blocks.specs.contracts.ghost_count.GhostCount.new.Key.{name as key}
+use Rattle.blocks.specs.contracts.ghost_count.GhostCount.new as f
+use Rattle.blocks.proofs.ghost_count.GhostCount.new.Statement as stated
+use Rattle.blocks.proofs.ghost_count.GhostCount.new.Code as code
+use Rattle.blocks.specs.contracts.ghost_count.GhostCount as made
 
 abbrev stayed : Stays (f.ended).signature.params (f.ended).kept
 stayed = tt

@@ -26,16 +26,16 @@ use denote.Triple.Entry.{on_entry, alive, Args}
 use denote.Triple.Spec.{Meets, triple_of}
 use denote.Triple.Table.{entered}
 use denote.Triple.Walked.{says, stay_none_ref, Stays, walk_of, Walks, ends_at, walked, Goes-none_ref, walk_Meets}
-use Rattle.link.specs.contracts.trail.Trail.and.Key.{name as key}
-use Rattle.link.specs.contracts.trail.Trail.and as f
-use Rattle.link.proofs.trail.Trail.and.Statement as stated
-use Rattle.link.proofs.trail.Trail.and.Code as code
-use Rattle.link.specs.contracts.trail.Trail as trail
-use Rattle.packets.specs.contracts.frame.Frame as name
-use Rattle.link.specs.Past.{and_then}
+use Rattle.link.specs.contracts.ghost_frames.GhostFrames.over.Key.{name as key}
+use Rattle.link.specs.contracts.ghost_frames.GhostFrames.over as f
+use Rattle.link.proofs.ghost_frames.GhostFrames.over.Statement as stated
+use Rattle.link.proofs.ghost_frames.GhostFrames.over.Code as code
+use Rattle.link.specs.contracts.ghost_frames.GhostFrames as ghost
+use denote.Builtin.{u32}
+use Rattle.link.specs.Past.{over}
 
 abbrev stayed : Stays (f.ended).signature.params (f.ended).kept
-stayed = (stay_none_ref (0 ∷ []) tt (plain (λ _. trail.the_row)) yes, (stay_none_ref (1 ∷ []) tt (plain (λ _. name.the_row)) yes, tt))
+stayed = (stay_none_ref (0 ∷ []) tt (plain (λ _. ghost.the_row)) yes, (stay_none_ref (1 ∷ []) tt (plain (λ _. u32)) yes, tt))
 
 module _ {M : Type 1} {𝓤 : Ura M} (𝓛 : Logic 𝓤) (mem : Memory → SProp 𝓤) (run : Routine → Fun 𝓤) (C : Calls 𝓤 𝓛.H) (Λ : Loops 𝓤 𝓛.H) where
   open 𝓛 use {H}
@@ -59,32 +59,30 @@ module _ {M : Type 1} {𝓤 : Ura M} (𝓛 : Logic 𝓤) (mem : Memory → SProp
         qed 𝓛 (raw (alive 𝓛 f.signature κs qs) ∷ ‵ passed ∷ []) ∵ enter ! C Λ code.function (before ∷ named_by ∷ []) _ $
         alloc_all ! (λ l. pass_all ! refl ((tt, tt), ((tt, tt), tt)) $ sets ! (agg ! (no_more !)) refl (tt, tt) $
         returns ! (look_at ! 0 refl) $ free_all ! refl $
-        suffices ! _ (ends_at 𝓛 f.ended stayed (f.clauses 𝓛 mem run) bound (vstruct vnil) (record { went = and_then a.1.0.now a.0.now.went }) (
+        suffices ! _ (ends_at 𝓛 f.ended stayed (f.clauses 𝓛 mem run) bound (vstruct vnil) (record { went = over a.1.0.now a.0.now.went }) (tt, (tt, tt)) (
           tt,
           (tt, tt),
-        ) (tt, (tt, tt))) $
-        says ! refl $ pure_i ! (trail.the_row.own_val (record { went = and_then a.1.0.now a.0.now.went }) (vstruct vnil ∷ [])) ((λ vss. (tt, tt)), tt)
+        )) $
+        says ! refl $ pure_i ! (ghost.the_row.own_val (record { went = over a.1.0.now a.0.now.went }) (vstruct vnil ∷ [])) ((λ vss. (tt, tt)), tt)
         ((tt, (refl, tt)), tt) $
         move ! (1 ∷ 2 ∷ 0 ∷ []) $ done !)
 
   walks : Walks 𝓛 f.ended stayed (WpFn 𝓤 H C Λ code.function) (f.clauses 𝓛 mem run)
   walks =
       walked 𝓛 f.ended stayed (f.clauses 𝓛 mem run) (WpFn 𝓤 H C Λ code.function) (λ κs. (shr_vals, (shr_vals, tt)))
-      (λ κs. (shr_Tells (named 0) κs.0 trail.the_row, (shr_Tells (named 1) κs.1.0 name.the_row, tt)))
+      (λ κs. (shr_Tells (named 0) κs.0 ghost.the_row, (shr_Tells (named 1) κs.1.0 u32, tt)))
       (λ κs qs bounds a g are. via 𝓤 _ (fst∗ 𝓤 _ (emp 𝓤)) (walk κs qs a))
 
 meets : {M : Type 1} {𝓤 : Ura M} (𝓛 : Logic 𝓤) (mem : Memory → SProp 𝓤) (run : Routine → Fun 𝓤) (𝓣 : Tables 𝓤 𝓛.H)
     → Meets 𝓛 f.signature (WpFn 𝓤 𝓛.H 𝓣.C 𝓣.Λ code.function) (f.spec 𝓛 mem run)
 meets {𝓤 = 𝓤} 𝓛 mem run 𝓣 =
-    walk_Meets 𝓛 f.ended stayed (
-      Goes-none_ref 𝓛 2 (0 ∷ []) tt (plain (λ _. trail.the_row)) yes,
-      (Goes-none_ref 𝓛 2 (1 ∷ []) tt (plain (λ _. name.the_row)) yes, tt),
-    ) (f.clauses 𝓛 mem run) (WpFn 𝓤 𝓛.H 𝓣.C 𝓣.Λ code.function)
+    walk_Meets 𝓛 f.ended stayed (Goes-none_ref 𝓛 2 (0 ∷ []) tt (plain (λ _. ghost.the_row)) yes, (Goes-none_ref 𝓛 2 (1 ∷ []) tt (plain (λ _. u32)) yes, tt))
+    (f.clauses 𝓛 mem run) (WpFn 𝓤 𝓛.H 𝓣.C 𝓣.Λ code.function)
     (WpFn-mono 𝓤 𝓛.H 𝓛.laws 𝓣 code.function) (walks 𝓛 mem run 𝓣.C 𝓣.Λ)
 
-pub and_spec : {M : Type 1} → stated.statement M
+pub over_spec : {M : Type 1} → stated.statement M
 unfolding tables_of
-and_spec 𝓤 𝓛 𝓜 𝓡 wired =
+over_spec 𝓤 𝓛 𝓜 𝓡 wired =
     entered 𝓤 𝓛.H (triple_of 𝓛 f.signature (f.spec 𝓛 𝓜.mem 𝓡.returns))
     (tables 𝓤 𝓛.H 𝓜 𝓡 𝓡.env).C (tables 𝓤 𝓛.H 𝓜 𝓡 𝓡.env).Λ key code.function (code.unfolded 𝓤 𝓛.H 𝓜 𝓡 wired)
     (meets 𝓛 𝓜.mem 𝓡.returns (tables_of 𝓤 𝓛.H 𝓜 (tables 𝓤 𝓛.H 𝓜 𝓡 𝓡.env)))

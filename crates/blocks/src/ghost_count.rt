@@ -6,29 +6,29 @@ use std::marker::Model;
 
 /// A count of events, like the faults of a store. It takes no bytes, and its calls do nothing when the program runs.
 #[derive(Drop)]
-pub struct Tally {
+pub struct GhostCount {
     pub ghost count: { ℕ },
 }
 
-impl Model for Tally {
+impl Model for GhostCount {
     ghost also_owns = { λ _. ftrue };
 }
 
 // It owns nothing.
-unsafe impl Send for Tally {}
+unsafe impl Send for GhostCount {}
 
-impl Tally {
+impl GhostCount {
     /// Returns a count of 0.
-    pub fn new() -> Tally
+    pub fn new() -> GhostCount
         ensures { result.count ≡ 0 }
     {
-        Tally {}
+        GhostCount {}
     }
 
     /// Returns the count that is higher by 1.
-    pub fn more(&self) -> Tally
+    pub fn more(&self) -> GhostCount
         ensures { result.count ≡ self.now.count + 1 }
     {
-        Tally {}
+        GhostCount {}
     }
 }

@@ -10,11 +10,11 @@ use blocks::{Done, What};
 impl PrimaryCore {
     /// Applies what the log's step reported, then appends the barrier that the step brought, then ends the resync
     /// if no block is marked and none is under way. It takes no memory.
-    pub(crate) fn follow(&mut self, what: What, barrier: Option<u32>) -> Done
+    pub(crate) fn finish_step(&mut self, what: What, barrier: Option<u32>) -> Done
         requires room { IfSome barrier (λ _. owing barrier self.old.state.end self.old.state.log ≤ self.old.stream_room) }
         ensures { (result, self.new.state) ≡ following what barrier self.old.state }
     {
-        self.report();
+        self.apply_log_report();
         let completed = self.first_completed();
         if let Some(number) = barrier {
             self.append(ItemKind::Barrier(number));

@@ -6,7 +6,7 @@ use Rattle.primary_protocol.specs.Core.{JournalEntry, entering, freeing, leaving
 use Rattle.primary_core.specs.State.{state_of, held_with, way_at}
 use Rattle.primary_core.proofs.Held.{freeing-held, writers-freeing}
 use Rattle.primary_core.proofs.Reports.{sound-reporting}
-use Rattle.primary_core.proofs.state.PrimaryCore.report.Goals as goal
+use Rattle.primary_core.proofs.state.PrimaryCore.apply_log_report.Goals as goal
 
 -- a whole list written over another of its length
 whole : (n : ℕ) (old new : List JournalEntry) → n ≡ length new → take n (new ++ drop (length new) old) ≡ new
