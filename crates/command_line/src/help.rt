@@ -159,9 +159,9 @@ three lines; then no image is changed. R is one of these:
 const SERVE: &str = "\
 The server mirrors two image files of the same length, and serves them as one
 export to clients of the network block device protocol: qemu, nbd-client,
-nbdcopy, fio. Any number of clients may be connected. Each write goes to both
-images, to the peer's over a link, and is answered once it is completed as the
-protocol says:
+nbdcopy, fio. At most 256 clients may be connected at a time. Each write goes to
+both images, to the peer's over a link, and is answered once it is completed as
+the protocol says:
   A                    once it is in the local image and was sent
   B                    once it is in the local image and the peer has it
   C                    once it is in both images
@@ -179,8 +179,10 @@ and prints three lines:
   completed X          ranges of at most 32 blocks that clients wrote
   settled X            those of them that the primary's journal confirms
   unmarked 0           blocks that differ and have no mark
-The end of standard input does not end it. If it is killed, both images have
-each write that was answered under C while the link was up.
+If blocks could not be copied, as with a disk that fails, a line on standard
+error says how many, and the status is 1. The end of standard input does not end
+it. If it is killed, both images have each write that was answered under C while
+the link was up.
 
 With --cut-every S the link is cut every S seconds, and reconnected: the blocks
 that clients write meanwhile are marked, and copied at the next connection.

@@ -1,5 +1,6 @@
 -- What a session starts from, as an opening.
-use Rattle.std.specs.Prelude.{ℕ, ◌≡◌, Bool, false, if◌then◌else◌, slice_get, unwrap_or}
+use Rattle.std.specs.Prelude.{ℕ, ◌≡◌, Bool, false, ◌&&◌, if◌then◌else◌, is_ok, slice_get, unwrap_or}
+use Rattle.blocks.specs.Identifiers.{decision}
 use Rattle.blocks.specs.declared.tuple.Tuple.{Tuple}
 use Rattle.model.specs.Contents.{BlockMap}
 use Rattle.model.specs.Headline.{is_marked}
@@ -24,10 +25,13 @@ opening_of parts local peer = record {
 abbrev pub unknown : Tuple
 unknown = record { current = 0; bitmap = 0; first_historical = 0; second_historical = 0 }
 
--- The parts that two nodes leave: the primary's settings, identifiers and marks; and the peer's identifiers, if its
--- disk is consistent.
+-- the peer's own identifiers, if its disk is consistent and the primary takes it by them
+abbrev pub identifiers_of : Bool → Tuple → Tuple → Tuple
+identifiers_of consistent peer own = if consistent && is_ok (decision own peer) then peer else unknown
+
+-- The parts that two nodes leave: the primary's settings, identifiers and marks; and what the peer's disk is known by.
 pub record IsLeft (parts : Parts) (p : PrimaryHistory) (s : SecondaryHistory) : Type 0 where
   pub settings : parts.settings ≡ p.settings
   pub own : parts.own ≡ p.tuple
-  pub peer : parts.peer ≡ (if s.consistent then s.tuple else unknown)
+  pub peer : parts.peer ≡ identifiers_of s.consistent s.tuple p.tuple
   pub marks : (block : ℕ) → unwrap_or (slice_get parts.marks.items block) false ≡ is_marked p block

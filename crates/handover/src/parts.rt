@@ -2,7 +2,7 @@
 ghost use Rattle.std.specs.Prelude.{◌≡◌, ◌⊎◌, ◌↔◌, false, map, Err, IfErr, IfOk};
 ghost use Rattle.blocks.specs.Ranges.{below};
 ghost use Rattle.blocks.specs.declared.refusal.Refusal.TheVariants.{BadSetting, NoMemory, NotDrained};
-ghost use Rattle.handover.specs.Next.{IsLeft, opening_of};
+ghost use Rattle.handover.specs.Next.{IsLeft, identifiers_of, opening_of};
 ghost use Rattle.model.specs.Headline.{IsGrounded, IsJoined, is_marked};
 ghost use Rattle.model.specs.Primary.{PrimaryHistory, local_map};
 ghost use Rattle.model.specs.Secondary.{SecondaryHistory, secondary_map};
@@ -15,6 +15,7 @@ ghost use Rattle.secondary_protocol.specs.Node.{NodeHas as SecondaryHas};
 ghost use Rattle.settle.specs.Settled.{WereHonest};
 
 use blocks::{Block, Refusal, Store, Tuple};
+use generations::decide;
 use halves::Parts;
 use link::{FrameIn, FrameOut};
 use primary::Primary;
@@ -30,8 +31,10 @@ const UNKNOWN: Tuple = Tuple {
 };
 
 /// Returns what the next session over the disks of these two nodes starts from, under two fresh words: the
-/// settings, the primary's identifiers and its marks, and the secondary's identifiers, if its disk is consistent.
-/// If it is not, nothing is known of that disk, and it is copied whole.
+/// settings, the primary's identifiers and its marks, and the secondary's identifiers, if its disk is consistent and the
+/// primary would take it by them. Else nothing is known of that disk, and it is copied whole: so the primary refuses no
+/// disk that it mirrored, as it does (32) when three connections in a row are lost right after a resync began, each under
+/// another identifier.
 ///
 /// `NotDrained` (36) unless both ends are closed, nothing is pending at the secondary, and the primary's disk has
 /// done or failed every write; else `BadSetting` (15) if the nodes have different settings; else `NoMemory` (7) if
@@ -72,19 +75,28 @@ pub fn parts_after<
         return Err(Refusal::BadSetting);
     }
     let marks = marks_of(alloc, primary, settings.blocks)?;
-    let peer = if secondary.is_consistent() {
-        secondary.tuple()
-    } else {
-        UNKNOWN
-    };
+    let own = primary.tuple();
+    let peer = identifiers_of(secondary.is_consistent(), secondary.tuple(), &own);
     Ok(Parts {
         settings,
-        own: primary.tuple(),
+        own,
         peer,
         marks,
         sync: words.0,
         loss: words.1,
     })
+}
+
+// Returns the identifiers that the peer's disk has in the next session: its own, if it is consistent and the primary, whose
+// identifiers are `own`, takes it by them; else none.
+fn identifiers_of(is_consistent: bool, peer: Tuple, own: &Tuple) -> Tuple
+    ensures { result ≡ identifiers_of is_consistent peer own.now }
+{
+    if is_consistent && decide(own, &peer).is_ok() {
+        peer
+    } else {
+        UNKNOWN
+    }
 }
 
 // Returns which blocks are marked, one `bool` for each block of the device. `NoMemory` (7) if there is no room for

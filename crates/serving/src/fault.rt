@@ -20,6 +20,8 @@ pub(crate) enum Fault<'a> {
     Unstarted(Unstarted),
     /// The disks differ on this many blocks without a mark.
     Unmarked(u32),
+    /// This many blocks are still marked, so the peer's image may not have them.
+    Marked(u32),
     /// The output could not be written.
     Unwritten(io::Error),
 }
@@ -46,6 +48,10 @@ impl fmt::Display for Fault<'_> {
             Fault::Refused(refusal) => write!(f, "refused {}: {refusal}", refusal.number()),
             Fault::Unstarted(unstarted) => write!(f, "{unstarted}"),
             Fault::Unmarked(count) => write!(f, "{count} blocks differ without a mark"),
+            Fault::Marked(count) => write!(
+                f,
+                "{count} blocks could not be copied: the peer's image is not like the local one"
+            ),
             Fault::Unwritten(error) => write!(f, "the output could not be written: {error}"),
         }
     }

@@ -25,8 +25,9 @@ type Opened = (ImageStore<File>, SyncHandle<File>);
 
 /// Serves both images to block clients until `input` has a line `quit`, and prints `completed X`, `settled X` and
 /// `unmarked 0`, X being the number of ranges that clients wrote. Locks both images meanwhile. Returns how it ended:
-/// `Done` if all is done; `Failed` if a file, an address, the output, memory or a thread failed, an image is in use, or
-/// the disks differ without a mark; `Refused` for any other refusal. For the last two a line on `err` says why. The end of `input` is no order to end.
+/// `Done` if all is done; `Failed` if a file, an address, the output, memory or a thread failed, an image is in use, the
+/// disks differ without a mark, or blocks are still marked; `Refused` for any other refusal. For the last two a line on
+/// `err` says why. The end of `input` is no order to end.
 pub fn serve<
     H: Host + Files<File = File> + Net<Listener = TcpListener, Stream = TcpStream> + RandomSource,
     I: Read + Drop + Send + 'static,
@@ -208,10 +209,11 @@ fn shared(service: Service) -> Result<Arc<Service, Global>, Refusal> {
     }
 }
 
-// Prints the three lines. They are printed also if the disks differ without a mark, which is a fault.
+// Prints the three lines. They are printed also if the disks may differ, which is a fault.
 fn print<'a, W: Write>(totals: &Totals, out: &mut W) -> Result<(), Fault<'a>> {
     match print_lines(totals, out) {
         Ok(()) if totals.unmarked > 0 => Err(Fault::Unmarked(totals.unmarked)),
+        Ok(()) if totals.marked > 0 => Err(Fault::Marked(totals.marked)),
         Ok(()) => Ok(()),
         Err(error) => Err(Fault::Unwritten(error)),
     }

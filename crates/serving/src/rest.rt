@@ -6,7 +6,7 @@ use image_store::ImageStore;
 use link::{FrameIn, FrameOut};
 use primary::{Primary, Receipt};
 use secondary::Secondary;
-use settle::settle;
+use settle::{Settled, settle};
 use std::fs::File;
 use volume::Parts;
 
@@ -22,6 +22,8 @@ pub(crate) struct Totals {
     pub(crate) confirmed: u64,
     /// Blocks without a mark on which the disks differed, after the last session.
     pub(crate) unmarked: u32,
+    /// Blocks that were marked after the last session: the peer's image may not have them.
+    pub(crate) marked: u32,
 }
 
 impl Totals {
@@ -30,14 +32,16 @@ impl Totals {
         completed: 0,
         confirmed: 0,
         unmarked: 0,
+        marked: 0,
     };
 
-    /// Adds the results of one session.
-    fn and(&self, completed: usize, confirmed: u64, unmarked: u32) -> Totals {
+    /// Adds the results of one session, after which this many blocks are marked.
+    fn and(&self, completed: usize, settled: Settled, marked: u32) -> Totals {
         Totals {
             completed: self.completed.saturating_add(completed as u64),
-            confirmed: self.confirmed.saturating_add(confirmed),
-            unmarked,
+            confirmed: self.confirmed.saturating_add(settled.confirmed),
+            unmarked: settled.unmarked,
+            marked,
         }
     }
 }
@@ -91,6 +95,6 @@ fn compare(
 ) -> Result<(Parts, Totals), Refusal> {
     let settled = settle(primary, secondary, receipts)?;
     let parts = parts_after(service.alloc, primary, secondary, service.words())?;
-    let totals = totals.and(receipts.len(), settled.confirmed, settled.unmarked);
+    let totals = totals.and(receipts.len(), settled, primary.marks());
     Ok((parts, totals))
 }

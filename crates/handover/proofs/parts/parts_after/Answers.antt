@@ -1,15 +1,14 @@
 use Rattle.std.proofs.Common.{◌≡◌, Bool, true, not, sym, ◌∙◌, ap}
-use Rattle.std.specs.Prelude.{if◌then◌else◌, is_some}
+use Rattle.std.specs.Prelude.{is_some}
 use Rattle.std.proofs.lemmas.Bool.{both_ways, not-false}
 use Rattle.blocks.specs.declared.settings.Settings.{Settings}
-use Rattle.handover.specs.Next.{unknown}
+use Rattle.handover.specs.Next.{identifiers_of}
 use Rattle.handover.proofs.Alike.{are_alike, alike-same, same-alike}
 use Rattle.handover.proofs.Handing.{at-rest, reached-leave, marks-left, parts-sound}
 use Rattle.model.specs.Primary.{primary_connection}
 use Rattle.model.specs.Secondary.{secondary_connection}
 use Rattle.model.specs.Settlement.{is_at_rest}
 use Rattle.handover.proofs.parts.parts_after.Goals as goal
-use Rattle.handover.proofs.parts.parts_after.Goals.{then-is_consistent, else-is_consistent}
 
 -- what is alike is not told to differ
 not-both : (alike other : Bool) → alike ≡ true → other ≡ not alike → other ≡ true → ⊥
@@ -24,12 +23,9 @@ returns-then-ne-clause-settings g c = λ p s hp hs is same.
 pub returns-clause-left : goal.returns-clause-left
 returns-clause-left g c = λ p s hp hs. record {
   settings = c.settings-settings.ensures p hp;
-  own = c.tuple.ensures p hp;
-  peer = elim c.if-is_consistent.branch [
-    | then-is_consistent w ↦ w.peer-is ∙ w.tuple-peer.ensures s hs
-        ∙ ap (λ (b : Bool). if b then s.tuple else unknown) (sym w.if-is_consistent.true ∙ c.is_consistent.ensures s hs)
-    | else-is_consistent w ↦ w.peer-is ∙ ap (λ (b : Bool). if b then s.tuple else unknown) (sym w.if-is_consistent.false ∙ c.is_consistent.ensures s hs)
-  ];
+  own = c.tuple-own.ensures p hp;
+  peer = c.identifiers_of-peer.ensures
+      ∙ (λ i. identifiers_of (c.is_consistent.ensures s hs i) (c.tuple.ensures s hs i) (c.tuple-own.ensures p hp i));
   marks = marks-left p c.in_ok-marks.marks.items c.settings-settings.result.blocks (ap (λ (x : Settings). x.blocks) (c.settings-settings.ensures p hp))
       (c.in_ok-marks.ensures.marks p hp);
 }
@@ -43,4 +39,4 @@ returns-clause-sound g c = λ p s hp hs joined honest grounded.
     (sym (c.is_drained.ensures s hs) ∙ c.if-not-is_drained.false) (ap is_some (sym (c.next_local.ensures p hp)) ∙ sym c.is_some.ensures ∙ c.if-is_some.false) in
     let alike : are_alike c.settings.result c.settings-settings.result ≡ true = not-false _ (sym c.ne.ensures ∙ c.if-ne.false) in
     let same : p.settings ≡ s.settings = sym (c.settings-settings.ensures p hp) ∙ sym (alike-same _ _ alike) ∙ c.settings.ensures s hs in
-    parts-sound _ p s (returns-clause-left g c p s hp hs) same (reached-leave p s hp.reached hs.reached honest joined grounded rest c.if-is_consistent.peer)
+    parts-sound _ p s (returns-clause-left g c p s hp hs) same (reached-leave p s hp.reached hs.reached honest joined grounded rest c.identifiers_of-peer.result)
