@@ -1,6 +1,9 @@
-//! Tests of sessions by threads: what their callers get, and what their two disks hold, whatever the schedule.
+//! Tests of sessions by threads: what their callers get, and what their two disks hold, whatever the schedule. Besides,
+//! tests of what a session stands on: the bells on which its threads wait, its pumps, and the settlement of its nodes.
 #![tactic(auto)]
 
+#[cfg(test)]
+mod bells;
 #[cfg(test)]
 mod callers;
 #[cfg(test)]
@@ -10,13 +13,19 @@ mod faults;
 #[cfg(test)]
 mod gates;
 #[cfg(test)]
+mod nodes;
+#[cfg(test)]
 mod outcome;
 #[cfg(test)]
 mod pipes;
 #[cfg(test)]
+mod pumping;
+#[cfg(test)]
 mod refusals;
 #[cfg(test)]
 mod session;
+#[cfg(test)]
+mod settlements;
 #[cfg(test)]
 mod wire;
 #[cfg(test)]

@@ -3,10 +3,8 @@ ghost use Rattle.endpoint.specs.Calls.{IsNewIn, IsNewOut};
 ghost use Rattle.ruled_link.specs.Inward.{taking};
 ghost use Rattle.ruled_link.specs.Outward.{sending};
 
-use crate::receiver::{Peer, new_peer, open_peer};
-use blocks::{MemStore, Settings, Tuple};
-use bytes::Bytes;
-use primary::Primary;
+use crate::nodes::{Local, Peer, disk, new_local, new_peer, submit, turn};
+use crate::pumping::receiver::open_peer;
 use ruled_link::{Piece, PieceIn, PieceOut, RuledIn, RuledOut, row, ruled};
 use std::alloc::Global;
 use std::process::Abort;
@@ -14,17 +12,6 @@ use std::sync::Wait;
 
 /// More turns than both nodes need until they are idle.
 const TURNS: u32 = 20;
-
-/// A primary over a link between threads.
-type Local<R> = Primary<RuledOut<R>, RuledIn<R>, MemStore>;
-
-/// Makes a primary over a zero-filled disk of 8 blocks.
-fn new_local<R: Wait + Drop>(rt: &impl Abort, alloc: Global) -> Local<R> {
-    let disk = MemStore::zeroed(alloc, 8).expect(rt, "memory");
-    let marks = Vec::from_elem(alloc, false, 8).expect(rt, "memory");
-    let tuple = Tuple::new(1, 0, 0, 0);
-    Primary::new(alloc, Settings::STANDARD, disk, tuple, marks).expect(rt, "a primary")
-}
 
 /// Opens a primary, which takes from `inward`. What it sends comes out of the row whose end this returns.
 fn open_local<R: Wait + Copy + Drop + Abort>(
@@ -39,20 +26,6 @@ fn open_local<R: Wait + Copy + Drop + Abort>(
     let opened = local.open(RuledOut::new(outward), inward, 5, 7);
     opened.expect(&rt, "an open link");
     sent
-}
-
-/// Has both nodes do what they can. A call that has nothing to do is refused, and changes nothing.
-fn turn<R: Wait + Drop>(local: &mut Local<R>, peer: &mut Peer<R>) {
-    if let Some(number) = local.next_local() {
-        let _ = local.local(number);
-    }
-    if let Ok(place) = peer.next() {
-        let _ = peer.peer(place);
-    }
-    let _ = local.send();
-    let _ = peer.receive();
-    let _ = peer.ack_out();
-    let _ = local.ack_in();
 }
 
 /// The tapped link from a primary to its secondary.
@@ -90,12 +63,6 @@ fn work<R: Wait + Drop>(
     }
 }
 
-/// Writes block 2, filled with AA.
-fn submit<R: Wait + Drop>(rt: &impl Abort, alloc: Global, local: &mut Local<R>) {
-    let contents = Bytes::copy_from_slice(alloc, &[0xAA; 4096]).expect(rt, "memory");
-    let _ = local.submit(2, &contents);
-}
-
 /// Returns the bytes that a primary sends to a new secondary, which sends back over `back`: both exchange their hellos,
 /// and then the primary writes.
 fn sent_to_peer<R: Wait + Copy + Drop + Abort>(
@@ -107,7 +74,7 @@ fn sent_to_peer<R: Wait + Copy + Drop + Abort>(
 ) -> Vec<u8>
     requires { IsNewOut (sending back) }
 {
-    let mut peer = new_peer(&rt, alloc);
+    let mut peer = new_peer(&rt, alloc, disk(&rt, alloc), 8);
     let onward = open_peer(rt, alloc, &mut peer, back);
     let mut tap = Tap {
         sent,
@@ -115,7 +82,7 @@ fn sent_to_peer<R: Wait + Copy + Drop + Abort>(
         bytes: Vec::new(alloc),
     };
     work(&rt, local, &mut peer, &mut tap);
-    submit(&rt, alloc, local);
+    submit(&rt, alloc, local, 2);
     work(&rt, local, &mut peer, &mut tap);
     tap.bytes
 }
@@ -123,7 +90,7 @@ fn sent_to_peer<R: Wait + Copy + Drop + Abort>(
 /// Returns the bytes that a primary sends to a secondary over a disk like its own, with one write, under protocol C.
 pub(crate) fn sent_bytes<R: Wait + Copy + Drop + Abort>(rt: R, alloc: Global) -> Vec<u8> {
     let (back, at_local) = ruled(rt, alloc, 4).expect(&rt, "a link");
-    let mut local = new_local(&rt, alloc);
+    let mut local = new_local(&rt, alloc, disk(&rt, alloc), false);
     let sent = open_local(rt, alloc, &mut local, at_local);
     sent_to_peer(rt, alloc, &mut local, sent, back)
 }

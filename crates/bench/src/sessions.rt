@@ -1,8 +1,15 @@
-//! Sessions over a link and over sockets, under each protocol, with few writers and with many.
-use crate::measure::Report;
-use crate::run::{Path, Plan};
-use crate::{measure, run};
+//! The rate of writes through a session between threads, and the time that a writer waits for its receipt, over a link
+//! and over sockets, under each protocol, with few writers and with many, beside a loop in one thread that copies the
+//! same bytes.
+
+mod copies;
+mod report;
+mod run;
+mod writers;
+
 use blocks::Protocol;
+use report::Report;
+use run::{Path, Plan};
 use std::net::{Net, TcpListener, TcpStream};
 use std::time::Duration;
 use volume::Runtime;
@@ -18,7 +25,7 @@ pub(crate) fn measure_all<R: Runtime + Net<Listener = TcpListener, Stream = TcpS
     rt: R,
     writes: u32,
 ) -> anyhow::Result<()> {
-    measure::copied(host, writes)?;
+    copies::copied(host, writes)?;
     for path in [Path::Link, Path::Sockets] {
         for protocol in PROTOCOLS {
             for writers in WRITERS {

@@ -1,5 +1,7 @@
-//! Two nodes with disks in memory, and functions that drive them.
-use blocks::{FaultStore, MemStore, Settings, Tuple};
+//! Two nodes over a link between threads, and functions by which one thread drives them.
+use crate::disks::memory;
+use crate::session::ALIKE;
+use blocks::{FaultStore, Settings};
 use bytes::Bytes;
 use primary::{Primary, Receipt};
 use ruled_link::{RuledIn, RuledLink, RuledOut, ruled};
@@ -9,27 +11,21 @@ use std::process::Abort;
 use std::sync::Wait;
 
 /// A primary over a link between threads.
-pub(super) type Local<R> = Primary<RuledOut<R>, RuledIn<R>, FaultStore>;
+pub(crate) type Local<R> = Primary<RuledOut<R>, RuledIn<R>, FaultStore>;
 
 /// A secondary over one.
-pub(super) type Peer<R> = Secondary<RuledOut<R>, RuledIn<R>, FaultStore>;
+pub(crate) type Peer<R> = Secondary<RuledOut<R>, RuledIn<R>, FaultStore>;
 
 /// How many turns it takes at most until both nodes are idle.
 const TURNS: u32 = 100;
 
 /// Makes a zero-filled disk of 8 blocks.
-pub(super) fn disk(out: &impl Abort, alloc: Global) -> FaultStore {
-    FaultStore::new(MemStore::zeroed(alloc, 8).expect(out, "memory"))
-}
-
-/// Makes a disk of 10 blocks, filled with 01.
-pub(super) fn larger_disk(out: &impl Abort, alloc: Global) -> FaultStore {
-    let image = Vec::from_elem(alloc, 1u8, 40960).expect(out, "memory");
-    FaultStore::new(MemStore::from_image(image).expect(out, "a disk"))
+pub(crate) fn disk(out: &impl Abort, alloc: Global) -> FaultStore {
+    FaultStore::new(memory(out, alloc, false))
 }
 
 /// Makes a primary of 8 blocks, whose first block is marked or not.
-pub(super) fn local<R: Wait + Drop>(
+pub(crate) fn new_local<R: Wait + Drop>(
     out: &impl Abort,
     alloc: Global,
     disk: FaultStore,
@@ -37,12 +33,11 @@ pub(super) fn local<R: Wait + Drop>(
 ) -> Local<R> {
     let mut marks = Vec::from_elem(alloc, false, 8).expect(out, "memory");
     marks[0] = is_marked;
-    let tuple = Tuple::new(1, 0, 0, 0);
-    Primary::new(alloc, Settings::STANDARD, disk, tuple, marks).expect(out, "a primary")
+    Primary::new(alloc, Settings::STANDARD, disk, ALIKE, marks).expect(out, "a primary")
 }
 
 /// Makes a secondary of this many blocks.
-pub(super) fn peer<R: Wait + Drop>(
+pub(crate) fn new_peer<R: Wait + Drop>(
     out: &impl Abort,
     alloc: Global,
     disk: FaultStore,
@@ -52,12 +47,11 @@ pub(super) fn peer<R: Wait + Drop>(
         blocks,
         ..Settings::STANDARD
     };
-    let tuple = Tuple::new(1, 0, 0, 0);
-    Secondary::new(alloc, settings, disk, tuple).expect(out, "a secondary")
+    Secondary::new(alloc, settings, disk, ALIKE).expect(out, "a secondary")
 }
 
 /// Opens both nodes over a new link, with two fresh words, and has them do what there is to do.
-pub(super) fn connect<R: Wait + Copy + Drop>(
+pub(crate) fn connect<R: Wait + Copy + Drop>(
     (rt, out, alloc): (R, &impl Abort, Global),
     local: &mut Local<R>,
     peer: &mut Peer<R>,
@@ -75,7 +69,7 @@ pub(super) fn connect<R: Wait + Copy + Drop>(
 }
 
 /// Opens the primary alone, over a new link.
-pub(super) fn open_alone<R: Wait + Copy + Drop>(
+pub(crate) fn open_alone<R: Wait + Copy + Drop>(
     (rt, out, alloc): (R, &impl Abort, Global),
     local: &mut Local<R>,
     words: (u64, u64),
@@ -86,25 +80,31 @@ pub(super) fn open_alone<R: Wait + Copy + Drop>(
     opened.expect(out, "an open primary");
 }
 
-/// Has both nodes and their disks do what they can. A step that is refused has nothing to do now.
-pub(super) fn work<R: Wait + Drop>(local: &mut Local<R>, peer: &mut Peer<R>) {
+/// Has both nodes and their disks do each of their steps once. A step that is refused has nothing to do now, and changes
+/// nothing.
+pub(crate) fn turn<R: Wait + Drop>(local: &mut Local<R>, peer: &mut Peer<R>) {
+    if let Some(number) = local.next_local() {
+        let _ = local.local(number);
+    }
+    let _ = local.send();
+    let _ = peer.receive();
+    if let Ok(place) = peer.next() {
+        let _ = peer.peer(place);
+    }
+    let _ = peer.ack_out();
+    let _ = local.ack_in();
+    let _ = local.resync_next();
+}
+
+/// Has both nodes and their disks do what they can.
+fn work<R: Wait + Drop>(local: &mut Local<R>, peer: &mut Peer<R>) {
     for _ in 0..TURNS {
-        if let Some(number) = local.next_local() {
-            let _ = local.local(number);
-        }
-        let _ = local.send();
-        let _ = peer.receive();
-        if let Ok(place) = peer.next() {
-            let _ = peer.peer(place);
-        }
-        let _ = peer.ack_out();
-        let _ = local.ack_in();
-        let _ = local.resync_next();
+        turn(local, peer);
     }
 }
 
 /// Submits a write of this block, filled with AA. Returns its number.
-pub(super) fn submit<R: Wait + Drop>(
+pub(crate) fn submit<R: Wait + Drop>(
     out: &impl Abort,
     alloc: Global,
     local: &mut Local<R>,
@@ -115,7 +115,7 @@ pub(super) fn submit<R: Wait + Drop>(
 }
 
 /// Submits the same, has both nodes do what they can, and appends its receipt to the others.
-pub(super) fn write<R: Wait + Drop>(
+pub(crate) fn write<R: Wait + Drop>(
     out: &impl Abort,
     alloc: Global,
     local: &mut Local<R>,
@@ -130,7 +130,7 @@ pub(super) fn write<R: Wait + Drop>(
 }
 
 /// Closes both ends.
-pub(super) fn close<R: Wait + Drop>(out: &impl Abort, local: &mut Local<R>, peer: &mut Peer<R>) {
+pub(crate) fn close<R: Wait + Drop>(out: &impl Abort, local: &mut Local<R>, peer: &mut Peer<R>) {
     local.close().expect(out, "a primary that was open");
     peer.close().expect(out, "a secondary that was open");
 }

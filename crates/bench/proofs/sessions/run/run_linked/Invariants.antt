@@ -1,4 +1,4 @@
-use Rattle.session_bench.proofs.run.run_linked.Given as goal
+use Rattle.bench.proofs.sessions.run.run_linked.Given as goal
 
 -- the link whose two directions were just made
 abbrev pub ghosts-run_named : goal.ghosts-run_named

@@ -2,22 +2,12 @@
 ghost use Rattle.endpoint.specs.Calls.{IsNewOut};
 ghost use Rattle.ruled_link.specs.Outward.{sending};
 
-use blocks::{MemStore, Refusal, Settings, Tuple};
+use crate::nodes::Peer;
+use blocks::Refusal;
 use ruled_link::{PieceOut, RuledIn, RuledOut, row};
-use secondary::Secondary;
 use std::alloc::Global;
 use std::process::Abort;
 use std::sync::Wait;
-
-/// A secondary over a link between threads.
-pub(crate) type Peer<R> = Secondary<RuledOut<R>, RuledIn<R>, MemStore>;
-
-/// Makes a secondary over a zero-filled disk of 8 blocks.
-pub(crate) fn new_peer<R: Wait + Drop>(rt: &impl Abort, alloc: Global) -> Peer<R> {
-    let disk = MemStore::zeroed(alloc, 8).expect(rt, "memory");
-    let tuple = Tuple::new(1, 0, 0, 0);
-    Secondary::new(alloc, Settings::STANDARD, disk, tuple).expect(rt, "a secondary")
-}
 
 /// Opens a secondary, which sends over `back`. It takes what is pushed into the row whose end this returns.
 pub(crate) fn open_peer<R: Wait + Copy + Drop + Abort>(

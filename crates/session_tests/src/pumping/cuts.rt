@@ -1,7 +1,8 @@
 //! Tests that a secondary takes the frames that arrived whole, wherever the connection is lost.
-use crate::ends::{LostReader, LostWriter};
-use crate::receiver::{Peer, new_peer, open_peer, take_frames};
-use crate::sender::sent_bytes;
+use crate::nodes::{Peer, disk, new_peer};
+use crate::pumping::ends::{LostReader, LostWriter};
+use crate::pumping::receiver::{open_peer, take_frames};
+use crate::pumping::sender::sent_bytes;
 use bell::Bell;
 use blocks::Refusal;
 use pumps::{Buffer, PumpEnd, pump_in, pump_out};
@@ -53,7 +54,7 @@ fn takes<R: Wait + Clock + Copy + Drop + Abort, D: Read>(
     wanted: Taken,
 ) {
     let (back, _) = row(rt, alloc, 1).expect(&rt, "a row");
-    let mut peer = new_peer(&rt, alloc);
+    let mut peer = new_peer(&rt, alloc, disk(&rt, alloc), 8);
     let mut outward = open_peer(rt, alloc, &mut peer, RuledOut::new(back));
     let found = taken(&rt, buffer, reader, &mut outward, &mut peer);
     is(&rt, found, wanted);

@@ -1,8 +1,10 @@
 //! Tests that two nodes settle to what was sent, taken, applied and confirmed, or are refused.
 
-use crate::cases::{Case, goes};
-use crate::nodes::{Local, disk, larger_disk, local, peer};
-use blocks::FaultStore;
+mod cases;
+
+use crate::nodes::{Local, disk, new_local, new_peer};
+use blocks::{FaultStore, MemStore};
+use cases::{Case, goes};
 use primary::Receipt;
 use std::alloc::Global;
 use std::process::Abort;
@@ -16,7 +18,7 @@ fn goes_beside<R: Wait + Copy + Drop>(
     receipts: &mut Vec<Receipt>,
     case: Case,
 ) {
-    let mut peer = peer(out, alloc, disk, blocks);
+    let mut peer = new_peer(out, alloc, disk, blocks);
     goes((rt, out, alloc), local, &mut peer, receipts, case);
 }
 
@@ -28,7 +30,7 @@ fn settles<R: Wait + Copy + Drop>(
     receipts: &mut Vec<Receipt>,
     case: Case,
 ) {
-    let mut local = local(out, alloc, here, is_marked);
+    let mut local = new_local(out, alloc, here, is_marked);
     goes_beside((rt, out, alloc), &mut local, there, receipts, case);
 }
 
@@ -49,6 +51,12 @@ fn nodes_settle(rt: HostRuntime) {
     for case in [Case::Writes, Case::Unfinished, Case::Connections] {
         alike((&rt, &rt, alloc), &mut Vec::new(alloc), case);
     }
+}
+
+/// Makes a disk of 10 blocks, filled with 01.
+fn larger_disk(out: &impl Abort, alloc: Global) -> FaultStore {
+    let image = Vec::from_elem(alloc, 1u8, 40960).expect(out, "memory");
+    FaultStore::new(MemStore::from_image(image).expect(out, "a disk"))
 }
 
 /// The disks differ in each of 8 blocks, and the secondary has two more. A marked block does not count.

@@ -10,7 +10,7 @@ use std::sync::Wait;
 
 /// What the nodes do.
 #[derive(Clone, Copy, Debug)]
-pub(super) enum Case {
+pub(crate) enum Case {
     /// They are never opened, and settle to this.
     Unopened(u32),
     /// They are never opened, and a disk fails a read of the first settlement only.
@@ -188,7 +188,7 @@ fn goes_connected<R: Wait + Copy + Drop>(
 }
 
 /// Has the nodes settle. Appends the receipts of their writes to `receipts`.
-pub(super) fn goes<R: Wait + Copy + Drop>(
+pub(crate) fn goes<R: Wait + Copy + Drop>(
     (rt, out, alloc): (R, &impl Abort, Global),
     local: &mut Local<R>,
     peer: &mut Peer<R>,

@@ -2,8 +2,8 @@
 ghost use Rattle.ruled_link.specs.Names as names;
 ghost use Rattle.volume.specs.Links.{AreEndsOf};
 
-use crate::measure::{BLOCKS, Report};
-use crate::writers::write_all;
+use crate::sessions::report::Report;
+use crate::sessions::writers::write_all;
 use blocks::{MemStore, Protocol, Refusal, Settings, Tuple};
 use link::{FrameIn, FrameOut};
 use primary::Primary;
@@ -17,6 +17,9 @@ use std::time::{Duration, Instant};
 use std::{fmt, thread};
 use volume::{Device, Linked, Parts, Runtime, Session};
 use wire_session::{Socket, WireSession, loopback};
+
+/// Blocks of the device of a session: 32 MiB.
+pub(crate) const BLOCKS: u32 = 8_192;
 
 /// The disks of both nodes.
 type Disks = (MemStore, MemStore);

@@ -1,5 +1,5 @@
 //! The writers of a measured session.
-use crate::run::Plan;
+use crate::sessions::run::Plan;
 use blocks::{BLOCK_BYTES, Refusal};
 use bytes::Bytes;
 use std::alloc::Global;

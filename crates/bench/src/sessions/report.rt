@@ -1,9 +1,5 @@
-//! Measurements of a session.
-use blocks::BLOCK_BYTES;
-use std::time::{Duration, Instant};
-
-/// Blocks of the device of a session: 32 MiB.
-pub(crate) const BLOCKS: u32 = 8_192;
+//! What a measured session gave, and in what time.
+use std::time::Duration;
 
 /// How many receipts a session gave, in what time, and how long its writers waited for them.
 #[derive(Clone, Copy, Debug, PartialEq, Eq)]
@@ -42,24 +38,4 @@ fn at(sorted: &Vec<u64>, index: usize) -> u64 {
         Some(wait) => *wait,
         None => 0,
     }
-}
-
-/// Copies the bytes of this many writes as often as a mirror must, into a frame, to the local disk and to the peer's,
-/// in one thread.
-pub(crate) fn copied(host: &HostRuntime, writes: u32) -> anyhow::Result<()> {
-    let alloc = host.alloc();
-    let block = [0x5Au8; BLOCK_BYTES];
-    let mut disks = Vec::from_elem(alloc, 0u8, 3 * BLOCKS as usize * BLOCK_BYTES)?;
-    let start = Instant::now(host)?;
-    let mut copies = 0u64;
-    for _ in 0..writes / BLOCKS + 1 {
-        for place in disks.chunks_exact_mut(BLOCK_BYTES) {
-            place.copy_from_slice(&block);
-            copies = copies.saturating_add(1);
-        }
-    }
-    let time = start.elapsed(host)?;
-    let rate = u128::from(copies / 3) * 1_000_000 / time.as_micros().max(1);
-    eprintln!(host; "copied in one thread: {rate} writes/s")?;
-    Ok(())
 }
