@@ -111,7 +111,8 @@ replaces at its end by what the disk holds then. A disk with no image is filled
 with zeros, and is not saved. If the disks differ at the start, the secondary
 counts as fresh, and every block is copied to it. Images are locked meanwhile:
 one that another run or a server uses is refused. A symbolic link stays, and the
-file that it names is replaced.
+file that it names is replaced. A disk is first saved beside its image, in a new
+file IMAGE.local-new or IMAGE.peer-new: if one is there, the run is refused.
 
 With --cuts C, a further thread cuts the link and reconnects it, C times, while
 the writers go on: the blocks that they write meanwhile are marked, and copied

@@ -22,6 +22,9 @@ pub(crate) enum Fault<'a> {
     Refused(Refusal),
     /// The disks differ on this many blocks without a mark.
     Unmarked(u32),
+    /// The image could not be saved, since something has the name of the file that is first written beside it. Both images
+    /// are as they were.
+    Occupied(&'a str, String),
     /// The image could not be saved; the file is as it was.
     Unsaved(&'a str, io::Error),
     /// The peer's image could not be replaced, though the local one was; its new contents are in this file beside it.
@@ -60,6 +63,13 @@ impl fmt::Display for Fault<'_> {
                 write!(
                     f,
                     "{count} blocks differ without a mark; no image was changed"
+                )
+            }
+            Fault::Occupied(file, beside) => {
+                write!(
+                    f,
+                    "{file} cannot be saved, as {beside} is in the way: move it away; it may be what an earlier run \
+                     could not put in the image's place"
                 )
             }
             Fault::Unsaved(file, error) => write!(f, "{file} could not be saved: {error}"),

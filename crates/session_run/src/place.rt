@@ -2,31 +2,21 @@
 use crate::fault::Fault;
 use crate::locked_image::LockedImage;
 use blocks::{BLOCK_BYTES, Block, MemStore, Store};
-use std::alloc::{AllocError, Global};
-use std::fs::OpenFile;
+use std::fs::{File, OpenFile, OpenOptions};
 use std::io::{BufWriter, ErrorKind, Write};
 use std::rt::Files;
 use std::{fs, io};
 
-/// Where a disk is saved, if it has an image: first in a file beside the image, which then takes the image's place.
+/// Where a disk is saved, if it has an image: first in a new file beside the image, which then takes the image's place.
 #[derive(Drop)]
 pub(crate) struct Place<'a> {
     image: Option<LockedImage<'a>>,
-    beside: String,
 }
 
 impl<'a> Place<'a> {
     /// Returns the place of an image, if there is one.
-    pub(crate) fn of(
-        alloc: Global,
-        image: Option<LockedImage<'a>>,
-        ending: &str,
-    ) -> Result<Place<'a>, AllocError> {
-        let beside = match &image {
-            Some(image) => format!(in alloc; "{}.{ending}", image.real.display())?,
-            None => String::new(alloc),
-        };
-        Ok(Place { image, beside })
+    pub(crate) fn of(image: Option<LockedImage<'a>>) -> Place<'a> {
+        Place { image }
     }
 
     /// Returns whether the disk has an image.
@@ -34,9 +24,9 @@ impl<'a> Place<'a> {
         self.image.is_some()
     }
 
-    /// Returns the path of the file beside the image.
-    pub(crate) fn into_beside(self) -> String {
-        self.beside
+    /// Returns the path of the file beside the image, if there is an image.
+    pub(crate) fn into_beside(self) -> Option<String> {
+        Some(self.image?.beside)
     }
 
     /// Returns the folder that has the image's file, if there is an image.
@@ -45,8 +35,9 @@ impl<'a> Place<'a> {
         Some(image.real.parent()?.as_str())
     }
 
-    /// Writes the disk to the file beside its image, down to the medium, with the image's permissions.
-    pub(crate) fn write<H: Files + AllocGlobal>(
+    /// Writes the disk to a new file beside its image, down to the medium, with the image's permissions. If that fails,
+    /// removes the new file. What is there already is not written to and not removed.
+    pub(crate) fn write<H: Files<File = File> + AllocGlobal>(
         &self,
         rt: &H,
         disk: &mut MemStore,
@@ -54,9 +45,24 @@ impl<'a> Place<'a> {
         let Some(image) = &self.image else {
             return Ok(());
         };
-        match write_disk(rt, image.real.as_str(), self.beside.as_str(), disk) {
+        // A file that has to be new follows no link.
+        let file = OpenOptions::new()
+            .write(true)
+            .create_new(true)
+            .open(rt, image.beside.as_str());
+        let written = match file {
+            Ok(mut file) => write_disk(rt, image.real.as_str(), &mut file, disk),
+            Err(error) if error.kind() == ErrorKind::AlreadyExists => {
+                return Err(Fault::Occupied(image.named, image.beside.clone()?));
+            }
+            Err(error) => return Err(Fault::Unsaved(image.named, error)),
+        };
+        match written {
             Ok(()) => Ok(()),
-            Err(error) => Err(Fault::Unsaved(image.named, error)),
+            Err(error) => {
+                self.clear(rt);
+                Err(Fault::Unsaved(image.named, error))
+            }
         }
     }
 
@@ -65,16 +71,16 @@ impl<'a> Place<'a> {
         let Some(image) = &self.image else {
             return Ok(());
         };
-        match fs::rename(rt, self.beside.as_str(), image.real.as_str()) {
+        match fs::rename(rt, image.beside.as_str(), image.real.as_str()) {
             Ok(()) => Ok(()),
             Err(error) => Err(Fault::Unsaved(image.named, error)),
         }
     }
 
-    /// Removes the written file.
+    /// Removes the file beside the image, which this run has written.
     pub(crate) fn clear<H: Files>(&self, rt: &H) {
-        if self.image.is_some() {
-            let _ = fs::remove_file(rt, self.beside.as_str());
+        if let Some(image) = &self.image {
+            let _ = fs::remove_file(rt, image.beside.as_str());
         }
     }
 
@@ -94,16 +100,14 @@ fn sync<H: Files>(rt: &H, folder: &str) -> io::Result<()> {
     fs::open(rt, folder)?.sync_all()
 }
 
-fn write_disk<H: Files + AllocGlobal>(
+fn write_disk<H: Files<File = File> + AllocGlobal>(
     rt: &H,
     image: &str,
-    beside: &str,
+    file: &mut File,
     disk: &mut MemStore,
 ) -> io::Result<()> {
-    let permissions = fs::metadata(rt, image)?.permissions();
-    let mut file = fs::create(rt, beside)?;
-    file.set_permissions(permissions)?;
-    let mut writer = BufWriter::new(rt.alloc(), &mut file)?;
+    file.set_permissions(fs::metadata(rt, image)?.permissions())?;
+    let mut writer = BufWriter::new(rt.alloc(), &mut *file)?;
     let mut block = [0u8; BLOCK_BYTES];
     for number in 0..disk.blocks() {
         if disk.read(Block(u64::from(number)), &mut block).is_err() {

@@ -3,39 +3,35 @@ use crate::fault::Fault;
 use crate::locked_image::LockedImage;
 use crate::place::Place;
 use blocks::MemStore;
+use std::fs::File;
 use std::rt::Files;
 
 /// Saves the disks that have images, the local one first in `images`. Both are written beside their images before either
-/// takes its place, so a failed write changes no image; the written files are then removed. If the peer's image cannot
+/// takes its place, so a failed write changes no image; what was written is then removed. If the peer's image cannot
 /// be replaced once the local one is, its new contents stay beside it. Once both are replaced, their folders are put on
 /// stable storage. Frees the images at its end.
-pub(crate) fn save<'a, H: Files + AllocGlobal>(
+pub(crate) fn save<'a, H: Files<File = File> + AllocGlobal>(
     rt: &H,
     images: (Option<LockedImage<'a>>, Option<LockedImage<'a>>),
     local: &mut MemStore,
     peer: &mut MemStore,
 ) -> Result<(), Fault<'a>> {
-    let local_place = Place::of(rt.alloc(), images.0, "local-new")?;
-    let peer_place = Place::of(rt.alloc(), images.1, "peer-new")?;
+    let local_place = Place::of(images.0);
+    let peer_place = Place::of(images.1);
     write_both(rt, &local_place, local, &peer_place, peer)?;
     replace_both(rt, &local_place, peer_place)
 }
 
-// Writes both disks beside their images. If that fails, removes what was written.
-fn write_both<'a, H: Files + AllocGlobal>(
+// Writes both disks beside their images. If the second cannot be written, removes the first.
+fn write_both<'a, H: Files<File = File> + AllocGlobal>(
     rt: &H,
     local_place: &Place<'a>,
     local: &mut MemStore,
     peer_place: &Place<'a>,
     peer: &mut MemStore,
 ) -> Result<(), Fault<'a>> {
-    let mut written = local_place.write(rt, local);
-    if written.is_ok() {
-        written = peer_place.write(rt, peer);
-        if written.is_err() {
-            peer_place.clear(rt);
-        }
-    }
+    local_place.write(rt, local)?;
+    let written = peer_place.write(rt, peer);
     if written.is_err() {
         local_place.clear(rt);
     }
@@ -60,7 +56,10 @@ fn replace_both<'a, H: Files>(
         // The local image is replaced, so what its mirror had is not to be lost.
         Err(Fault::Unsaved(image, error)) if local_place.has_image() => {
             let _ = sync_folders(rt, local_place, &peer_place);
-            Err(Fault::Unreplaced(image, peer_place.into_beside(), error))
+            match peer_place.into_beside() {
+                Some(beside) => Err(Fault::Unreplaced(image, beside, error)),
+                None => Err(Fault::Unsaved(image, error)),
+            }
         }
         Err(fault) => {
             peer_place.clear(rt);

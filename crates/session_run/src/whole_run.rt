@@ -19,8 +19,9 @@ use wire_session::loopback;
 
 /// Runs a session with these options over these images, saves both disks, and prints `completed X`, `settled X` and
 /// `unmarked 0`, X being the number of writes. Locks the images meanwhile. Returns how it ended: `Done` if all is done;
-/// `Failed` if a file, the output or memory failed, an image is in use or does not have as many bytes as its blocks, or
-/// the disks differ on a block without a mark; `Refused` for any other refusal.
+/// `Failed` if a file, the output or memory failed, an image is in use, has something in the place of the file that is first
+/// written beside it or does not have as many bytes as its blocks, or the disks differ on a block without a mark; `Refused`
+/// for any other refusal.
 ///
 /// Faults are found in this order: options out of their ranges (15), the local image, the peer's, the sockets, the
 /// start, the writes, blocks without a mark, saving. Then a line on `err` reports the first, which for a refusal R is
@@ -53,9 +54,9 @@ fn run_images<
     err: &mut E,
 ) -> Result<(), Fault<'a>> {
     options.settings().check()?;
-    let local_image = LockedImage::take(rt, images.local)?;
+    let local_image = LockedImage::take(rt, images.local, "local-new")?;
     let local = load(rt, &local_image, options.blocks)?;
-    let peer_image = LockedImage::take(rt, images.peer)?;
+    let peer_image = LockedImage::take(rt, images.peer, "peer-new")?;
     let peer = load(rt, &peer_image, options.blocks)?;
     let mut report = run_disks(rt, options, (local, peer), err)?;
     if let Some(lines) = &report.status {
