@@ -2,8 +2,9 @@
 use crate::fault::Fault;
 use crate::locked_image::LockedImage;
 use blocks::{BLOCK_BYTES, Block, MemStore, Store};
-use std::fs::{File, OpenFile, OpenOptions};
+use std::fs::{File, Metadata, OpenFile, OpenOptions};
 use std::io::{BufWriter, ErrorKind, Write};
+use std::os::unix::fs::{MetadataExt, fchown};
 use std::rt::Files;
 use std::{fs, io};
 
@@ -35,8 +36,8 @@ impl<'a> Place<'a> {
         Some(image.real.parent()?.as_str())
     }
 
-    /// Writes the disk to a new file beside its image, down to the medium, with the image's permissions. If that fails,
-    /// removes the new file. What is there already is not written to and not removed.
+    /// Writes the disk to a new file beside its image, down to the medium, with the image's owner, group and permissions.
+    /// If that fails, removes the new file. What is there already is not written to and not removed.
     pub(crate) fn write<H: Files<File = File> + AllocGlobal>(
         &self,
         rt: &H,
@@ -106,7 +107,7 @@ fn write_disk<H: Files<File = File> + AllocGlobal>(
     file: &mut File,
     disk: &mut MemStore,
 ) -> io::Result<()> {
-    file.set_permissions(fs::metadata(rt, image)?.permissions())?;
+    give_rights(file, &fs::metadata(rt, image)?)?;
     let mut writer = BufWriter::new(rt.alloc(), &mut *file)?;
     let mut block = [0u8; BLOCK_BYTES];
     for number in 0..disk.blocks() {
@@ -118,4 +119,14 @@ fn write_disk<H: Files<File = File> + AllocGlobal>(
     writer.flush()?;
     drop(writer);
     file.sync_all()
+}
+
+// Gives the file the owner, the group and the permissions of the image, the permissions last: a change of the owner takes
+// some of them away.
+fn give_rights(file: &File, image: &Metadata) -> io::Result<()> {
+    let made = file.metadata()?;
+    if (made.uid(), made.gid()) != (image.uid(), image.gid()) {
+        fchown(file, Some(image.uid()), Some(image.gid()))?;
+    }
+    file.set_permissions(image.permissions())
 }
