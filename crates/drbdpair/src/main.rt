@@ -3,6 +3,7 @@
 #![tactic(auto)]
 
 mod program;
+mod standard_descriptors;
 #[cfg(test)]
 mod tests;
 
@@ -12,6 +13,7 @@ use std::process::ExitCode;
 use std::{env, io};
 
 fn main(rt: HostRuntime) -> io::Result<ExitCode> {
+    let _held = standard_descriptors::hold(&rt);
     let words = match env::args(&rt) {
         Ok(words) => words.collect::<Vec<String>>(rt.alloc())?,
         Err(error) if error.kind() == ErrorKind::InvalidData => {

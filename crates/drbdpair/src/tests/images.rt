@@ -1,10 +1,12 @@
 //! Tests of images: which are refused, and what a run makes of the others.
+use crate::program::run_on;
 use crate::tests::{outcome_of, runs};
-use std::fs;
-use std::fs::OpenOptions;
-use std::os::unix::fs::symlink;
+use std::fs::{OpenOptions, Permissions};
+use std::io::{IsTerminal, Write};
+use std::os::unix::fs::{MetadataExt, PermissionsExt, chown, symlink};
 use std::process::Abort;
 use std::rt::Files;
+use std::{fs, io};
 
 /// Writes an image of `count` bytes, each of them `byte`, where the program looks for it.
 fn put_image(rt: &(impl Abort + AllocGlobal + Files), name: &str, byte: u8, count: usize) {
@@ -149,6 +151,26 @@ fn is_written(rt: &impl Abort, image: &[u8]) {
     }
 }
 
+/// A saved image has the owner, the group and the permissions of the file that it replaces. Only root can give a file away;
+/// for others the image is their own.
+#[test]
+fn a_saved_image_keeps_its_owner(rt: HostRuntime) {
+    put_image(&rt, "owned_image", 0, 32_768);
+    let _ = chown(&rt, "owned_image", Some(1), Some(2));
+    // A change of the owner takes the bits above 0o777.
+    let permissions = Permissions::from_mode(0o4711);
+    fs::set_permissions(&rt, "owned_image", permissions).expect(&rt, "permissions");
+    let before = fs::metadata(&rt, "owned_image").expect(&rt, "an image");
+    let words = ["drbdpair", "run", "--writers", "1", "--peer", "owned_image"];
+    runs(&rt, &words, "completed 10\nsettled 10\nunmarked 0\n", 0);
+    let after = fs::metadata(&rt, "owned_image").expect(&rt, "an image");
+    assert_eq!(rt;
+        (after.uid(), after.gid(), after.mode()),
+        (before.uid(), before.gid(), before.mode())
+    );
+    is_written(&rt, &take_image(&rt, "owned_image"));
+}
+
 /// An image of another length is refused, and stays as it was. The local image is checked before the peer's.
 #[test]
 fn images_have_the_length_of_their_blocks(rt: HostRuntime) {
@@ -194,24 +216,116 @@ fn images_that_differ_become_alike(rt: HostRuntime) {
     assert!(rt; local == peer);
 }
 
-/// A disk that cannot be saved gives status 1, and both images stay as they were.
+/// What has the name of the file beside an image, be it a file, the other image or a link, is refused before the run, and
+/// all files stay as they were.
+#[test]
+fn what_is_beside_an_image_is_refused(rt: HostRuntime) {
+    for (name, byte) in FILES_BESIDE {
+        put_image(&rt, name, byte, 32_768);
+    }
+    symlink(&rt, "beside_precious", "beside_b.local-new").expect(&rt, "a link");
+    symlink(&rt, "no/such/file", "beside_c.peer-new").expect(&rt, "a link");
+    for (local, peer, line) in [
+        ("beside_c", "beside_a", "beside_a cannot be saved, as "),
+        (
+            "beside_b",
+            "beside_a.peer-new",
+            "beside_b cannot be saved, as ",
+        ),
+        (
+            "beside_a.peer-new",
+            "beside_a",
+            "beside_a cannot be saved, as ",
+        ),
+        (
+            "beside_a",
+            "beside_a.local-new",
+            "beside_a cannot be saved, as ",
+        ),
+        (
+            "beside_precious",
+            "beside_c",
+            "beside_c cannot be saved, as ",
+        ),
+    ] {
+        let words = ["drbdpair", "run", "--local", local, "--peer", peer];
+        let outcome = outcome_of(&rt, &words, "");
+        assert_eq!(rt; (outcome.status, outcome.written.is_empty()), (1, true));
+        let text = str::from_utf8(outcome.said.bytes.as_slice()).unwrap_or("");
+        assert!(rt; text.starts_with(line), "{text}");
+    }
+    for (name, byte) in FILES_BESIDE {
+        is_left(&rt, name, byte, 32_768);
+    }
+    for name in ["beside_b.local-new", "beside_c.peer-new"] {
+        let link = fs::symlink_metadata(&rt, name).expect(&rt, "a link");
+        assert!(rt; link.is_symlink());
+        fs::remove_file(&rt, name).expect(&rt, "a link");
+    }
+}
+
+/// Images, and files that have names of those beside them, each with the byte that it is filled with.
+const FILES_BESIDE: [(&str, u8); 6] = [
+    ("beside_a", 1),
+    ("beside_a.local-new", 2),
+    ("beside_a.peer-new", 3),
+    ("beside_b", 4),
+    ("beside_c", 5),
+    ("beside_precious", 6),
+];
+
+/// A standard error on which the first line makes a file beside the peer's image, as another program might during a run.
+#[derive(Drop)]
+struct Meddler<'a, H> {
+    rt: &'a H,
+    is_done: bool,
+}
+
+impl<H: Files> Write for Meddler<'_, H> {
+    fn write(&mut self, bytes: &[u8]) -> io::Result<usize> {
+        if !self.is_done {
+            fs::write(self.rt, "late_peer.peer-new", "here first")?;
+            self.is_done = true;
+        }
+        Ok(bytes.len())
+    }
+
+    fn flush(&mut self) -> io::Result<()> {
+        Ok(())
+    }
+}
+
+impl<H> IsTerminal for Meddler<'_, H> {
+    fn is_terminal(&self) -> bool {
+        false
+    }
+}
+
+/// A disk that cannot be saved gives status 1. Both images stay as they were, and so does what came beside one of them
+/// during the run; what was written beside the other one is removed.
 #[test]
 fn a_failed_save_loses_nothing(rt: HostRuntime) {
-    put_image(&rt, "unsaved_local", 0, 32_768);
-    put_image(&rt, "unsaved_peer", 0, 32_768);
-    // A folder has the name of the file that the peer's disk is first written to.
-    fs::create_dir(&rt, "unsaved_peer.peer-new").expect(&rt, "a folder");
+    put_image(&rt, "late_local", 0, 32_768);
+    put_image(&rt, "late_peer", 0, 32_768);
     let words = [
         "drbdpair",
         "run",
+        "--status",
         "--local",
-        "unsaved_local",
+        "late_local",
         "--peer",
-        "unsaved_peer",
+        "late_peer",
     ];
-    runs(&rt, &words, "", 1);
-    is_left(&rt, "unsaved_local", 0, 32_768);
-    is_left(&rt, "unsaved_peer", 0, 32_768);
-    assert!(rt; fs::metadata(&rt, "unsaved_local.local-new").is_err());
-    fs::remove_dir(&rt, "unsaved_peer.peer-new").expect(&rt, "a folder");
+    let mut written = Vec::new(rt.alloc());
+    let mut meddler = Meddler {
+        rt: &rt,
+        is_done: false,
+    };
+    let status = run_on(&rt, &words, b"".as_slice(), &mut written, &mut meddler);
+    assert_eq!(rt; (status, written.is_empty()), (1, true));
+    is_left(&rt, "late_local", 0, 32_768);
+    is_left(&rt, "late_peer", 0, 32_768);
+    assert!(rt; fs::metadata(&rt, "late_local.local-new").is_err());
+    let other = take_image(&rt, "late_peer.peer-new");
+    assert_eq!(rt; other.as_slice(), b"here first".as_slice());
 }
