@@ -7,7 +7,7 @@ use halves::Device;
 use nbd::Command;
 use primary::Receipt;
 use requests::UnderWay;
-use std::alloc::Global;
+use std::alloc::{AllocError, Global};
 use std::sync::{Arc, Wait};
 use std::time::Clock;
 
@@ -23,8 +23,40 @@ struct Pending {
     syncs: bool,
 }
 
-/// Does a request and those that already wait behind it: begins all of them, then ends one after another, and then
-/// sends their replies. Appends the receipts of their writes.
+/// The requests that a thread does together.
+#[derive(Drop)]
+struct Batch {
+    // Those that do not wait for stable storage.
+    quick: Vec<Pending>,
+    // Those that do.
+    syncing: Vec<Pending>,
+    // The clients whose replies are held.
+    answered: Vec<Arc<Client, Global>>,
+}
+
+impl Batch {
+    // Creates a batch with room for as many requests as are done together.
+    fn new(alloc: Global) -> Result<Batch, AllocError> {
+        Ok(Batch {
+            quick: Vec::with_capacity(alloc, TOGETHER)?,
+            syncing: Vec::with_capacity(alloc, TOGETHER)?,
+            answered: Vec::with_capacity(alloc, TOGETHER)?,
+        })
+    }
+
+    // Adds a request. There is room for it.
+    fn put(&mut self, pending: Pending) {
+        let list = if pending.syncs {
+            &mut self.syncing
+        } else {
+            &mut self.quick
+        };
+        let _ = list.push(pending);
+    }
+}
+
+/// Does a request and those that already wait behind it: begins all of them, then ends one after another, those that wait
+/// for stable storage last, and sends their replies. Appends the receipts of their writes.
 pub(crate) fn answer<R: Wait + Clock>(
     rt: &R,
     service: &Service,
@@ -32,15 +64,12 @@ pub(crate) fn answer<R: Wait + Clock>(
     job: Job,
     receipts: &mut Vec<Receipt>,
 ) {
-    let mut begun = Vec::new(service.alloc);
-    let mut answered = Vec::new(service.alloc);
     let first = begin(service, device, job);
-    if begun.try_reserve(TOGETHER).is_err() || answered.try_reserve(TOGETHER).is_err() {
+    let Ok(mut batch) = Batch::new(service.alloc) else {
         end(rt, service, device, first, receipts).send_held(rt);
         return;
-    }
-    // There is room for all that is pushed here.
-    let _ = begun.push(first);
+    };
+    batch.put(first);
     for _ in 1..TOGETHER {
         // The other threads may have ended the session meanwhile: then its room is kept for what is begun.
         if service.is_session_over() {
@@ -49,12 +78,29 @@ pub(crate) fn answer<R: Wait + Clock>(
         let Ok(job) = service.queue.try_recv(rt) else {
             break;
         };
-        let _ = begun.push(begin(service, device, job));
+        batch.put(begin(service, device, job));
     }
-    for pending in begun {
-        if pending.syncs {
-            send_all(rt, &mut answered);
-        }
+    end_all(rt, service, device, batch, receipts);
+}
+
+// Ends the requests of a batch. Before each that waits for stable storage, sends the replies that are there.
+fn end_all<R: Wait + Clock>(
+    rt: &R,
+    service: &Service,
+    device: &impl Device,
+    batch: Batch,
+    receipts: &mut Vec<Receipt>,
+) {
+    let Batch {
+        quick,
+        syncing,
+        mut answered,
+    } = batch;
+    for pending in quick {
+        let _ = answered.push(end(rt, service, device, pending, receipts));
+    }
+    for pending in syncing {
+        send_all(rt, &mut answered);
         let _ = answered.push(end(rt, service, device, pending, receipts));
     }
     send_all(rt, &mut answered);

@@ -2,14 +2,25 @@
 use image_store::SyncHandle;
 use nbd::Errno;
 use std::fs::File;
+use std::sync::atomic::{AtomicU64, Ordering};
 use std::sync::{Mutex, Wait};
 
-/// Both images, as they are synced to stable storage. The system reports a failed sync once, and then forgets the data that
-/// it could not store. So once a sync has failed, each later one fails too.
+/// Both images, as they are synced to stable storage in rounds, which many requests share. The rounds are numbered as they
+/// begin, from 1 on. A later round has waited for all that an earlier one waits for, so a sync does for each round up to the
+/// last one that is ready as it starts.
+///
+/// The system reports a failed sync once, and then forgets the data that it could not store. So once a sync has failed, each
+/// later one fails too.
 #[derive(Drop)]
 pub(crate) struct Medium {
     local: SyncHandle<File>,
     peer: SyncHandle<File>,
+    // The last round that began.
+    begun: AtomicU64,
+    // The last round that was ready for its sync.
+    ready: AtomicU64,
+    // The last round for which a sync succeeded. It changes under the lock of `has_failed`.
+    synced: AtomicU64,
     has_failed: Mutex<bool>,
 }
 
@@ -19,21 +30,44 @@ impl Medium {
         Medium {
             local,
             peer,
+            begun: AtomicU64::new(0),
+            ready: AtomicU64::new(0),
+            synced: AtomicU64::new(0),
             has_failed: Mutex::new(false),
         }
     }
 
-    /// Syncs both images. `InputOutput` if that fails, or has failed before. One sync at a time, so that none succeeds
-    /// beside one that fails.
-    pub(crate) fn sync<R: Wait>(&self, rt: &R) -> Result<(), Errno> {
+    /// Returns the number of the last round that began.
+    pub(crate) fn last_round(&self) -> u64 {
+        self.begun.load(Ordering::SeqCst)
+    }
+
+    /// Begins a round, and returns its number.
+    pub(crate) fn begin_round(&self) -> u64 {
+        self.begun.fetch_add(1, Ordering::SeqCst).wrapping_add(1)
+    }
+
+    /// Returns whether a sync has succeeded for a round after this one.
+    pub(crate) fn is_synced_after(&self, round: u64) -> bool {
+        self.synced.load(Ordering::SeqCst) > round
+    }
+
+    /// Syncs both images for the round `round`, which is ready, unless a sync for a round after `last` succeeds meanwhile.
+    /// `InputOutput` if a sync fails, or has failed before. One sync at a time, so that none succeeds beside one that fails.
+    pub(crate) fn sync<R: Wait>(&self, rt: &R, last: u64, round: u64) -> Result<(), Errno> {
+        self.ready.fetch_max(round, Ordering::SeqCst);
         let mut has_failed = self.has_failed.lock(rt);
+        if self.is_synced_after(last) {
+            return Ok(());
+        }
+        let ready = self.ready.load(Ordering::SeqCst);
         if !*has_failed {
             *has_failed = self.local.sync().is_err() || self.peer.sync().is_err();
         }
         if *has_failed {
-            Err(Errno::InputOutput)
-        } else {
-            Ok(())
+            return Err(Errno::InputOutput);
         }
+        self.synced.store(ready, Ordering::SeqCst);
+        Ok(())
     }
 }

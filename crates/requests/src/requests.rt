@@ -65,12 +65,14 @@ impl Requests {
     pub fn begin(&self, device: &impl Device, request: Request) -> UnderWay
         ensures { result ≡ request }
     {
+        let round = self.medium.last_round();
         let mut begun = Vec::new(self.alloc);
         let begins = self.begin_writes(device, &request, &mut begun);
         UnderWay {
             request,
             begun,
             begins,
+            round,
         }
     }
 
@@ -100,10 +102,11 @@ impl Requests {
             request,
             begun,
             begins,
+            round,
         } = under_way;
         let completed = complete_all(device, begun, receipts);
         let result = match (begins, completed) {
-            (Ok(()), Ok(())) => self.finish(rt, device, &request),
+            (Ok(()), Ok(())) => self.finish(rt, device, &request, round),
             (Err(errno), _) | (_, Err(errno)) => Err(errno),
         };
         (request, result)
@@ -130,12 +133,14 @@ impl Requests {
         }
     }
 
-    // Does the remaining part of a request once its writes are completed.
+    // Does the remaining part of a request once its writes are completed. Before it began, `round` was the last round of
+    // syncing.
     fn finish<R: Wait + Clock>(
         &self,
         rt: &R,
         device: &impl Device,
         request: &Request,
+        round: u64,
     ) -> Result<Vec<u8>, Errno>
         ensures read { request.now.command ≡ command.Read → IfOk result (λ read. vec_len read ≡ request.now.block_count * 4096) }
     {
@@ -144,23 +149,32 @@ impl Requests {
                 let count = u64::from(request.block_count);
                 return read(self.alloc, device, ranges_of(request)?, count);
             }
-            Command::Flush => self.sync(rt, device)?,
+            Command::Flush => self.sync(rt, device, round)?,
             Command::Disconnect => return Err(Errno::Invalid),
             Command::Write | Command::WriteZeroes => {}
         }
         if request.fua {
-            self.sync(rt, device)?;
+            // Its own writes are in the files only now, so a round has to begin from now on.
+            self.sync(rt, device, self.medium.last_round())?;
         }
         Ok(Vec::new(self.alloc))
     }
 
-    // Syncs both images to stable storage, once the peer's disk has each write that was answered before, unless that
-    // has no connection. Under protocol C the peer's disk has it already.
-    fn sync<R: Wait + Clock>(&self, rt: &R, device: &impl Device) -> Result<(), Errno> {
+    // Syncs both images to stable storage, in a round that begins after the round `last`: one of another request, or a
+    // new one. A round is ready once the peer's disk has each write that was answered before the round began, unless that has
+    // no connection; under protocol C it has it already.
+    //
+    // So any round after `last` does for a request that took this number when it began: the round began later, and each
+    // write that was answered before the request is in the files once the round is ready.
+    fn sync<R: Wait + Clock>(&self, rt: &R, device: &impl Device, last: u64) -> Result<(), Errno> {
+        if self.medium.is_synced_after(last) {
+            return Ok(());
+        }
+        let round = self.medium.begin_round();
         if self.protocol != Protocol::C {
             wait_for_release(rt, device);
         }
-        self.medium.sync(rt)
+        self.medium.sync(rt, last, round)
     }
 }
 

@@ -9,6 +9,8 @@ pub struct UnderWay {
     pub(crate) request: Request,
     pub(crate) begun: Vec<Begun>,
     pub(crate) begins: Result<(), Errno>,
+    // The last round of syncing that had begun before it.
+    pub(crate) round: u64,
 }
 
 impl Model for UnderWay {
