@@ -3,14 +3,14 @@ ghost use Rattle.std.specs.Io.{ReadsAtMost};
 
 use crate::outbox::Outbox;
 use crate::places::Places;
-use crate::timed_writer::Outcome;
+use crate::timed_writer::{Outcome, is_passing};
 use nbd::Reply;
 use std::alloc::Global;
 use std::io::Read;
 use std::net::{Shutdown, TcpStream};
 use std::sync::atomic::{AtomicBool, Ordering};
 use std::sync::{Mutex, Wait};
-use std::time::{Clock, Duration};
+use std::time::{Clock, Duration, Instant};
 use std::{io, mem};
 
 /// How long a client has for each MiB of replies that it begins, in milliseconds. If it is slower, its connection is
@@ -22,6 +22,12 @@ const SHORT_PATIENCE_MS: u16 = 20;
 
 /// How long a read waits before its thread looks whether the server ends, in milliseconds.
 const LOOK_MS: u64 = 250;
+
+/// How long a client has to end its side once all replies are written, in seconds.
+const LINGER_S: u64 = 2;
+
+/// The most bytes that are discarded at once.
+const DISCARDED_BYTES: usize = 4096;
 
 /// A client's connection. Threads that answer requests write to it only while it takes bytes at once, so that no client
 /// waits for another one. If it does not, the client's own thread writes, and the others leave their replies to it.
@@ -171,6 +177,34 @@ impl Client {
     {
         let mut stream = &self.stream;
         stream.read(buffer)
+    }
+
+    /// Ends the connection once all replies are written. For the client's own thread.
+    pub(crate) fn end<R: Wait + Clock>(&self, rt: &R) {
+        if !self.is_closed() {
+            let _ = self.linger(rt);
+        }
+        self.close();
+    }
+
+    // Says that no further reply comes, and discards what the client still sends, until it ends its side or has had its time.
+    // The system resets a socket that is closed with unread input, and drops the replies that the client has not read.
+    fn linger<R: Wait + Clock>(&self, rt: &R) -> io::Result<()> {
+        self.stream.shutdown(Shutdown::Write)?;
+        let start = Instant::now(rt)?;
+        let mut buffer = [0u8; DISCARDED_BYTES];
+        for _ in rt.forever() {
+            match self.read(&mut buffer) {
+                Ok(0) => break,
+                Ok(_) => {}
+                Err(error) if is_passing(error.kind()) => {}
+                Err(error) => return Err(error),
+            }
+            if start.elapsed(rt)? >= Duration::from_secs(LINGER_S) {
+                break;
+            }
+        }
+        Ok(())
     }
 
     /// Closes the connection, both ways.

@@ -49,8 +49,10 @@ fn welcome<R: Runtime>(
         return Ok(());
     }
     let started = thread::spawn(&rt, move || {
-        let _ = serve_client(&rt, &shared, &client);
-        client.close();
+        match serve_client(&rt, &shared, &client) {
+            Ok(()) => client.end(&rt),
+            Err(_) => client.close(),
+        }
         shared.leave();
     });
     if started.is_err() {
