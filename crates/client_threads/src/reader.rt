@@ -5,7 +5,7 @@ use crate::request::Job;
 use crate::service::Service;
 use crate::timed_writer::is_passing;
 use blocks::Refusal;
-use nbd::{Connection, Export, Output, greeting};
+use nbd::{Connection, Errno, Export, Output, greeting};
 use std::alloc::Global;
 use std::sync::{Arc, Wait};
 use std::time::Clock;
@@ -44,7 +44,8 @@ pub(crate) fn serve_client<R: Wait + Clock>(
     Ok(())
 }
 
-// Takes the client's next bytes. Returns whether the connection goes on.
+// Takes the client's next bytes. Returns whether the connection goes on. One read may have thousands of requests, so those
+// that are left once the server ends are refused (ESHUTDOWN): it would wait for a slow client as long as for all of them.
 fn take<R: Wait + Clock>(
     rt: &R,
     service: &Service,
@@ -57,7 +58,13 @@ fn take<R: Wait + Clock>(
     if !out.bytes.is_empty() {
         client.send(rt, out.bytes.as_slice());
     }
+    let mut refusals = Vec::new(service.alloc);
     for request in out.requests {
+        if service.is_over() {
+            let refusal = request.reply(Some(Errno::Shutdown));
+            refusals.extend_from_slice(refusal.encode().as_slice())?;
+            continue;
+        }
         let client = Arc::try_clone(client)?;
         if client.is_closed() {
             return Ok(false);
@@ -66,6 +73,9 @@ fn take<R: Wait + Clock>(
         if service.jobs.send(rt, Job { request, client }).is_err() {
             return Ok(false);
         }
+    }
+    if !refusals.is_empty() {
+        client.send(rt, refusals.as_slice());
     }
     Ok(!connection.is_closed())
 }
