@@ -1,5 +1,6 @@
 //! The thread that keeps the link up.
 use crate::service::Service;
+use crate::standstill::Standstill;
 use blocks::Refusal;
 use halves::Device;
 use status_page::{Report, Resync};
@@ -14,8 +15,8 @@ const LOOK_MS: u64 = 20;
 /// Looks in a second.
 const LOOKS_A_SECOND: u64 = 50;
 
-/// Reconnects the link whenever it is down, cuts it every `cut_every` seconds if that is set, and gives reports when
-/// they are asked for, until the session is over.
+/// Reconnects the link whenever it is down, cuts it every `cut_every` seconds if that is set and when no marked block is
+/// copied, so that a resync begins, and gives reports when they are asked for, until the session is over.
 pub(crate) fn keep<R: Wait + Clock>(
     rt: &R,
     service: &Service,
@@ -25,6 +26,7 @@ pub(crate) fn keep<R: Wait + Clock>(
 ) {
     let mut looks = 0u64;
     let mut most = 0u32;
+    let mut standstill = Standstill::new();
     let mut words = service.words();
     for _ in rt.forever() {
         if over.load(Ordering::SeqCst) {
@@ -40,7 +42,11 @@ pub(crate) fn keep<R: Wait + Clock>(
         if device.reconnect(words.0, words.1).is_ok() {
             words = service.words();
         }
-        most = most_since(most, device.marks());
+        let marks = device.marks();
+        if standstill.look(marks) {
+            device.cut();
+        }
+        most = most_since(most, marks);
         if service.reports.is_asked(rt)
             && let Ok(report) = report(device, most)
         {

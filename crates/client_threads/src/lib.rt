@@ -14,6 +14,7 @@ mod reader;
 mod reports;
 mod request;
 mod service;
+mod standstill;
 mod threads;
 mod timed_writer;
 mod waiter;
