@@ -6,6 +6,7 @@ mod answer;
 mod client;
 mod doors;
 mod keeper;
+mod limited_stream;
 mod outbox;
 mod page;
 mod piece;

@@ -1,13 +1,14 @@
 //! The thread of the status page.
+use crate::limited_stream::LimitedStream;
 use crate::service::Service;
 use status_page::answer_one;
 use std::hash::RandomState;
 use std::net::{TcpListener, TcpStream};
 use std::sync::Wait;
-use std::time::{Clock, Duration};
+use std::time::{Clock, Duration, Instant};
 use std::{io, thread};
 
-/// How long a client of the page may take to ask, or to read the answer, in seconds.
+/// How long a client of the page may take to ask and to read the answer, in seconds.
 const PATIENCE_S: u64 = 2;
 
 /// How long the thread waits after a failure, in milliseconds.
@@ -41,11 +42,10 @@ fn tell<R: Wait + Clock>(
     keys: RandomState,
     stream: &TcpStream,
 ) -> io::Result<()> {
-    let patience = Some(Duration::from_secs(PATIENCE_S));
-    stream.set_read_timeout(patience)?;
-    stream.set_write_timeout(patience)?;
     let report = service.reports.ask(rt);
-    let (mut reader, mut writer) = (stream, stream);
+    let (start, limit) = (Instant::now(rt)?, Duration::from_secs(PATIENCE_S));
+    let mut reader = LimitedStream::new(rt, stream, start, limit);
+    let mut writer = LimitedStream::new(rt, stream, start, limit);
     answer_one(
         service.alloc,
         keys,
