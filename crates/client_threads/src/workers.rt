@@ -105,8 +105,10 @@ fn rest<R: Wait + Clock>(rt: &R, device: &impl Device) {
     let mut marks = u32::MAX;
     let mut looks = 0u32;
     for _ in rt.forever() {
+        // A closed link is quiet too. A close marks blocks before, so they are counted after.
+        let is_quiet = device.is_quiet();
         let left = device.marks();
-        if left == 0 && device.is_quiet() {
+        if is_quiet && left == 0 {
             break;
         }
         if left < marks {
