@@ -204,7 +204,7 @@ fn is_one_told(alloc: Global, stream: &mut TcpStream, seen: &mut [bool; 3]) -> i
 }
 
 /// The request of a client of the status page.
-const PAGE: &[u8] = b"GET / HTTP/1.1\r\nHost: localhost\r\n\r\n";
+pub(crate) const PAGE: &[u8] = b"GET / HTTP/1.1\r\nHost: localhost\r\n\r\n";
 
 /// The beginning of the answer, and that of its body.
 const PAGE_ANSWER: &[u8] = b"HTTP/1.1 200 OK\r\n";
@@ -272,6 +272,29 @@ pub(crate) fn options_of(
     }
 }
 
+/// Serves two images until a client has done its work. Returns the server's status.
+pub(crate) fn serve_until<
+    H: Abort
+        + Host
+        + Files<File = File>
+        + Net<Listener = TcpListener, Stream = TcpStream>
+        + RandomSource,
+>(rt: H, options: &ServeOptions<'_>, is_done: &Arc<AtomicBool, Global>) -> u8 {
+    let order = Order {
+        rt,
+        is_done: Arc::try_clone(is_done).expect(&rt, "memory"),
+        is_given: false,
+    };
+    let (mut out, mut err) = (Vec::new(rt.alloc()), Vec::new(rt.alloc()));
+    serve(&rt, options, order, &mut out, &mut err).code()
+}
+
+/// Writes an image of zeros for a client of the tests.
+pub(crate) fn put_image(rt: &(impl Abort + AllocGlobal + Files), file: &str) {
+    let zeros = Vec::from_elem(rt.alloc(), 0u8, IMAGE_BYTES).expect(rt, "memory");
+    fs::write(rt, file, zeros.as_slice()).expect(rt, "an image");
+}
+
 // Serves two images to one client, under this protocol. Returns the server's status, and whether the client got the
 // right answers.
 fn serve_one<
@@ -306,9 +329,8 @@ fn serve_one<
 
 // Writes two images of zeros where the server looks for them.
 fn put_images(rt: &(impl Abort + AllocGlobal + Files)) {
-    let zeros = Vec::from_elem(rt.alloc(), 0u8, IMAGE_BYTES).expect(rt, "memory");
     for file in ["serving_local", "serving_peer"] {
-        fs::write(rt, file, zeros.as_slice()).expect(rt, "an image");
+        put_image(rt, file);
     }
 }
 

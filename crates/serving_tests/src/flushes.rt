@@ -86,27 +86,55 @@ impl Device for LateDevice {
         if number != ACCEPTED {
             self.strays.fetch_add(1, Ordering::SeqCst);
         }
-        self.questions.fetch_add(1, Ordering::SeqCst) + 1 >= RELEASED_AT
+        let before = self.questions.fetch_add(1, Ordering::SeqCst);
+        before.saturating_add(1) >= RELEASED_AT
     }
 }
 
-// Ends the request over a late device under this protocol. Returns whether it succeeds, and what the device was asked.
-fn end(
-    rt: &(impl Abort + Wait + Clock + Files<File = File> + AllocGlobal),
+// Creates requests under this protocol, which sync a file.
+fn requests_under(
+    rt: &(impl Abort + Files<File = File> + AllocGlobal),
     protocol: Protocol,
-    request: Request,
-) -> (bool, (u64, u64)) {
+) -> Requests {
     let image = "flushed_late";
     fs::write(rt, image, &[0; 4096]).expect(rt, "a file");
     let (_, local) = ImageStore::open(rt, image, 1).expect(rt, "an image");
     let (_, peer) = ImageStore::open(rt, image, 1).expect(rt, "an image");
-    let requests = Requests::new(rt.alloc(), protocol, local, peer);
-    let device = LateDevice::new();
-    let under_way = requests.begin(&device, request);
-    let mut receipts = Vec::new(rt.alloc());
-    let (_, result) = requests.end(rt, &device, under_way, &mut receipts);
     fs::remove_file(rt, image).expect(rt, "a file");
-    (result.is_ok(), device.asked())
+    Requests::new(rt.alloc(), protocol, local, peer)
+}
+
+// Begins a request `count` times over a device, and then ends one after another.
+fn end_together(
+    rt: &(impl Abort + Wait + Clock + AllocGlobal),
+    requests: &Requests,
+    device: &LateDevice,
+    (command, fua): (Command, bool),
+    count: u32,
+) {
+    let mut begun = Vec::new(rt.alloc());
+    for _ in 0..count {
+        let under_way = requests.begin(device, request(command, fua));
+        begun.push(under_way).expect(rt, "memory");
+    }
+    let mut receipts = Vec::new(rt.alloc());
+    for under_way in begun {
+        let (_, result) = requests.end(rt, device, under_way, &mut receipts);
+        assert!(rt; result.is_ok());
+    }
+}
+
+// Ends a request over a late device under this protocol. Returns what the device was asked.
+fn asked_for(
+    rt: &(impl Abort + Wait + Clock + Files<File = File> + AllocGlobal),
+    protocol: Protocol,
+    command: Command,
+    fua: bool,
+) -> (u64, u64) {
+    let device = LateDevice::new();
+    let requests = requests_under(rt, protocol);
+    end_together(rt, &requests, &device, (command, fua), 1);
+    device.asked()
 }
 
 // A request of no blocks.
@@ -125,23 +153,46 @@ fn request(command: Command, fua: bool) -> Request {
 #[test]
 fn a_flush_waits_for_the_writes_before_it(rt: HostRuntime) {
     for protocol in [Protocol::A, Protocol::B] {
-        let ended = end(&rt, protocol, request(Command::Flush, false));
-        assert_eq!(rt; ended, (true, (RELEASED_AT, 0)));
+        let asked = asked_for(&rt, protocol, Command::Flush, false);
+        assert_eq!(rt; asked, (RELEASED_AT, 0));
     }
 }
 
 // So does a request with FUA; without, it waits for nothing.
 #[test]
 fn a_request_with_fua_waits_for_the_writes_before_it(rt: HostRuntime) {
-    let ended = end(&rt, Protocol::A, request(Command::WriteZeroes, true));
-    assert_eq!(rt; ended, (true, (RELEASED_AT, 0)));
-    let ended = end(&rt, Protocol::A, request(Command::WriteZeroes, false));
-    assert_eq!(rt; ended, (true, (0, 0)));
+    let asked = asked_for(&rt, Protocol::A, Command::WriteZeroes, true);
+    assert_eq!(rt; asked, (RELEASED_AT, 0));
+    let asked = asked_for(&rt, Protocol::A, Command::WriteZeroes, false);
+    assert_eq!(rt; asked, (0, 0));
 }
 
 // Under C the peer's disk has each write that is completed, so a FLUSH asks for none.
 #[test]
 fn a_flush_under_c_waits_for_no_write(rt: HostRuntime) {
-    let ended = end(&rt, Protocol::C, request(Command::Flush, false));
-    assert_eq!(rt; ended, (true, (0, 0)));
+    let asked = asked_for(&rt, Protocol::C, Command::Flush, false);
+    assert_eq!(rt; asked, (0, 0));
+}
+
+// FLUSHes that begin before the first of them ends share its round, so the device is asked as for one. A later FLUSH
+// waits for the writes that were accepted meanwhile, and asks once more.
+#[test]
+fn flushes_share_a_round(rt: HostRuntime) {
+    for protocol in [Protocol::A, Protocol::B] {
+        let device = LateDevice::new();
+        let requests = requests_under(&rt, protocol);
+        end_together(&rt, &requests, &device, (Command::Flush, false), 3);
+        assert_eq!(rt; device.asked(), (RELEASED_AT, 0));
+        end_together(&rt, &requests, &device, (Command::Flush, false), 1);
+        assert_eq!(rt; device.asked(), (RELEASED_AT + 1, 1));
+    }
+}
+
+// The writes of a request with FUA are completed as it ends, so a round that began before is none for it.
+#[test]
+fn a_request_with_fua_takes_no_earlier_round(rt: HostRuntime) {
+    let device = LateDevice::new();
+    let requests = requests_under(&rt, Protocol::A);
+    end_together(&rt, &requests, &device, (Command::WriteZeroes, true), 2);
+    assert_eq!(rt; device.asked(), (RELEASED_AT + 1, 1));
 }

@@ -1,14 +1,18 @@
-//! Tests of a server: clients over sockets, by bytes written out by hand; what a flush waits for; disks over image files; and the
-//! status page.
+//! Tests of a server: clients over sockets, by bytes written out by hand, also at its end; what a flush waits for; disks over
+//! image files; and the status page.
 #![tactic(auto)]
 
 #[cfg(test)]
 mod clients;
+#[cfg(test)]
+mod endings;
 #[cfg(test)]
 mod flushes;
 #[cfg(test)]
 mod images;
 #[cfg(test)]
 mod page;
+#[cfg(test)]
+mod slow_asker;
 #[cfg(test)]
 mod slow_reader;

@@ -18,10 +18,10 @@ use std::time::{Clock, Duration};
 use std::{fs, thread};
 
 /// Blocks of the images.
-const BLOCKS: usize = 8;
+pub(crate) const BLOCKS: usize = 8;
 
 /// The requests of the slow client, each for all blocks: their replies are 16 MiB, more than the sockets take.
-const READS: usize = 512;
+pub(crate) const READS: usize = 512;
 
 /// What the client beside it asks for in a turn, and gets: a write, a read and a flush.
 const TURNS: u32 = 10;
@@ -30,7 +30,7 @@ const TURNS: u32 = 10;
 const LIMIT_S: u64 = 5;
 
 // Connects to the server, and opens the export.
-fn open<R: Abort + Net<Stream = TcpStream> + Clock>(
+pub(crate) fn open<R: Abort + Net<Stream = TcpStream> + Clock>(
     rt: &R,
     alloc: Global,
     address: SocketAddr,
@@ -63,7 +63,7 @@ fn take_turn(rt: &impl Abort, alloc: Global, stream: &mut TcpStream) {
 }
 
 // Asks for all blocks, again and again, and reads no reply.
-fn ask_for_all(rt: &impl Abort, alloc: Global, stream: &mut TcpStream) {
+pub(crate) fn ask_for_all(rt: &impl Abort, alloc: Global, stream: &mut TcpStream) {
     let mut asked = Vec::new(alloc);
     for number in 0..READS {
         let read = ask(0, (number % 256) as u8, [0, 0], [0x80, 0]);
