@@ -122,11 +122,14 @@ fn write_disk<H: Files<File = File> + AllocGlobal>(
 }
 
 // Gives the file the owner, the group and the permissions of the image, the permissions last: a change of the owner takes
-// some of them away.
+// some of them away. A run that may not give the file away keeps it: its result is not to be lost for that.
 fn give_rights(file: &File, image: &Metadata) -> io::Result<()> {
     let made = file.metadata()?;
     if (made.uid(), made.gid()) != (image.uid(), image.gid()) {
-        fchown(file, Some(image.uid()), Some(image.gid()))?;
+        match fchown(file, Some(image.uid()), Some(image.gid())) {
+            Err(error) if error.kind() != ErrorKind::PermissionDenied => return Err(error),
+            _ => {}
+        }
     }
     file.set_permissions(image.permissions())
 }

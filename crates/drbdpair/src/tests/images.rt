@@ -79,6 +79,46 @@ fn a_link_to_an_image_is_followed(rt: HostRuntime) {
     fs::remove_dir(&rt, "linked").expect(&rt, "an empty folder");
 }
 
+/// Commands over images that cannot be used, and what each says of which one.
+const UNUSABLE: [(&str, &str, &str, &str); 6] = [
+    (
+        "run",
+        "used_image",
+        "free_image",
+        "used_image: the image is in use, by another process or under another path\n",
+    ),
+    (
+        "tcp",
+        "free_image",
+        "used_image",
+        "used_image: the image is in use, by another process or under another path\n",
+    ),
+    (
+        "run",
+        "free_image",
+        "./free_image",
+        "./free_image: the image is in use, by another process or under another path\n",
+    ),
+    (
+        "serve",
+        "used_image",
+        "free_image",
+        "used_image: the image is in use, by another process or under another path\n",
+    ),
+    (
+        "serve",
+        "empty_image",
+        "free_image",
+        "empty_image: an image has 1 to 262144 blocks of 4096 bytes\n",
+    ),
+    (
+        "serve",
+        "free_image",
+        "free_link",
+        "free_link: the image is in use, by another process or under another path\n",
+    ),
+];
+
 /// An image that is locked, is the local one under another path, or has no block, is refused, and both images stay as they
 /// were. Once it is free again it is used.
 #[test]
@@ -90,44 +130,7 @@ fn an_image_that_cannot_be_used_is_refused(rt: HostRuntime) {
     let other = OpenOptions::new().write(true).open(&rt, "used_image");
     let other = other.expect(&rt, "an image");
     assert!(rt; other.try_lock().is_ok());
-    for (command, local, peer, line) in [
-        (
-            "run",
-            "used_image",
-            "free_image",
-            "used_image: the image is in use, by another process or under another path\n",
-        ),
-        (
-            "tcp",
-            "free_image",
-            "used_image",
-            "used_image: the image is in use, by another process or under another path\n",
-        ),
-        (
-            "run",
-            "free_image",
-            "./free_image",
-            "./free_image: the image is in use, by another process or under another path\n",
-        ),
-        (
-            "serve",
-            "used_image",
-            "free_image",
-            "used_image: the image is in use, by another process or under another path\n",
-        ),
-        (
-            "serve",
-            "empty_image",
-            "free_image",
-            "empty_image: an image has 1 to 262144 blocks of 4096 bytes\n",
-        ),
-        (
-            "serve",
-            "free_image",
-            "free_link",
-            "free_link: the image is in use, by another process or under another path\n",
-        ),
-    ] {
+    for (command, local, peer, line) in UNUSABLE {
         let words = ["drbdpair", command, "--local", local, "--peer", peer];
         let outcome = outcome_of(&rt, &words, "");
         assert_eq!(rt; (outcome.status, outcome.written.is_empty()), (1, true));
@@ -225,29 +228,7 @@ fn what_is_beside_an_image_is_refused(rt: HostRuntime) {
     }
     symlink(&rt, "beside_precious", "beside_b.local-new").expect(&rt, "a link");
     symlink(&rt, "no/such/file", "beside_c.peer-new").expect(&rt, "a link");
-    for (local, peer, line) in [
-        ("beside_c", "beside_a", "beside_a cannot be saved, as "),
-        (
-            "beside_b",
-            "beside_a.peer-new",
-            "beside_b cannot be saved, as ",
-        ),
-        (
-            "beside_a.peer-new",
-            "beside_a",
-            "beside_a cannot be saved, as ",
-        ),
-        (
-            "beside_a",
-            "beside_a.local-new",
-            "beside_a cannot be saved, as ",
-        ),
-        (
-            "beside_precious",
-            "beside_c",
-            "beside_c cannot be saved, as ",
-        ),
-    ] {
+    for (local, peer, line) in OCCUPIED {
         let words = ["drbdpair", "run", "--local", local, "--peer", peer];
         let outcome = outcome_of(&rt, &words, "");
         assert_eq!(rt; (outcome.status, outcome.written.is_empty()), (1, true));
@@ -263,6 +244,31 @@ fn what_is_beside_an_image_is_refused(rt: HostRuntime) {
         fs::remove_file(&rt, name).expect(&rt, "a link");
     }
 }
+
+/// Pairs of images, beside one of which something has the name of the file that it would be saved to, and what is said of it.
+const OCCUPIED: [(&str, &str, &str); 5] = [
+    ("beside_c", "beside_a", "beside_a cannot be saved, as "),
+    (
+        "beside_b",
+        "beside_a.peer-new",
+        "beside_b cannot be saved, as ",
+    ),
+    (
+        "beside_a.peer-new",
+        "beside_a",
+        "beside_a cannot be saved, as ",
+    ),
+    (
+        "beside_a",
+        "beside_a.local-new",
+        "beside_a cannot be saved, as ",
+    ),
+    (
+        "beside_precious",
+        "beside_c",
+        "beside_c cannot be saved, as ",
+    ),
+];
 
 /// Images, and files that have names of those beside them, each with the byte that it is filled with.
 const FILES_BESIDE: [(&str, u8); 6] = [
