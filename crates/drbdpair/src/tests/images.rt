@@ -160,8 +160,7 @@ fn is_written(rt: &impl Abort, image: &[u8]) {
 fn a_saved_image_keeps_its_owner(rt: HostRuntime) {
     put_image(&rt, "owned_image", 0, 32_768);
     let _ = chown(&rt, "owned_image", Some(1), Some(2));
-    // A change of the owner takes the bits above 0o777.
-    let permissions = Permissions::from_mode(0o4711);
+    let permissions = Permissions::from_mode(0o640);
     fs::set_permissions(&rt, "owned_image", permissions).expect(&rt, "permissions");
     let before = fs::metadata(&rt, "owned_image").expect(&rt, "an image");
     let words = ["drbdpair", "run", "--writers", "1", "--peer", "owned_image"];
