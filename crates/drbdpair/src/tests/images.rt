@@ -79,7 +79,7 @@ fn a_link_to_an_image_is_followed(rt: HostRuntime) {
     fs::remove_dir(&rt, "linked").expect(&rt, "an empty folder");
 }
 
-/// Commands over images that cannot be used, and what each says of which one.
+/// Commands over images that cannot be used, each with its message.
 const UNUSABLE: [(&str, &str, &str, &str); 6] = [
     (
         "run",
@@ -244,7 +244,7 @@ fn what_is_beside_an_image_is_refused(rt: HostRuntime) {
     }
 }
 
-/// Pairs of images, beside one of which something has the name of the file that it would be saved to, and what is said of it.
+/// Pairs of images that cannot be saved, since a file beside one is in the way, each with the start of the message.
 const OCCUPIED: [(&str, &str, &str); 5] = [
     ("beside_c", "beside_a", "beside_a cannot be saved, as "),
     (
