@@ -11,13 +11,13 @@ use Rattle.activitylog.proofs.Entries.{active-lookup, active-remove, active-remo
 -- by the answer, whether the extent was active
 pub when_known : (o : Option ℕ) (r : Bool) (P : Type 0) (Q : ℕ → Type 0) → MatchOption o ((r ≡ false) × P) (λ w. (r ≡ true) × Q w) → r ≡ true
     → (w : ℕ) × (o ≡ Some w) × Q w
-when_known None r P Q told is = absurd (let no = told.0 in cc)
-when_known (Some w) r P Q told is = (w, refl, told.1)
+when_known None r P Q returned is = absurd (let no = returned.0 in cc)
+when_known (Some w) r P Q returned is = (w, refl, returned.1)
 
 pub when_unknown : (o : Option ℕ) (r : Bool) (P : Type 0) (Q : ℕ → Type 0) → MatchOption o ((r ≡ false) × P) (λ w. (r ≡ true) × Q w) → r ≡ false
     → (o ≡ None) × P
-when_unknown None r P Q told is = (refl, told.1)
-when_unknown (Some w) r P Q told is = absurd (let yes = told.0 in cc)
+when_unknown None r P Q returned is = (refl, returned.1)
+when_unknown (Some w) r P Q returned is = absurd (let yes = returned.0 in cc)
 
 abbrev pub state : ℕ → List (ℕ × ℕ) → ActivityState
 state slots es = record { slots = slots; active = active_of es }

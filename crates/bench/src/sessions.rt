@@ -37,7 +37,7 @@ pub(crate) fn measure_all<R: Runtime + Net<Listener = TcpListener, Stream = TcpS
                     rest: Duration::from_secs(0),
                 };
                 let report = run::run(rt, host.alloc(), plan)?;
-                tell(host, plan, &report)?;
+                print_report(host, plan, &report)?;
             }
         }
     }
@@ -63,7 +63,7 @@ pub(crate) fn idle<R: Runtime + Net<Listener = TcpListener, Stream = TcpStream>>
 }
 
 // Prints what was done in one line, and how fast it was in another.
-fn tell(host: &HostRuntime, plan: Plan, report: &Report) -> anyhow::Result<()> {
+fn print_report(host: &HostRuntime, plan: Plan, report: &Report) -> anyhow::Result<()> {
     println!(host;
         "session over {}, protocol {:?}, {} writers: {} receipts",
         plan.path, plan.protocol, plan.writers, report.receipts

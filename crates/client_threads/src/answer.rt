@@ -3,6 +3,7 @@ use crate::client::Client;
 use crate::places::places_of;
 use crate::request::Job;
 use crate::service::Service;
+use crate::storing::Unstored;
 use halves::Device;
 use nbd::Command;
 use primary::Receipt;
@@ -28,8 +29,9 @@ struct Pending {
 struct Batch {
     // Those that do not wait for stable storage.
     quick: Vec<Pending>,
-    // Those that do.
+    // Those that do, and those of them that have ended.
     syncing: Vec<Pending>,
+    unstored: Vec<Unstored>,
     // The clients whose replies are held.
     answered: Vec<Arc<Client, Global>>,
 }
@@ -40,6 +42,7 @@ impl Batch {
         Ok(Batch {
             quick: Vec::with_capacity(alloc, TOGETHER)?,
             syncing: Vec::with_capacity(alloc, TOGETHER)?,
+            unstored: Vec::with_capacity(alloc, TOGETHER)?,
             answered: Vec::with_capacity(alloc, TOGETHER)?,
         })
     }
@@ -55,8 +58,9 @@ impl Batch {
     }
 }
 
-/// Does a request and those that already wait behind it: begins all of them, then ends one after another, those that wait
-/// for stable storage last, and sends their replies. Appends the receipts of their writes.
+/// Does a request and those that already wait behind it: begins all of them, then ends one after another, and sends their
+/// replies. Those that wait for stable storage come last, or are left to a thread that has others stored. Appends the receipts of
+/// their writes.
 pub(crate) fn answer<R: Wait + Clock>(
     rt: &R,
     service: &Service,
@@ -66,7 +70,8 @@ pub(crate) fn answer<R: Wait + Clock>(
 ) {
     let first = begin(service, device, job);
     let Ok(mut batch) = Batch::new(service.alloc) else {
-        end(rt, service, device, first, receipts).send_held(rt);
+        let ended = end(service, device, first, receipts);
+        store(rt, service, device, ended).send_held(rt);
         return;
     };
     batch.put(first);
@@ -83,7 +88,8 @@ pub(crate) fn answer<R: Wait + Clock>(
     end_all(rt, service, device, batch, receipts);
 }
 
-// Ends the requests of a batch. Before each that waits for stable storage, sends the replies that are there.
+// Ends the requests of a batch, and sends their replies. Those that wait for stable storage have all ended before the first of
+// them is stored, so that one sync does for them.
 fn end_all<R: Wait + Clock>(
     rt: &R,
     service: &Service,
@@ -94,14 +100,54 @@ fn end_all<R: Wait + Clock>(
     let Batch {
         quick,
         syncing,
+        mut unstored,
         mut answered,
     } = batch;
     for pending in quick {
-        let _ = answered.push(end(rt, service, device, pending, receipts));
+        let ended = end(service, device, pending, receipts);
+        let _ = answered.push(store(rt, service, device, ended));
     }
+    send_all(rt, &mut answered);
     for pending in syncing {
-        send_all(rt, &mut answered);
-        let _ = answered.push(end(rt, service, device, pending, receipts));
+        let _ = unstored.push(end(service, device, pending, receipts));
+    }
+    if unstored.is_empty() {
+        return;
+    }
+    if service.storing.put(rt, &mut unstored).is_ok() {
+        store_waiting(rt, service, device);
+    } else {
+        store_all(rt, service, device, unstored);
+    }
+}
+
+// Has the requests of all threads stored that wait for it, unless another thread does.
+fn store_waiting<R: Wait + Clock>(rt: &R, service: &Service, device: &impl Device) {
+    for _ in rt.forever() {
+        let Some(waiting) = service.storing.begin(rt) else {
+            break;
+        };
+        store_all(rt, service, device, waiting);
+        service.storing.end(rt);
+    }
+}
+
+// Has requests stored, and sends their replies. They had all ended before, so the sync of the first does for the others.
+fn store_all<R: Wait + Clock>(
+    rt: &R,
+    service: &Service,
+    device: &impl Device,
+    unstored: Vec<Unstored>,
+) {
+    let mut answered = Vec::new(service.alloc);
+    let is_room = answered.try_reserve(unstored.len()).is_ok();
+    for ended in unstored {
+        let client = store(rt, service, device, ended);
+        if is_room {
+            let _ = answered.push(client);
+        } else {
+            client.send_held(rt);
+        }
     }
     send_all(rt, &mut answered);
 }
@@ -117,20 +163,33 @@ fn begin(service: &Service, device: &impl Device, job: Job) -> Pending {
     }
 }
 
-// Ends a request, and holds its reply at its client's connection.
-fn end<R: Wait + Clock>(
-    rt: &R,
+// Ends a request.
+fn end(
     service: &Service,
     device: &impl Device,
     pending: Pending,
     receipts: &mut Vec<Receipt>,
-) -> Arc<Client, Global> {
+) -> Unstored {
     let Pending {
         under_way,
         client,
         ..
     } = pending;
-    let (request, done) = service.requests.end(rt, device, under_way, receipts);
+    Unstored {
+        ended: service.requests.end(device, under_way, receipts),
+        client,
+    }
+}
+
+// Has a request stored that asks for it, and holds its reply at its client's connection.
+fn store<R: Wait + Clock>(
+    rt: &R,
+    service: &Service,
+    device: &impl Device,
+    unstored: Unstored,
+) -> Arc<Client, Global> {
+    let Unstored { ended, client } = unstored;
+    let (request, done) = service.requests.store(rt, device, ended);
     let places = places_of(&request);
     match done {
         Ok(data) => client.reply(rt, &request.reply(None), data, places),

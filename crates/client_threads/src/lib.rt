@@ -16,6 +16,7 @@ mod reports;
 mod request;
 mod service;
 mod standstill;
+mod storing;
 mod threads;
 mod timed_writer;
 mod waiter;

@@ -28,7 +28,7 @@ pub(crate) fn serve_page<R: Wait + Clock>(
         }
         match accepted {
             Ok((stream, _)) => {
-                let _ = tell(rt, service, keys, &stream);
+                let _ = answer_client(rt, service, keys, &stream);
             }
             Err(_) => thread::sleep(rt, Duration::from_millis(PAUSE_MS)),
         }
@@ -36,7 +36,7 @@ pub(crate) fn serve_page<R: Wait + Clock>(
 }
 
 // Answers one client.
-fn tell<R: Wait + Clock>(
+fn answer_client<R: Wait + Clock>(
     rt: &R,
     service: &Service,
     keys: RandomState,

@@ -6,7 +6,8 @@ use std::alloc::Global;
 use std::sync::Wait;
 use std::time::{Clock, Duration};
 
-/// How long the page waits for a report, in milliseconds. Between two sessions no thread gives one.
+/// How long the page waits for a report, in milliseconds. Between two sessions no thread gives one, and while a disk hangs the
+/// thread that does waits for its node.
 const PATIENCE_MS: u64 = 2000;
 
 /// A question and its answer: the page's thread asks, and the thread that keeps the link up answers, since it knows the

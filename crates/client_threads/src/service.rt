@@ -1,6 +1,7 @@
 //! The state that all threads of a server share.
 use crate::reports::Reports;
 use crate::request::Job;
+use crate::storing::Storing;
 use blocks::{Protocol, Refusal};
 use crossbeam_channel::{Receiver, Sender, bounded};
 use requests::Requests;
@@ -30,6 +31,7 @@ pub struct Service {
     pub(crate) jobs: Sender<Job>,
     pub(crate) queue: Receiver<Job>,
     pub(crate) reports: Reports,
+    pub(crate) storing: Storing,
     /// Does what clients ask of the device.
     pub requests: Requests,
     stop: AtomicBool,
@@ -54,6 +56,7 @@ impl Service {
             jobs,
             queue,
             reports,
+            storing: Storing::new(alloc),
             requests,
             stop: AtomicBool::new(false),
             clients: AtomicU32::new(0),

@@ -74,8 +74,8 @@ fn start_page<H: Runtime + RandomSource>(
         Ok(keys) => keys,
         Err(error) => return Err(Unstarted::NoKeys(error)),
     };
-    let telling = Arc::try_clone(service)?;
-    if thread::spawn(&rt, move || serve_page(&rt, &telling, keys, &page.listener)).is_err() {
+    let service = Arc::try_clone(service)?;
+    if thread::spawn(&rt, move || serve_page(&rt, &service, keys, &page.listener)).is_err() {
         return Err(Unstarted::Unthreaded);
     }
     Ok(())

@@ -9,7 +9,7 @@ use std::io::Write;
 pub enum Fault<'a> {
     /// They ask for help, which is then in the error, or they are wrong.
     Words(Error),
-    /// A server is to listen at this, which is no address with a port.
+    /// A server is to listen at this, which is no numeric address with a port.
     Address(&'a str),
     /// Both disks are to have this image.
     SharedImage(&'a str),
@@ -19,11 +19,14 @@ impl Fault<'_> {
     /// Prints help on `out` if it was asked for, and else what is wrong with the words on `err`. Returns how the
     /// program then ends: `Done` for help, `Failed` if it could not be written or there was no memory, and else
     /// `Misused`.
-    pub fn tell<W: Write, E: Write>(&self, out: &mut W, err: &mut E) -> Status {
+    pub fn print<W: Write, E: Write>(&self, out: &mut W, err: &mut E) -> Status {
         match self {
-            Fault::Words(error) => tell_words(error, out, err),
+            Fault::Words(error) => print_words(error, out, err),
             Fault::Address(address) => {
-                let _ = writeln!(err, "error: {address} is no address with a port");
+                let _ = writeln!(
+                    err,
+                    "error: {address} is no numeric address with a port, as 127.0.0.1:10809 is"
+                );
                 Status::Misused
             }
             Fault::SharedImage(image) => {
@@ -34,7 +37,7 @@ impl Fault<'_> {
     }
 }
 
-fn tell_words<W: Write, E: Write>(error: &Error, out: &mut W, err: &mut E) -> Status {
+fn print_words<W: Write, E: Write>(error: &Error, out: &mut W, err: &mut E) -> Status {
     if !error.use_stderr() {
         return match write!(out, "{error}") {
             Ok(()) => Status::Done,

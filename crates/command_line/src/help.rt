@@ -158,32 +158,37 @@ three lines; then no image is changed. R is one of these:
 
 /// What a server does, and what it prints.
 const SERVE: &str = "\
-The server mirrors two image files of the same length, and serves them as one
-export to clients of the network block device protocol: qemu, nbd-client,
-nbdcopy, fio. At most 256 clients may be connected at a time. Each write goes to
-both images, to the peer's over a link, and is answered once it is completed as
-the protocol says:
+The server mirrors two image files of the same length, 4 KiB to 1 GiB in whole
+blocks of 4 KiB, and serves them as one export to clients of the network block
+device protocol: qemu, nbd-client, nbdcopy, fio. At most 256 clients may be
+connected at a time. Each write goes to both images, to the peer's over a link,
+and is answered once it is completed as the protocol says:
   A                    once it is in the local image and was sent
   B                    once it is in the local image and the peer has it
   C                    once it is in both images
 A flush has the system put both images on stable storage. If the images differ
 at the start, the peer's is made like the local one. Both lie in memory, too:
-the server takes twice the device's size. Both images are locked meanwhile: one
-that another server or a run uses is refused.
+the server takes twice the device's size, and some 110 MB. Both images are
+locked meanwhile: one that another server or a run uses is refused.
 
   drbdpair serve --local a.img --peer b.img
   nbdcopy disk.img nbd://127.0.0.1
 
 A line quit on standard input ends the server: it waits until its clients are
 answered and the disks are alike, or until no block was copied for ten seconds,
-and prints three lines:
+puts both images on stable storage, and prints three lines:
   completed X          ranges of at most 32 blocks that clients wrote
   settled X            those of them that the primary's journal confirms
   unmarked 0           blocks that differ and have no mark
 If blocks could not be copied, as with a disk that fails, a line on standard
-error says how many, and the status is 1. The end of standard input does not end
-it. If it is killed, both images have each write that was answered under C while
-the link was up.
+error says how many, and the status is 1; so it is if a flush or the end could
+not put an image on stable storage. The end of standard input does not end it.
+If it is killed, both images have each write that was answered under C while the
+link was up. In the background it reads its orders from a pipe:
+
+  mkfifo orders
+  drbdpair serve --local a.img --peer b.img <> orders &
+  echo quit > orders
 
 With --cut-every S the link is cut every S seconds, and reconnected: the blocks
 that clients write meanwhile are marked, and copied at the next connection.

@@ -45,7 +45,7 @@ impl HelpTexts {
 /// Reads the program's words; the first one is its name. `progress` says whether a long run shows its progress.
 ///
 /// `Fault::Words` if they ask for help or are wrong, `Fault::SharedImage` if both disks are to have the same image,
-/// `Fault::Address` if a server is to listen at no address with a port.
+/// `Fault::Address` if a server is to listen at no numeric address with a port.
 pub fn parse<'a, S: AsStr>(
     alloc: Global,
     helps: &'a HelpTexts,

@@ -2,7 +2,7 @@
 use blocks::{MAX_BLOCKS, Protocol, Settings};
 use clap::builder::ValueParser;
 use clap::{Arg, ArgAction, ArgMatches, Command, Error, value_parser};
-use options::{Images, Path, RunOptions, Telling};
+use options::{Images, LiveOutput, Path, RunOptions};
 use std::alloc::Global;
 
 const RUN_ABOUT: &str = "Runs a session of writer threads, and prints what it came to";
@@ -79,7 +79,7 @@ pub(crate) fn options(words: &ArgMatches<'_>, path: Path, progress: bool) -> Run
         writes: words.get_one("writes").unwrap_or(10),
         cuts,
         path,
-        telling: Telling {
+        live: LiveOutput {
             status: words.get_flag("status"),
             progress,
         },

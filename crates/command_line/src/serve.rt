@@ -46,7 +46,7 @@ pub(crate) fn serve<'a>(alloc: Global, help: &'a str) -> Result<Command<'a>, Err
     Ok(command)
 }
 
-/// Returns what the server is to do; `None` if it is to listen at something that is no address with a port.
+/// Returns what the server is to do; `None` if it is to listen at something that is no numeric address with a port.
 pub(crate) fn options<'a>(words: &ArgMatches<'a>) -> Option<ServeOptions<'a>> {
     let Ok(listen) = SocketAddr::parse_ascii(listen(words).as_bytes()) else {
         return None;

@@ -39,7 +39,7 @@ pub fn run_on<
     };
     match parse(alloc, &helps, words, err.is_terminal()) {
         Ok(order) => carry_out(rt, &order, input, out, err),
-        Err(fault) => fault.tell(out, err).code(),
+        Err(fault) => fault.print(out, err).code(),
     }
 }
 

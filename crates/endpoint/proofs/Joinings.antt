@@ -55,8 +55,8 @@ received_count : (n : ℕ) (taken : List (List ℕ)) → length (received_from n
 received_count n [] = refl
 received_count n (frame ∷ taken) = ap suc (received_count (suc n) taken)
 
-pub told : (o : OutEnd) (i : InEnd) → AllByRecursion IsSpelled o.sent → PacketsFollow (outgoing o) (incoming i)
-told o i spelled = record { begins = begins i.taken o.sent spelled; pushed = meant_count o.sent spelled; taken = received_count 0 i.taken }
+pub returned : (o : OutEnd) (i : InEnd) → AllByRecursion IsSpelled o.sent → PacketsFollow (outgoing o) (incoming i)
+returned o i spelled = record { begins = begins i.taken o.sent spelled; pushed = meant_count o.sent spelled; taken = received_count 0 i.taken }
 
 -- an item of a mapped list
 item_of_map : {X Y : Type 0} (f : X → Y) (xs : List X) (i : ℕ) (y : Y) → slice_get (map f xs) i ≡ Some y → (x : X) × (slice_get xs i ≡ Some x) × (y ≡ f x)

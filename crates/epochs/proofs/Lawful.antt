@@ -5,9 +5,10 @@ use Rattle.std.specs.Prelude.{All, if◌then◌else◌}
 use Rattle.std.proofs.lemmas.List.Elements.{All-cons, All-nil}
 use Rattle.std.proofs.lemmas.Bool.Decides.{nat_tests}
 use Rattle.epochs.specs.Epochs.{EpochsState, is_in_last, ending, with_write, with_resync, uncounted, ended_if}
-use Rattle.epochs.specs.Streams.{WriteItem, ResyncItem, BarrierItem, IdentifiersItem, Call, PlaceWrite, PlaceResync, Uuids, Completed, Entry, Stands, tell}
+use Rattle.epochs.specs.Streams.{WriteItem, ResyncItem, BarrierItem, IdentifiersItem, Call, PlaceWrite, PlaceResync, Uuids, Completed, Entry, Stands}
+use Rattle.epochs.specs.Streams.{with_completion}
 use Rattle.epochs.specs.Streams.{is_done, with_barrier, with_item, made, highest, CallsRise, last_epoch, writes_of, barriers_of, IsLawful, StreamsAreLawful}
-use Rattle.epochs.proofs.Told.{length-tell, writes-tell, barriers-tell, last-tell, last_writes-tell, lawful-tell}
+use Rattle.epochs.proofs.Completions.{length-completion, writes-completion, barriers-completion, last-completion, last_writes-completion, lawful-completion}
 
 -- no number is below this one
 abbrev AtLeast : ℕ → List ℕ → Type 0
@@ -27,7 +28,7 @@ NoResync (Stands ResyncItem place done ∷ es) = ⊥
 NoResync (Stands (BarrierItem number) place done ∷ es) = NoResync es
 NoResync (Stands IdentifiersItem place done ∷ es) = NoResync es
 
--- of no entry was completion told
+-- of no entry was completion completed
 abbrev NoneDone : List Entry → Type 0
 NoneDone [] = Unit {0}
 NoneDone (e ∷ es) = (is_done e ≡ false) × NoneDone es
@@ -158,7 +159,7 @@ ending_ties most last s stream ties = record {
   lawful = (record { placed = tt; number = omega (arith, ties.ended); short = omega arith }, ties.lawful);
 }
 
--- The epoch ends or goes on; where it goes on, it is not full, and completion was told of none of its items.
+-- The epoch ends or goes on; where it goes on, it is not full, and completion was completed of none of its items.
 ended_if_holds : (most last : ℕ) (over : Bool) (s : EpochsState) (stream : List Entry) → 0 < most → Ties most last s stream
     → (over ≡ false → (s.size < most) × NoneDone (last_epoch stream))
     → Holds most last (ended_if over s).1 (with_barrier (ended_if over s).0 stream)
@@ -167,28 +168,28 @@ ended_if_holds most last true s stream positive ties on =
 ended_if_holds most last false s stream positive ties on =
     record { ties = ties; goes_on = (on refl).0; none_done = (on refl).1 }
 
-no_resync-tell : (told : ℕ) (es : List Entry) → NoResync es → NoResync (map (tell told) es)
-no_resync-tell told [] none = tt
-no_resync-tell told (Stands (WriteItem number) place done ∷ es) none = no_resync-tell told es none
-no_resync-tell told (Stands ResyncItem place done ∷ es) none = none
-no_resync-tell told (Stands (BarrierItem number) place done ∷ es) none = no_resync-tell told es none
-no_resync-tell told (Stands IdentifiersItem place done ∷ es) none = no_resync-tell told es none
+no_resync-completion : (completed : ℕ) (es : List Entry) → NoResync es → NoResync (map (with_completion completed) es)
+no_resync-completion completed [] none = tt
+no_resync-completion completed (Stands (WriteItem number) place done ∷ es) none = no_resync-completion completed es none
+no_resync-completion completed (Stands ResyncItem place done ∷ es) none = none
+no_resync-completion completed (Stands (BarrierItem number) place done ∷ es) none = no_resync-completion completed es none
+no_resync-completion completed (Stands IdentifiersItem place done ∷ es) none = no_resync-completion completed es none
 
--- completion is told of an item
-told_ties : (most last told : ℕ) (s : EpochsState) (stream : List Entry) → Ties most last s stream
-    → Ties most last s (map (tell told) stream)
-told_ties most last told s stream ties = record {
+-- completion is completed of an item
+completion_ties : (most last completed : ℕ) (s : EpochsState) (stream : List Entry) → Ties most last s stream
+    → Ties most last s (map (with_completion completed) stream)
+completion_ties most last completed s stream ties = record {
   max_epoch = ties.max_epoch;
-  places = rw (length-tell told stream) ties.places;
-  ended = rw (barriers-tell told stream) ties.ended;
-  size = rw (last_writes-tell told stream) ties.size;
+  places = rw (length-completion completed stream) ties.places;
+  ended = rw (barriers-completion completed stream) ties.ended;
+  size = rw (last_writes-completion completed stream) ties.size;
   short = ties.short;
-  first = rw (last_writes-tell told stream) ties.first;
-  some = rw (last_writes-tell told stream) ties.some;
+  first = rw (last_writes-completion completed stream) ties.first;
+  some = rw (last_writes-completion completed stream) ties.some;
   begun = ties.begun;
-  highest = rw (writes-tell told stream) ties.highest;
-  no_resync = λ none. rw (last-tell told stream) (no_resync-tell told (last_epoch stream) (ties.no_resync none));
-  lawful = lawful-tell told most stream ties.lawful;
+  highest = rw (writes-completion completed stream) ties.highest;
+  no_resync = λ none. rw (last-completion completed stream) (no_resync-completion completed (last_epoch stream) (ties.no_resync none));
+  lawful = lawful-completion completed most stream ties.lawful;
 }
 
 or_false : (a b : Bool) → a ≡ false → b ≡ false → (a || b) ≡ false
@@ -198,45 +199,53 @@ or_false false b is = λ other. other
 other_number : (a b : ℕ) → a < b → (a == b) ≡ false
 other_number a b less = grind (arith, nat_tests)
 
--- Where a write is below the first of the last epoch, telling of it tells of no item there.
-write_told : (told first : ℕ) (es : List Entry) → 0 < told → told < first → AtLeast first (writes_of es) → NoneDone es → NoneDone (map (tell told) es)
-write_told told first [] positive under least none = tt
-write_told told first (Stands (WriteItem number) place done ∷ es) positive under least none =
-    (or_false (told == number) done (other_number told number (omega (arith, least.0))) none.0, write_told told first es positive under least.1 none.1)
-write_told told first (Stands ResyncItem place done ∷ es) positive under least none =
-    (or_false (told == 0) done (grind (arith, nat_tests)) none.0, write_told told first es positive under least none.1)
-write_told told first (Stands (BarrierItem number) place done ∷ es) positive under least none = (none.0, write_told told first es positive under least none.1)
-write_told told first (Stands IdentifiersItem place done ∷ es) positive under least none = (none.0, write_told told first es positive under least none.1)
+-- The completion of a write below the first of the last epoch completes no item there.
+write_completed : (completed first : ℕ) (es : List Entry) → 0 < completed → completed < first → AtLeast first (writes_of es) → NoneDone es
+    → NoneDone (map (with_completion completed) es)
+write_completed completed first [] positive under least none = tt
+write_completed completed first (Stands (WriteItem number) place done ∷ es) positive under least none = (
+  or_false (completed == number) done (other_number completed number (omega (arith, least.0))) none.0,
+  write_completed completed first es positive under least.1 none.1,
+)
+write_completed completed first (Stands ResyncItem place done ∷ es) positive under least none =
+    (or_false (completed == 0) done (grind (arith, nat_tests)) none.0, write_completed completed first es positive under least none.1)
+write_completed completed first (Stands (BarrierItem number) place done ∷ es) positive under least none =
+    (none.0, write_completed completed first es positive under least none.1)
+write_completed completed first (Stands IdentifiersItem place done ∷ es) positive under least none =
+    (none.0, write_completed completed first es positive under least none.1)
 
--- Where the last epoch has no write, telling of one tells of no item there.
-no_write_told : (told : ℕ) (es : List Entry) → 0 < told → length (writes_of es) ≡ 0 → NoneDone es → NoneDone (map (tell told) es)
-no_write_told told [] positive no_writes none = tt
-no_write_told told (Stands (WriteItem number) place done ∷ es) positive no_writes none = absurd (omega (arith, no_writes))
-no_write_told told (Stands ResyncItem place done ∷ es) positive no_writes none =
-    (or_false (told == 0) done (grind (arith, nat_tests)) none.0, no_write_told told es positive no_writes none.1)
-no_write_told told (Stands (BarrierItem number) place done ∷ es) positive no_writes none = (none.0, no_write_told told es positive no_writes none.1)
-no_write_told told (Stands IdentifiersItem place done ∷ es) positive no_writes none = (none.0, no_write_told told es positive no_writes none.1)
+-- If the last epoch has no write, the completion of one completes no item there.
+no_write_completed : (completed : ℕ) (es : List Entry) → 0 < completed → length (writes_of es) ≡ 0 → NoneDone es → NoneDone (map (with_completion completed) es)
+no_write_completed completed [] positive no_writes none = tt
+no_write_completed completed (Stands (WriteItem number) place done ∷ es) positive no_writes none = absurd (omega (arith, no_writes))
+no_write_completed completed (Stands ResyncItem place done ∷ es) positive no_writes none =
+    (or_false (completed == 0) done (grind (arith, nat_tests)) none.0, no_write_completed completed es positive no_writes none.1)
+no_write_completed completed (Stands (BarrierItem number) place done ∷ es) positive no_writes none =
+    (none.0, no_write_completed completed es positive no_writes none.1)
+no_write_completed completed (Stands IdentifiersItem place done ∷ es) positive no_writes none =
+    (none.0, no_write_completed completed es positive no_writes none.1)
 
--- Where the last epoch has no resync item, telling of one tells of no item there.
-resync_told : (es : List Entry) → AtLeast 1 (writes_of es) → NoResync es → NoneDone es → NoneDone (map (tell 0) es)
-resync_told [] least no_resync none = tt
-resync_told (Stands (WriteItem number) place done ∷ es) least no_resync none =
-    (or_false (0 == number) done (other_number 0 number (omega (arith, least.0))) none.0, resync_told es least.1 no_resync none.1)
-resync_told (Stands ResyncItem place done ∷ es) least no_resync none = absurd no_resync
-resync_told (Stands (BarrierItem number) place done ∷ es) least no_resync none = (none.0, resync_told es least no_resync none.1)
-resync_told (Stands IdentifiersItem place done ∷ es) least no_resync none = (none.0, resync_told es least no_resync none.1)
+-- If the last epoch has no resync item, the completion of one completes no item there.
+resync_completed : (es : List Entry) → AtLeast 1 (writes_of es) → NoResync es → NoneDone es → NoneDone (map (with_completion 0) es)
+resync_completed [] least no_resync none = tt
+resync_completed (Stands (WriteItem number) place done ∷ es) least no_resync none =
+    (or_false (0 == number) done (other_number 0 number (omega (arith, least.0))) none.0, resync_completed es least.1 no_resync none.1)
+resync_completed (Stands ResyncItem place done ∷ es) least no_resync none = absurd no_resync
+resync_completed (Stands (BarrierItem number) place done ∷ es) least no_resync none = (none.0, resync_completed es least no_resync none.1)
+resync_completed (Stands IdentifiersItem place done ∷ es) least no_resync none = (none.0, resync_completed es least no_resync none.1)
 
-elsewhere_by : (size first told : ℕ) (es : List Entry) → size ≡ length (writes_of es) → AtLeast first (writes_of es) → NoneDone es → 0 < told
-    → (nat_lt 0 size && nat_le first told) ≡ false → NoneDone (map (tell told) es)
-elsewhere_by zero first told es is least none positive apart = no_write_told told es positive (sym is) none
-elsewhere_by (suc size) first told es is least none positive apart = write_told told first es positive (grind (arith, nat_tests)) least none
+elsewhere_by : (size first completed : ℕ) (es : List Entry) → size ≡ length (writes_of es) → AtLeast first (writes_of es) → NoneDone es → 0 < completed
+    → (nat_lt 0 size && nat_le first completed) ≡ false → NoneDone (map (with_completion completed) es)
+elsewhere_by zero first completed es is least none positive apart = no_write_completed completed es positive (sym is) none
+elsewhere_by (suc size) first completed es is least none positive apart = write_completed completed first es positive (grind (arith, nat_tests)) least none
 
--- What is not in the last epoch by the state is not told there.
-told_elsewhere : (most last told : ℕ) (s : EpochsState) (stream : List Entry) → Ties most last s stream → NoneDone (last_epoch stream)
-    → is_in_last told s ≡ false → NoneDone (map (tell told) (last_epoch stream))
-told_elsewhere most last zero s stream ties none elsewhere = resync_told (last_epoch stream) ties.some (ties.no_resync elsewhere) none
-told_elsewhere most last (suc told) s stream ties none elsewhere =
-    elsewhere_by s.size s.first (suc told) (last_epoch stream) ties.size ties.first none (omega arith) (rw (not_zero (suc told) (omega arith)) at elsewhere)
+-- What is not in the last epoch by the state is not completed there.
+completed_elsewhere : (most last completed : ℕ) (s : EpochsState) (stream : List Entry) → Ties most last s stream → NoneDone (last_epoch stream)
+    → is_in_last completed s ≡ false → NoneDone (map (with_completion completed) (last_epoch stream))
+completed_elsewhere most last zero s stream ties none elsewhere = resync_completed (last_epoch stream) ties.some (ties.no_resync elsewhere) none
+completed_elsewhere most last (suc completed) s stream ties none elsewhere =
+    elsewhere_by s.size s.first (suc completed) (last_epoch stream) ties.size ties.first none (omega arith)
+    (rw (not_zero (suc completed) (omega arith)) at elsewhere)
 
 not_full : (most size : ℕ) → nat_le most size ≡ false → size < most
 not_full most size is = grind (arith, nat_tests)
@@ -258,21 +267,21 @@ call_holds most PlaceResync before positive rise holds =
 call_holds most Uuids before positive rise holds =
     let m = made most before in
     record { ties = uncounted_ties most (highest before) m.state m.stream holds.ties; goes_on = holds.goes_on; none_done = (refl, holds.none_done) }
-call_holds most (Completed told) before positive rise holds =
+call_holds most (Completed completed) before positive rise holds =
     let m = made most before in
-    ended_if_holds most (highest before) (is_in_last told m.state) m.state (map (tell told) m.stream) positive
-    (told_ties most (highest before) told m.state m.stream holds.ties)
+    ended_if_holds most (highest before) (is_in_last completed m.state) m.state (map (with_completion completed) m.stream) positive
+    (completion_ties most (highest before) completed m.state m.stream holds.ties)
     (λ elsewhere. (
       holds.goes_on,
-      rw (last-tell told m.stream)
-          (told_elsewhere most (highest before) told m.state m.stream holds.ties holds.none_done elsewhere),
+      rw (last-completion completed m.stream)
+          (completed_elsewhere most (highest before) completed m.state m.stream holds.ties holds.none_done elsewhere),
     ))
 
 rises_before : (call : Call) (before : List Call) → CallsRise (call ∷ before) → CallsRise before
 rises_before (PlaceWrite number) before rise = rise.1
 rises_before PlaceResync before rise = rise
 rises_before Uuids before rise = rise
-rises_before (Completed told) before rise = rise
+rises_before (Completed completed) before rise = rise
 
 calls_hold : (most : ℕ) (calls : List Call) → 0 < most → CallsRise calls → Holds most (highest calls) (made most calls).state (made most calls).stream
 calls_hold most [] positive rise = record {

@@ -1,2 +1,2 @@
-mod Told
+mod Completions
 pub mod Lawful

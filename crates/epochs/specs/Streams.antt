@@ -28,14 +28,14 @@ pub record Made : Type 0 where
 
 -- whether the item is the write with this number, or for 0 a resync item
 abbrev pub is_numbered : ℕ → Item → Bool
-is_numbered told (WriteItem number) = told == number
-is_numbered told ResyncItem = told == 0
-is_numbered told (BarrierItem number) = false
-is_numbered told IdentifiersItem = false
+is_numbered completed (WriteItem number) = completed == number
+is_numbered completed ResyncItem = completed == 0
+is_numbered completed (BarrierItem number) = false
+is_numbered completed IdentifiersItem = false
 
 -- reports the item's completion
-abbrev pub tell : ℕ → Entry → Entry
-tell number (Stands item place done) = Stands item place (is_numbered number item || done)
+abbrev pub with_completion : ℕ → Entry → Entry
+with_completion number (Stands item place done) = Stands item place (is_numbered number item || done)
 
 -- whether its completion was reported
 abbrev pub is_done : Entry → Bool
@@ -63,7 +63,7 @@ called Uuids m =
     record { state = answer.1; stream = with_item IdentifiersItem answer.0 m.stream }
 called (Completed number) m =
     let answer = completing number m.state in
-    record { state = answer.1; stream = with_barrier answer.0 (map (tell number) m.stream) }
+    record { state = answer.1; stream = with_barrier answer.0 (map (with_completion number) m.stream) }
 
 -- the stream that calls make of an empty one, the last call first
 abbrev pub made : ℕ → List Call → Made

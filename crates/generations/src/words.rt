@@ -1,6 +1,6 @@
 //! The test of a word that is to begin a generation.
 ghost use Rattle.std.specs.Prelude.{◌≡◌, ◌↔◌, IsTrue, IsOk, IfErr};
-ghost use Rattle.generations.specs.Known.{IsFresh};
+ghost use Rattle.generations.specs.TupleWords.{IsFresh};
 ghost use Rattle.blocks.specs.Identifiers.{is_fresh, stands_in};
 ghost use Rattle.blocks.specs.declared.refusal.Refusal.TheVariants.{UsedIdentifier};
 

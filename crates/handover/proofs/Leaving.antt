@@ -6,7 +6,7 @@ use Rattle.std.proofs.lemmas.Bool.{and_parts}
 use Rattle.blocks.specs.SettingsRange.{IsInRange}
 use Rattle.blocks.specs.declared.settings.Settings.{Settings}
 use Rattle.handover.specs.Left.{JoinedRunsLeaveAnOpening}
-use Rattle.handover.proofs.Known.{current-above}
+use Rattle.handover.proofs.CurrentIdentifier.{current-above}
 use Rattle.handover.proofs.Sized.{local-disk, peer-disk}
 use Rattle.laws.proofs.Theorems.JoinedHeadline.{joined_headline}
 use Rattle.laws.proofs.Joining.Openings.{HasOpening, HasOpeningToo, kept-opening-primary, kept-opening-secondary}

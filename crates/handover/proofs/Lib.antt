@@ -1,5 +1,5 @@
 -- What two nodes leave when they are brought together at rest.
-pub mod Known
+pub mod CurrentIdentifier
 pub mod Sized
 pub mod Leaving
 pub mod Alike

@@ -17,13 +17,18 @@ impl ImageLock {
     /// lock. Does not wait, creates no file, and changes none.
     ///
     /// `InUse` comes if a lock on the image is kept, by another process or by this one, or if another file has taken its
-    /// place meanwhile; `Unread` if the system refuses to open, lock or find it.
+    /// place meanwhile; `NotAFile` if it is no regular file; `Unread` if the system refuses to open, lock or find it.
     pub fn take<H: Files<File = File>>(rt: &H, path: &str) -> Result<ImageLock, OpenFault> {
         let file = OpenOptions::new()
             .read(true)
             .write(true)
             .open(rt, path)
             .map_err(OpenFault::Unread)?;
+        match file.metadata() {
+            Ok(found) if found.is_file() => {}
+            Ok(_) => return Err(OpenFault::NotAFile),
+            Err(error) => return Err(OpenFault::Unread(error)),
+        }
         match file.try_lock() {
             Ok(()) => {}
             Err(TryLockError::WouldBlock) => return Err(OpenFault::InUse),
@@ -33,6 +38,15 @@ impl ImageLock {
             Ok(true) => Ok(ImageLock { file }),
             Ok(false) => Err(OpenFault::InUse),
             Err(error) => Err(OpenFault::Unread(error)),
+        }
+    }
+
+    /// Returns whether `path` still names the locked image, and this has as many bytes: the lock keeps nobody out who does not
+    /// take it.
+    pub fn is_kept<H: Files<File = File>>(&self, rt: &H, path: &str, bytes: u64) -> bool {
+        match self.file.metadata() {
+            Ok(found) => found.len() == bytes && is_at(rt, path, &self.file).unwrap_or(false),
+            Err(_) => false,
         }
     }
 }

@@ -11,6 +11,9 @@ pub enum OpenFault {
     /// The file cannot be opened for reading and writing, locked, or read to its end, or gives no second handle.
     #[error("the image could not be opened and read: {0}")]
     Unread(io::Error),
+    /// The file is a device, a pipe or the like.
+    #[error("an image is a regular file")]
+    NotAFile,
     /// A lock on the image is kept.
     #[error("the image is in use, by another process or under another path")]
     InUse,

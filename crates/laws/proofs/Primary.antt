@@ -11,7 +11,7 @@ pub mod LastOpen
 pub mod LawfulMoves
 pub mod Met
 pub mod Moves
-pub mod Seen
+pub mod WriteConnections
 pub mod Sendable
 pub mod StaysClosed
 pub mod Writes

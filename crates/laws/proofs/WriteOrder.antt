@@ -17,4 +17,4 @@ pub mod SpanRuns
 pub mod SpanSteps
 pub mod SpanSubmits
 pub mod Spans
-pub mod Turns
+pub mod CompletedEarlier

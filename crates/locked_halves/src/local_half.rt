@@ -85,7 +85,7 @@ impl<R: Wait + Drop, O: FrameOut + Drop, I: FrameIn + Drop, S: Store + Drop> Pri
 
     fn turn(&self, role: LocalRole) -> Turn {
         let turn = self.node.lock(&self.rt).turn(role);
-        if turn.told {
+        if turn.wakes_writers {
             self.writers.ring_all(&self.rt);
         }
         turn

@@ -30,10 +30,10 @@ only-out-of-memory sync loss h e none said = absurd (go (first_refusal (open_tes
     go None none said = absurd (cc)
 
 -- The same of the call.
-pub refused-for : (sync loss : ℕ) (h : PrimaryHistory) (asked result told : Result (Unit {0}) Refusal) (e : Refusal) (P : Refusal → Type 0)
+pub refused-for : (sync loss : ℕ) (h : PrimaryHistory) (asked result returned : Result (Unit {0}) Refusal) (e : Refusal) (P : Refusal → Type 0)
     → refusal_in asked ≡ first_refusal (open_tests h sync loss false) → asked ≡ Ok tt → result ≡ Err e
-    → replied plainly result ≡ (open_primary sync loss (is_out_of_memory result) h).0 → told ≡ Err e → IfErr told (λ e. (e ≡ NoMemory) ⊎ P e)
-refused-for sync loss h asked result told e P may is was said same =
+    → replied plainly result ≡ (open_primary sync loss (is_out_of_memory result) h).0 → returned ≡ Err e → IfErr returned (λ e. (e ≡ NoMemory) ⊎ P e)
+refused-for sync loss h asked result returned e P may is was said same =
     let none : first_refusal (open_tests h sync loss false) ≡ None = sym may ∙ ap refusal_in is in
     let out_of_memory : e ≡ NoMemory =
     only-out-of-memory sync loss h e none

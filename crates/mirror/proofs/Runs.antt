@@ -10,10 +10,10 @@ use Rattle.secondary.specs.State as peer
 use Rattle.secondary_protocol.specs.Node as peer_node
 use Rattle.mirror.specs.Runs.{LocalRuns, PeerRuns}
 
-pub local-step : (event : PrimaryEvent) (v w : local.PrimaryView) (told : Reply)
+pub local-step : (event : PrimaryEvent) (v w : local.PrimaryView) (returned : Reply)
     → ((h : PrimaryHistory) → (local_node.primary_step event h).1 ≡ primary_after event h)
-    → local_node.NodeSteps event (local.node v) told (local.node w) → LocalRuns v w
-local-step event v w told is steps h was = (event ∷ [], subst (local_node.NodeHas (local.node w)) (is h) (steps.after h was))
+    → local_node.NodeSteps event (local.node v) returned (local.node w) → LocalRuns v w
+local-step event v w returned is steps h was = (event ∷ [], subst (local_node.NodeHas (local.node w)) (is h) (steps.after h was))
 
 pub local-self : (v : local.PrimaryView) → LocalRuns v v
 local-self v h was = ([], was)
@@ -28,10 +28,10 @@ local-on u v w first second h was =
     let two = second (primary_run one.0 h) one.1 in
     (one.0 ++ two.0, subst (local_node.NodeHas (local.node w)) (local-both one.0 two.0 h) two.1)
 
-pub peer-step : (event : SecondaryEvent) (v w : peer.SecondaryView) (told : Reply)
+pub peer-step : (event : SecondaryEvent) (v w : peer.SecondaryView) (returned : Reply)
     → ((h : SecondaryHistory) → (peer_node.secondary_step event h).1 ≡ secondary_after event h)
-    → peer_node.NodeSteps event (peer.node v) told (peer.node w) → PeerRuns v w
-peer-step event v w told is steps h was = (event ∷ [], subst (peer_node.NodeHas (peer.node w)) (is h) (steps.after h was))
+    → peer_node.NodeSteps event (peer.node v) returned (peer.node w) → PeerRuns v w
+peer-step event v w returned is steps h was = (event ∷ [], subst (peer_node.NodeHas (peer.node w)) (is h) (steps.after h was))
 
 pub peer-self : (v : peer.SecondaryView) → PeerRuns v v
 peer-self v h was = ([], was)

@@ -1,4 +1,4 @@
 pub mod Lines
 pub mod Text
-pub mod Told
+pub mod StatusWords
 pub mod Words

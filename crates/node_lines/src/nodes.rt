@@ -11,7 +11,7 @@ ghost use Rattle.secondary.specs.State as there;
 ghost use Rattle.secondary_protocol.specs.Node as peer;
 ghost use Rattle.node_lines.specs.Lines.{primary_line_of, secondary_line_of};
 ghost use Rattle.node_lines.specs.Text.{primary_text, secondary_text};
-ghost use Rattle.node_lines.specs.Told.{primary_words_by, secondary_words_by};
+ghost use Rattle.node_lines.specs.StatusWords.{primary_words_by, secondary_words_by};
 ghost use Rattle.node_lines.specs.Words.{words_of};
 
 use crate::lines::{PrimaryLine, SecondaryLine};

@@ -6,5 +6,5 @@ mod run;
 mod serve;
 
 pub use plan::{byte_of_turn, reconnect_words};
-pub use run::{Images, Path, RunOptions, Telling};
+pub use run::{Images, LiveOutput, Path, RunOptions};
 pub use serve::ServeOptions;

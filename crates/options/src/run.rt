@@ -17,7 +17,7 @@ pub struct RunOptions {
     /// The path of the frames from one node to the other.
     pub path: Path,
     /// The output while the run goes on.
-    pub telling: Telling,
+    pub live: LiveOutput,
 }
 
 /// The path of a run's frames from one node to the other.
@@ -31,7 +31,7 @@ pub enum Path {
 
 /// The output of a run on standard error while it goes on.
 #[derive(Clone, Copy, Debug, PartialEq, Eq)]
-pub struct Telling {
+pub struct LiveOutput {
     /// The status lines of both nodes, once a second and at the end.
     pub status: bool,
     /// How many writes are completed, once a second, in one line that is overwritten: for a terminal.

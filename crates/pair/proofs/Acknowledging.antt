@@ -63,10 +63,10 @@ module _ (v : PairView) (a e : SecondaryView) (b c d : PrimaryView) (q back : Qu
     (one : TakesOne result b c) (c_is : c ≡ record b { core = c.core; incoming = c.incoming })
     (gave : GivenBack (Some back) c.incoming d.incoming) (d_is : d ≡ record c { incoming = d.incoming })
     (over : LaidBack back a.outgoing e.outgoing) (e_is : e ≡ record a { outgoing = e.outgoing })
-    (told : PacketsFollowIn (record { out = e.outgoing; inn = d.incoming })) where
+    (returned : PacketsFollowIn (record { out = e.outgoing; inn = d.incoming })) where
   both : Gave one.frame result (state v).back × IsDirection v.secondary.core.settings.link (record { out = e.outgoing; inn = d.incoming })
   both = gave-over v.secondary.core.settings.link (state v).back q back one.frame result a.outgoing e.outgoing b.incoming c.incoming d.incoming was.pair.back
-      given laid one.link gave over told
+      given laid one.link gave over returned
 
   before : local.node b ≡ local.node v.primary
   before = ap local.node b_is ∙ ap (λ (l : List Received). record (local.node v.primary) { taken = l }) (ap taken_of laid ∙ taken-laid q v.primary.incoming)

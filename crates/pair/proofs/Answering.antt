@@ -15,21 +15,21 @@ out-of-memory-alike R NoMemory = refl
 out-of-memory-alike R e = refl
 
 -- a call that is done
-pub ok-step : {R : Type 0} (tell : Result R Refusal → Reply) (event : Event) (p q : PairState) (result : Result R Refusal) (done : R) (said : Reply)
-    → result ≡ Ok done → tell (Ok done) ≡ said
-    → IsPairStep event (link.is_out_of_memory result) p (tell result) q → IsPairStep event false p said q
-ok-step {R} tell event p q result done said is told steps =
-    subst (λ (r : Reply). IsPairStep event false p r q) told
-    (subst (λ (r : Result R Refusal). IsPairStep event (link.is_out_of_memory r) p (tell r) q) is steps)
+pub ok-step : {R : Type 0} (as_reply : Result R Refusal → Reply) (event : Event) (p q : PairState) (result : Result R Refusal) (done : R) (said : Reply)
+    → result ≡ Ok done → as_reply (Ok done) ≡ said
+    → IsPairStep event (link.is_out_of_memory result) p (as_reply result) q → IsPairStep event false p said q
+ok-step {R} as_reply event p q result done said is returned steps =
+    subst (λ (r : Reply). IsPairStep event false p r q) returned
+    (subst (λ (r : Result R Refusal). IsPairStep event (link.is_out_of_memory r) p (as_reply r) q) is steps)
 
 -- one that is refused
-pub err-step : {R : Type 0} (tell : Result R Refusal → Reply) (event : Event) (p q : PairState) (result : Result R Refusal) (e : Refusal)
-    → tell (Err e) ≡ reply.Refused e → result ≡ Err e
-    → IsPairStep event (link.is_out_of_memory result) p (tell result) q → IsPairStep event (is_out_of_memory (reply.Refused e)) p (reply.Refused e) q
-err-step {R} tell event p q result e told is steps =
+pub err-step : {R : Type 0} (as_reply : Result R Refusal → Reply) (event : Event) (p q : PairState) (result : Result R Refusal) (e : Refusal)
+    → as_reply (Err e) ≡ reply.Refused e → result ≡ Err e
+    → IsPairStep event (link.is_out_of_memory result) p (as_reply result) q → IsPairStep event (is_out_of_memory (reply.Refused e)) p (reply.Refused e) q
+err-step {R} as_reply event p q result e returned is steps =
     subst (λ b. IsPairStep event b p (reply.Refused e) q) (out-of-memory-alike R e)
-    (subst (λ (r : Reply). IsPairStep event (link.is_out_of_memory {R = R} (Err e)) p r q) told
-    (subst (λ (r : Result R Refusal). IsPairStep event (link.is_out_of_memory r) p (tell r) q) is steps))
+    (subst (λ (r : Reply). IsPairStep event (link.is_out_of_memory {R = R} (Err e)) p r q) returned
+    (subst (λ (r : Result R Refusal). IsPairStep event (link.is_out_of_memory r) p (as_reply r) q) is steps))
 
 -- What is known of one answer.
 

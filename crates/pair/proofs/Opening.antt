@@ -54,8 +54,8 @@ module _ (v : PairView) (was : IsPairView v) (sync loss : ℕ) (is_open drained 
       → may ≡ Err e
       → (result : Result Done Refusal) → result ≡ Err e
       → IsPairStep (OpenEvent sync loss) (is_out_of_memory result) (state v) (replied reply.Ok result) (state v)
-  refused-step may asks e refused result told =
-      subst (λ (r : Result Done Refusal). IsPairStep (OpenEvent sync loss) (is_out_of_memory r) (state v) (replied reply.Ok r) (state v)) (sym told)
+  refused-step may asks e refused result returned =
+      subst (λ (r : Result Done Refusal). IsPairStep (OpenEvent sync loss) (is_out_of_memory r) (state v) (replied reply.Ok r) (state v)) (sym returned)
       (not-opened sync loss (is_out_of_memory {R = Done} (Err e)) (state v) e
       (λ h has. past-first sync loss (is_out_of_memory {R = Done} (Err e)) h (closed h has) (is-drained h has)
       ∙ may-not sync loss e h.primary (sym (ap refusal_in refused) ∙ asks h.primary has.primary)))
@@ -65,8 +65,8 @@ module _ (v : PairView) (was : IsPairView v) (sync loss : ℕ) (is_open drained 
       → ((h : PrimaryHistory) → primary.NodeHas (local.node v.primary) h → refusal_in may ≡ first_refusal (open_tests h sync loss false)) → may ≡ Ok tt
       → (result : Result Done Refusal) → result ≡ Err NoMemory
       → IsPairStep (OpenEvent sync loss) (is_out_of_memory result) (state v) (replied reply.Ok result) (state v)
-  short-step may asks fine result told =
-      subst (λ (r : Result Done Refusal). IsPairStep (OpenEvent sync loss) (is_out_of_memory r) (state v) (replied reply.Ok r) (state v)) (sym told)
+  short-step may asks fine result returned =
+      subst (λ (r : Result Done Refusal). IsPairStep (OpenEvent sync loss) (is_out_of_memory r) (state v) (replied reply.Ok r) (state v)) (sym returned)
       (not-opened sync loss true (state v) NoMemory (λ h has. past-first sync loss true h (closed h has) (is-drained h has)
       ∙ no-link sync loss h.primary (sym (asks h.primary has.primary) ∙ ap refusal_in fine)))
 
@@ -75,9 +75,9 @@ module _ (v : PairView) (was : IsPairView v) (sync loss : ℕ) (is_open drained 
       → primary.NodeSteps (Opens sync loss (is_out_of_memory got)) (local.node v.primary) (replied plainly got) (local.node w)
       → (result : Result Done Refusal) → result ≡ Err e
       → IsPairStep (OpenEvent sync loss) (is_out_of_memory result) (state v) (replied reply.Ok result) (state (record { primary = w; secondary = v.secondary }))
-  not-opened-step w got e refused same steps result told =
+  not-opened-step w got e refused same steps result returned =
       subst (λ (r : Result Done Refusal). IsPairStep (OpenEvent sync loss) (is_out_of_memory r) (state v) (replied reply.Ok r)
-      (state (record { primary = w; secondary = v.secondary }))) (sym told)
+      (state (record { primary = w; secondary = v.secondary }))) (sym returned)
       (subst (λ (x : PrimaryView). IsPairStep (OpenEvent sync loss) (is_out_of_memory {R = Done} (Err e)) (state v) (reply.Refused e)
       (state (record { primary = x; secondary = v.secondary }))) (sym same)
       (not-opened sync loss (is_out_of_memory {R = Done} (Err e)) (state v) e

@@ -63,10 +63,10 @@ module _ (v : PairView) (a e : PrimaryView) (b c d : SecondaryView) (q back : Qu
     (one : ReceivesOne result b c) (c_is : c ≡ record b { core = c.core; incoming = c.incoming })
     (gave : GivenBack (Some back) c.incoming d.incoming) (d_is : d ≡ record c { incoming = d.incoming })
     (over : LaidBack back a.outgoing e.outgoing) (e_is : e ≡ record a { outgoing = e.outgoing })
-    (told : PacketsFollowIn (record { out = e.outgoing; inn = d.incoming })) where
+    (returned : PacketsFollowIn (record { out = e.outgoing; inn = d.incoming })) where
   both : Gave one.frame result (state v).there × IsDirection v.primary.core.settings.link (record { out = e.outgoing; inn = d.incoming })
   both = gave-over v.primary.core.settings.link (state v).there q back one.frame result a.outgoing e.outgoing b.incoming c.incoming d.incoming was.pair.there
-      given laid one.link gave over told
+      given laid one.link gave over returned
 
   before : peer.node b ≡ peer.node v.secondary
   before = ap peer.node b_is ∙ ap (λ (l : List Received). record (peer.node v.secondary) { taken = l }) (ap taken_of laid ∙ taken-laid q v.secondary.incoming)

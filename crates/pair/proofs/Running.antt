@@ -25,7 +25,7 @@ pub none-ran : (events : List Event) (replies : List Reply) (len capacity : ℕ)
     → HasRun events 0 replies len capacity p p
 none-ran events replies len capacity p none empty room = record {
   ran = subst (λ (r : List Reply). Ran [] r (state p) (state p)) (sym none) (ran-none (state p));
-  told = ap length none;
+  returned = ap length none;
   room = room;
   size = empty;
 }
@@ -39,14 +39,14 @@ one-ran events count replies after len capacity later start now next event one w
   ran = subst (λ (l : List model.Event). Ran l after (state start) (state next)) (sym listed)
       (subst (λ (r : List Reply). Ran (map event_of (take count events) ++ event_of event ∷ []) r (state start) (state next)) (sym grown)
       (ran-more (map event_of (take count events)) replies (event_of event) one (state start) (state now) (state next) same was.ran step));
-  told = (let n = ap length grown in let m = length-append replies (one ∷ []) in let k = was.told in omega (arith, n, m, k));
+  returned = (let n = ap length grown in let m = length-append replies (one ∷ []) in let k = was.returned in omega (arith, n, m, k));
   room = was.room;
   size = (let k = was.size in omega (arith, more, k));
 }
   where
     same : length (map event_of (take count events)) ≡ length replies
     same = let a = length-mapped (take count events) in let b = length-take-le count events (omega (arith, within)) in let k =
-        was.told in omega (arith, a, b, k)
+        was.returned in omega (arith, a, b, k)
 
     counts : count + 1 ≡ suc count
     counts = omega arith

@@ -34,9 +34,9 @@ pub send-is : (v : PairView) (w : PrimaryView) (result : Result Done Refusal) �
     → primary.NodeSteps (Sends (has_room result) (is_out_of_memory result)) (local.node v.primary) (from_primary.replied reply.Ok result) (local.node w)
     → w.incoming ≡ v.primary.incoming → w.steady ≡ true → PacketsFollowIn (record { out = w.outgoing; inn = v.secondary.incoming })
     → IsPairView (record v { primary = w })
-send-is v w result was sends steps inn steady told =
+send-is v w result was sends steps inn steady returned =
     view-kept SendEvent (is_out_of_memory result) v (record v { primary = w }) (from_primary.replied reply.Ok result) was (send-step v w result was sends steps)
-    (sent-over v.primary.core.settings.link (state v).there result w.outgoing was.pair.there sends told)
+    (sent-over v.primary.core.settings.link (state v).there result w.outgoing was.pair.there sends returned)
     (subst (λ (i : Option PacketReceiverState). IsDirection v.secondary.core.settings.link (record { out = v.secondary.outgoing; inn = i }))
     (sym inn) was.pair.back)
     steady was.peer
@@ -54,10 +54,10 @@ pub answer-is : (v : PairView) (w : SecondaryView) (result : Result Done Refusal
     (peer.node w)
     → w.incoming ≡ v.secondary.incoming → w.steady ≡ true → PacketsFollowIn (record { out = w.outgoing; inn = v.primary.incoming })
     → IsPairView (record v { secondary = w })
-answer-is v w result was sends steps inn steady told =
+answer-is v w result was sends steps inn steady returned =
     view-kept AckOutEvent (is_out_of_memory result) v (record v { secondary = w }) (from_secondary.replied (λ done. done) result) was
     (answer-step v w result was sends steps)
     (subst (λ (i : Option PacketReceiverState). IsDirection v.primary.core.settings.link (record { out = v.primary.outgoing; inn = i }))
     (sym inn) was.pair.there)
-    (sent-over v.secondary.core.settings.link (state v).back result w.outgoing was.pair.back sends told)
+    (sent-over v.secondary.core.settings.link (state v).back result w.outgoing was.pair.back sends returned)
     was.local steady

@@ -10,6 +10,6 @@ use Rattle.pair.specs.State.{PairView, state}
 -- to all events.
 pub record HasRun (events : List Event) (count : ℕ) (replies : List Reply) (len capacity : ℕ) (start now : PairView) : Type 0 where
   pub ran : Ran (map event_of (take count events)) replies (state start) (state now)
-  pub told : length replies ≡ count
+  pub returned : length replies ≡ count
   pub room : length events ≤ capacity
   pub size : len ≡ count

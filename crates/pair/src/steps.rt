@@ -21,7 +21,7 @@ use bytes::Bytes;
 impl Pair {
     // Has the primary accept a write.
     fn submit(&mut self, first: u64, contents: &Bytes) -> Result<(u64, Done), Refusal>
-        ensures step { IsPairStep (SubmitEvent first (whole_blocks contents.now)) (link.is_out_of_memory result) (state self.old) (replied (λ told. reply.Ok told.1) result) (state self.new) }
+        ensures step { IsPairStep (SubmitEvent first (whole_blocks contents.now)) (link.is_out_of_memory result) (state self.old) (replied (λ accepted. reply.Ok accepted.1) result) (state self.new) }
     {
         self.primary.submit(first, contents)
     }

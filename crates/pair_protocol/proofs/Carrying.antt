@@ -79,7 +79,7 @@ pub carried : {R : Type 0} (capacity : ℕ) (out : PacketSenderState) (inn : Pac
     → PacketsFollowIn (record { out = Some (with_queue back (without_queue out)); inn = ended })
     → Gave frame result (record { out = Some out; inn = Some inn })
     × IsDirection capacity (record { out = Some (with_queue back (without_queue out)); inn = ended })
-carried {R} capacity out inn q frame result later ended back ends whose takes given told = go later takes given
+carried {R} capacity out inn q frame result later ended back ends whose takes given returned = go later takes given
   where
     go : (v : Option PacketReceiverState) → Takes frame result (Some (taking_from q inn)) v → GivenBack (Some back) v ended
         → Gave frame result (record { out = Some out; inn = Some inn })
@@ -89,7 +89,7 @@ carried {R} capacity out inn q frame result later ended back ends whose takes gi
         let l = lent capacity out inn q ends whose in
         let was = given.whose after back refl refl in
         let now = came-back capacity out inn q frame result (Some after) back l after takes refl was in
-        let t : PacketsFollow (with_queue back (without_queue out)) (empty_handed after) = told (with_queue back (without_queue out))
+        let t : PacketsFollow (with_queue back (without_queue out)) (empty_handed after) = returned (with_queue back (without_queue out))
         (empty_handed after) refl given.left in
         let whole : PacketsFollow out after = record { begins = t.begins; pushed = t.pushed; taken = t.taken } in
         let begins : BeginsPushed after.taken out.pushed = whole.begins (back.frames, now.0 ∙ sym l.rest) in (
@@ -115,7 +115,7 @@ carried {R} capacity out inn q frame result later ended back ends whose takes gi
 -- What was pushed waits behind the others, where the link had room.
 pub sent-over : {R : Type 0} (capacity : ℕ) (d : Direction) (result : Result R Refusal) (out : Option PacketSenderState) → IsDirection capacity d
     → Sends result d.out out → PacketsFollowIn (record d { out = out }) → IsDirection capacity (record d { out = out })
-sent-over {R} capacity d result out is sends told = go d.out refl is result refl
+sent-over {R} capacity d result out is sends returned = go d.out refl is result refl
   where
     go : (v : Option PacketSenderState) → d.out ≡ v
         → elim v as (λ _. Type 0) [ None ↦ d.inn ≡ None | Some o ↦ (inn : PacketReceiverState) × (d.inn ≡ Some inn) × AreEnds capacity o inn ]
@@ -134,7 +134,7 @@ sent-over {R} capacity d result out is sends told = go d.out refl is result refl
         let now : out ≡ Some (with_pushed p.packet p.frame o) = p.after ∙ ap (λ (x : PacketSenderState). Some (with_pushed p.packet p.frame x)) (sym was) in
         let room : IfSome o.room (λ n. n ≡ 0 → ⊥) = subst (λ (x : PacketSenderState). IfSome x.room (λ n. n ≡ 0 → ⊥)) (sym was) p.room in
         subst (λ (v : Option PacketSenderState). IsDirection capacity (record d { out = v })) (sym now)
-        (is.0, is.1, ends-pushed capacity o is.0 p.packet p.frame is.2 room (told (with_pushed p.packet p.frame o) is.0 now is.1))
+        (is.0, is.1, ends-pushed capacity o is.0 p.packet p.frame is.2 room (returned (with_pushed p.packet p.frame o) is.0 now is.1))
     go (Some o) there is (Err e) err =
         let k = subst (λ (r : Result R Refusal). OnErr r
         ((partly : Option (List Packet)) × (out ≡ option_map (λ (o : PacketSenderState). record o { partly = partly }) d.out))) err sends.kept in

@@ -67,7 +67,7 @@ pub gave-over : {R : Type 0} (capacity : ℕ) (d : Direction) (q back : QueueSta
     → IsDirection capacity d → GivenOut (Some q) d.out out → LaidIn q d.inn inn → Takes frame result inn later → GivenBack (Some back) later ended
     → LaidBack back out ended_out
     → PacketsFollowIn (record { out = ended_out; inn = ended }) → Gave frame result d × IsDirection capacity (record { out = ended_out; inn = ended })
-gave-over {R} capacity d q back frame result out ended_out inn later ended is given laid takes gave over told = go d.out refl is
+gave-over {R} capacity d q back frame result out ended_out inn later ended is given laid takes gave over returned = go d.out refl is
   where
     go : (v : Option PacketSenderState) → d.out ≡ v
         → elim v as (λ _. Type 0) [ None ↦ d.inn ≡ None | Some o ↦ (inn : PacketReceiverState) × (d.inn ≡ Some inn) × AreEnds capacity o inn ]
@@ -80,7 +80,7 @@ gave-over {R} capacity d q back frame result out ended_out inn later ended is gi
         ∙ ap (option_map (with_queue back)) (given.left ∙ ap (option_map without_queue) there) in
         let done = carried capacity o ends.0 q frame result later ended back ends.2 (given.whose o q there refl)
         (subst (λ (v : Option PacketReceiverState). Takes frame result v later) now takes) gave
-        (subst (λ (v : Option PacketSenderState). PacketsFollowIn (record { out = v; inn = ended })) last told) in (
+        (subst (λ (v : Option PacketSenderState). PacketsFollowIn (record { out = v; inn = ended })) last returned) in (
           record {
             took = λ one is. let g = done.0.took one is in record {
               out = g.out;

@@ -56,7 +56,7 @@ lent capacity out inn q ends whose =
 pub ends-pushed : (capacity : ℕ) (out : PacketSenderState) (inn : PacketReceiverState) (packet : Packet) (frame : List ℕ) → AreEnds capacity out inn
     → IfSome out.room (λ n. n ≡ 0 → ⊥) → PacketsFollow (with_pushed packet frame out) inn
     → AreEnds capacity (with_pushed packet frame out) inn
-ends-pushed capacity out inn packet frame ends room told =
+ends-pushed capacity out inn packet frame ends room returned =
     let free : capacity - length ends.waiting ≡ 0 → ⊥ = subst (λ (v : Option ℕ). IfSome v (λ n. n ≡ 0 → ⊥)) ends.room room in
     let few = ends.few in
     let one : length (ends.waiting ++ frame ∷ []) ≡ length ends.waiting + 1 = length-append ends.waiting (frame ∷ []) in
@@ -69,7 +69,7 @@ ends-pushed capacity out inn packet frame ends room told =
       few = omega (arith, one, more);
       queued = ends.queued;
       away = ends.away;
-      packets = told;
+      packets = returned;
     }
   where
     less : (n : ℕ) → n ≡ capacity - length ends.waiting → (capacity - length ends.waiting ≡ 0 → ⊥) → length ends.waiting ≤ capacity
@@ -95,7 +95,7 @@ ends-kept capacity out inn partly ends = record {
 pub ends-back : (capacity : ℕ) (out : PacketSenderState) (inn after : PacketReceiverState) (q back : QueueState) → IsLent capacity out inn q
     → back.taken ≡ after.frames → back.capacity ≡ capacity → after.frames ++ back.frames ≡ inn.frames ++ q.frames → length back.frames ≤ length q.frames
     → PacketsFollow out after → AreEnds capacity (with_queue back (without_queue out)) (empty_handed after)
-ends-back capacity out inn after q back l taken size row fewer told = record {
+ends-back capacity out inn after q back l taken size row fewer returned = record {
   waiting = back.frames;
   row = l.rest ∙ sym row;
   room = ap (λ n. Some (n - length back.frames)) size;
@@ -103,7 +103,7 @@ ends-back capacity out inn after q back l taken size row fewer told = record {
   few = omega (arith, few);
   queued = refl;
   away = refl;
-  packets = record { begins = told.begins; pushed = told.pushed; taken = told.taken };
+  packets = record { begins = returned.begins; pushed = returned.pushed; taken = returned.taken };
 }
   where
     few : length back.frames ≤ capacity

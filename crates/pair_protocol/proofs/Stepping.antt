@@ -123,16 +123,17 @@ room-says capacity d result later other is sends counted = (
         sym (counted o is.0 there is.1 is.2 ∙ (let no : capacity ≤ length is.2.waiting = omega (arith, full) in grind (arith, nat_tests)))
 
 -- what a reply says of the link is what the result says
-ok-room : (tell : Result Done Refusal → Reply) → ((e : Refusal) → tell (Err e) ≡ reply.Refused e) → (other : Bool) (r : Result Done Refusal)
-    → ((x : Done) → r ≡ Ok x → true ≡ other) → (x : Done) → tell r ≡ reply.Ok x → has_room r ≡ other
-ok-room tell refuses other (Ok d) says x ok = says d refl
-ok-room tell refuses other (Err e) says x ok = absurd (let no : reply.Refused e ≡ reply.Ok x = sym (refuses e) ∙ ok in cc)
+ok-room : (as_reply : Result Done Refusal → Reply) → ((e : Refusal) → as_reply (Err e) ≡ reply.Refused e) → (other : Bool) (r : Result Done Refusal)
+    → ((x : Done) → r ≡ Ok x → true ≡ other) → (x : Done) → as_reply r ≡ reply.Ok x → has_room r ≡ other
+ok-room as_reply refuses other (Ok d) says x ok = says d refl
+ok-room as_reply refuses other (Err e) says x ok = absurd (let no : reply.Refused e ≡ reply.Ok x = sym (refuses e) ∙ ok in cc)
 
-full-room : (tell : Result Done Refusal → Reply) → ((e : Refusal) → tell (Err e) ≡ reply.Refused e) → ((d : Done) → (x : Done) × (tell (Ok d) ≡ reply.Ok x))
+full-room : (as_reply : Result Done Refusal → Reply) → ((e : Refusal) → as_reply (Err e) ≡ reply.Refused e)
+    → ((d : Done) → (x : Done) × (as_reply (Ok d) ≡ reply.Ok x))
     → (other : Bool) (r : Result Done Refusal) → (r ≡ Err LinkFull → false ≡ other)
-    → tell r ≡ reply.Refused LinkFull → has_room r ≡ other
-full-room tell refuses tells other (Ok d) says full = absurd (let no : reply.Ok (tells d).0 ≡ reply.Refused LinkFull = sym (tells d).1 ∙ full in cc)
-full-room tell refuses tells other (Err e) says full =
+    → as_reply r ≡ reply.Refused LinkFull → has_room r ≡ other
+full-room as_reply refuses tells other (Ok d) says full = absurd (let no : reply.Ok (tells d).0 ≡ reply.Refused LinkFull = sym (tells d).1 ∙ full in cc)
+full-room as_reply refuses tells other (Err e) says full =
     let refused : reply.Refused e ≡ reply.Refused LinkFull = sym (refuses e) ∙ full in
     let e_is : e ≡ LinkFull = cc in
     subst (λ (x : Refusal). has_room {R = Done} (Err x) ≡ other) (sym e_is) (says (ap Err e_is))

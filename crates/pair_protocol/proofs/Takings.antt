@@ -31,10 +31,11 @@ use Rattle.laws.proofs.Rules.Memory.{ack-in-none, receive-none}
 longer : {X : Type 0} (xs : List X) (x : X) → xs ≡ xs ++ x ∷ [] → ⊥
 longer xs x same = let n = ap length same ∙ length-append xs (x ∷ []) in absurd (omega (arith, n))
 
-refused-of : (tell : Result Done Refusal → Reply) → ((e : Refusal) → tell (Err e) ≡ reply.Refused e) → ((d : Done) → (x : Done) × (tell (Ok d) ≡ reply.Ok x))
-    → (r : Result Done Refusal) (e : Refusal) → tell r ≡ reply.Refused e → r ≡ Err e
-refused-of tell refuses tells (Ok d) e is = absurd (let no : reply.Ok (tells d).0 ≡ reply.Refused e = sym (tells d).1 ∙ is in cc)
-refused-of tell refuses tells (Err x) e is = let same : reply.Refused x ≡ reply.Refused e = sym (refuses x) ∙ is in let one : x ≡ e = cc in ap Err one
+refused-of : (as_reply : Result Done Refusal → Reply) → ((e : Refusal) → as_reply (Err e) ≡ reply.Refused e)
+    → ((d : Done) → (x : Done) × (as_reply (Ok d) ≡ reply.Ok x))
+    → (r : Result Done Refusal) (e : Refusal) → as_reply r ≡ reply.Refused e → r ≡ Err e
+refused-of as_reply refuses tells (Ok d) e is = absurd (let no : reply.Ok (tells d).0 ≡ reply.Refused e = sym (tells d).1 ∙ is in cc)
+refused-of as_reply refuses tells (Err x) e is = let same : reply.Refused x ≡ reply.Refused e = sym (refuses x) ∙ is in let one : x ≡ e = cc in ap Err one
 
 -- memory was not refused, or this was the refusal
 out-of-memory-or : (r : Result Done Refusal) → (is_out_of_memory r ≡ false) ⊎ (r ≡ Err NoMemory)
@@ -78,7 +79,8 @@ receives-step p q result (Some one) gave steps grows same =
     fed h has = elim (out-of-memory-or result) [
       | inl fine ↦ fine
       | inr short ↦
-          let said : from_secondary.replied (λ (done : Done). done) result ≡ (receive (Some one) false h.secondary).0 = steps.replies h.secondary has.secondary in
+          let said : from_secondary.replied (λ (done : Done). done) result ≡ (receive (Some one) false h.secondary).0 =
+          steps.replies h.secondary has.secondary in
           let refused : reply.Refused NoMemory ≡ (receive (next_frame h) false h.secondary).0 = ap (from_secondary.replied (λ (done : Done). done)) (sym short)
           ∙ said ∙ ap (λ (f : Option Received). (receive f false h.secondary).0) (sym (next h has)) in
           let still : (step ReceiveEvent false h).1 ≡ h = refused_steps_change_nothing ReceiveEvent false h NoMemory (sym refused) refl in

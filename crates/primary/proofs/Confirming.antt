@@ -25,7 +25,7 @@ use Rattle.primary_protocol.proofs.Common.Numbers.{any-some, get-map}
 use Rattle.primary_protocol.proofs.Receipts.Journal.{IsNumbered, failed-open, entry-is, write-is}
 use Rattle.primary_core.specs.Entries.{is_unconfirmed}
 use Rattle.primary.specs.Receipts.{is_entry_of, is_found, kind_of}
-use Rattle.primary.proofs.Telling.{kind-back}
+use Rattle.primary.proofs.ReceiptTaken.{kind-back}
 
 -- two truth values that follow from each other are the same
 same-truth : (a b : Bool) → (a ≡ true → b ≡ true) → (b ≡ true → a ≡ true) → a ≡ b

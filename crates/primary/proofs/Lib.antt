@@ -7,5 +7,5 @@ pub mod Reading
 pub mod Refused
 pub mod Sending
 pub mod Taking
-pub mod Telling
+pub mod ReceiptTaken
 pub mod Writing

@@ -33,14 +33,16 @@ pub submit-refused : (v : PrimaryView) → IsNode v
     → (core : PrimaryState) (first : ℕ) (bytes : List ℕ) (result : Result Done Refusal) (said : Result (ℕ × Done) Refusal) (e : Refusal) → result ≡ Err e
     → said ≡ Err e
     → (result, core) ≡ submit first bytes (inner.is_out_of_memory result) v.core
-    → NodeSteps (Submits first (whole_blocks bytes) (is_out_of_memory said)) (node v) (replied (λ told. reply.Ok told.1) said) (node (record v { core = core }))
-submit-refused v before core first bytes result said e was told is =
+    → NodeSteps (Submits first (whole_blocks bytes) (is_out_of_memory said)) (node v) (replied (λ returned. reply.Ok returned.1) said)
+    (node (record v { core = core }))
+submit-refused v before core first bytes result said e was returned is =
     let here : (Err e, core) ≡ submit first bytes (inner.is_out_of_memory {R = Done} (Err e)) v.core =
     subst (λ (r : Result Done Refusal). (r, core) ≡ submit first bytes (inner.is_out_of_memory r) v.core) was is in
     let next : NodeState = node (record v { core = core }) in
-    subst (λ (r : Result (ℕ × Done) Refusal). NodeSteps (Submits first (whole_blocks bytes) (is_out_of_memory r)) (node v) (replied (λ told. reply.Ok told.1) r)
+    subst (λ (r : Result (ℕ × Done) Refusal). NodeSteps (Submits first (whole_blocks bytes) (is_out_of_memory r)) (node v)
+    (replied (λ returned. reply.Ok returned.1) r)
     next)
-    (sym told)
+    (sym returned)
     (subst (λ (b : Bool). NodeSteps (Submits first (whole_blocks bytes) b) (node v) (reply.Refused e) next) (same-out-of-memory Done (ℕ × Done) e)
     (node-submits (node v) first bytes (inner.is_out_of_memory {R = Done} (Err e)) (Err e) core here))
 
@@ -87,16 +89,16 @@ open-refused-is v core sync loss result e was is before = subst (λ (x : Primary
     (sym (open-same v.core core sync loss result e was is)) before
 
 -- an opening that is refused
-pub open-refused : {R : Type 0} (tell : R → Reply) (v : PrimaryView) → IsNode v
+pub open-refused : {R : Type 0} (as_reply : R → Reply) (v : PrimaryView) → IsNode v
     → (core : PrimaryState) (sync loss : ℕ) (result : Result (Unit {0}) Refusal) (said : Result R Refusal) (e : Refusal) → result ≡ Err e → said ≡ Err e
     → (result, core) ≡ open_end sync loss (inner.is_out_of_memory result) v.core
-    → NodeSteps (Opens sync loss (is_out_of_memory said)) (node v) (replied tell said) (node (record v { core = core }))
-open-refused {R} tell v before core sync loss result said e was told is =
+    → NodeSteps (Opens sync loss (is_out_of_memory said)) (node v) (replied as_reply said) (node (record v { core = core }))
+open-refused {R} as_reply v before core sync loss result said e was returned is =
     let here : (Err e, core) ≡ open_end sync loss (inner.is_out_of_memory {R = Unit {0}} (Err e)) v.core =
     subst (λ (r : Result (Unit {0}) Refusal). (r, core) ≡ open_end sync loss (inner.is_out_of_memory r) v.core) was is in
-    subst (λ (x : PrimaryState). NodeSteps (Opens sync loss (is_out_of_memory said)) (node v) (replied tell said) (node (record v { core = x })))
+    subst (λ (x : PrimaryState). NodeSteps (Opens sync loss (is_out_of_memory said)) (node v) (replied as_reply said) (node (record v { core = x })))
     (sym (open-same v.core core sync loss result e was is))
-    (subst (λ (r : Result R Refusal). NodeSteps (Opens sync loss (is_out_of_memory r)) (node v) (replied tell r) (node v)) (sym told)
+    (subst (λ (r : Result R Refusal). NodeSteps (Opens sync loss (is_out_of_memory r)) (node v) (replied as_reply r) (node v)) (sym returned)
     (subst (λ (b : Bool). NodeSteps (Opens sync loss b) (node v) (reply.Refused e) (node v)) (same-out-of-memory (Unit {0}) R e)
     (node-not-opened (node v) sync loss (inner.is_out_of_memory {R = Unit {0}} (Err e)) e core here)))
 

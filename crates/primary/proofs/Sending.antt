@@ -29,8 +29,8 @@ use Rattle.primary.specs.State.{PrimaryView, IsNode, IsDue, IsNumbered, node, pu
 refused-step : (n : NodeState) (said : Result Done Refusal) (e x : Refusal) → said ≡ Err e → e ≡ x
     → NodeSteps (Sends (has_room {R = Done} (Err x)) (is_out_of_memory {R = Done} (Err x))) n (reply.Refused x) n
     → NodeSteps (Sends (has_room said) (is_out_of_memory said)) n (replied reply.Ok said) n
-refused-step n said e x told is steps =
-    subst (λ (r : Result Done Refusal). NodeSteps (Sends (has_room r) (is_out_of_memory r)) n (replied reply.Ok r) n) (sym (told ∙ ap Err is)) steps
+refused-step n said e x returned is steps =
+    subst (λ (r : Result Done Refusal). NodeSteps (Sends (has_room r) (is_out_of_memory r)) n (replied reply.Ok r) n) (sym (returned ∙ ap Err is)) steps
 
 ok-is : {X : Type 0} (r : Result X Refusal) → IsOk r → (x : X) × (r ≡ Ok x)
 ok-is (Ok x) is = (x, refl)
@@ -40,16 +40,16 @@ ok-is (Err e) is = absurd (cc)
 pub not-due-steps : (v : PrimaryView) → IsNode v → (e : Refusal) (said : Result Done Refusal) → said ≡ Err e
     → (due v.core ≡ Err e) ⊎ ((e ≡ NoMemory) × IsOk (due v.core))
     → NodeSteps (Sends (has_room said) (is_out_of_memory said)) (node v) (replied reply.Ok said) (node v)
-not-due-steps v before e said told why = elim why [
+not-due-steps v before e said returned why = elim why [
   | inl none ↦ elim (due-refused v.core e none) [
-    | inl shut ↦ refused-step (node v) said e NotConnected told shut
+    | inl shut ↦ refused-step (node v) said e NotConnected returned shut
         (node-not-pushed (node v) true false NotConnected (send-not-due true false v.core NotConnected (none ∙ ap Err shut)))
-    | inr nothing ↦ refused-step (node v) said e NothingThere told nothing
+    | inr nothing ↦ refused-step (node v) said e NothingThere returned nothing
         (node-not-pushed (node v) true false NothingThere (send-not-due true false v.core NothingThere (none ∙ ap Err nothing)))
   ]
   | inr out_of_memory ↦
       let packet = ok-is (due v.core) out_of_memory.1 in
-      refused-step (node v) said e NoMemory told out_of_memory.0 (node-not-pushed (node v) true true NoMemory (send-out-of-memory v.core packet.0 packet.1))
+      refused-step (node v) said e NoMemory returned out_of_memory.0 (node-not-pushed (node v) true true NoMemory (send-out-of-memory v.core packet.0 packet.1))
 ]
 
 -- the link had no room, or there was no memory for its frame
@@ -64,8 +64,8 @@ blocks-wanted blocks owes e same refused out_of_memory = sym same ∙ (refused (
 -- what is refused for want of memory is a frame with blocks
 pub out-of-memory-owes : (v w : PrimaryView) (said : Result Done Refusal) (e : Refusal) → v ≡ w → said ≡ Err e → (e ≡ NoMemory → owes_blocks v.core ≡ true)
     → IfErr said (λ x. x ≡ NoMemory → owes_blocks w.core ≡ true)
-out-of-memory-owes v w said e is told owes =
-    subst (λ (r : Result Done Refusal). IfErr r (λ x. x ≡ NoMemory → owes_blocks w.core ≡ true)) (sym told)
+out-of-memory-owes v w said e is returned owes =
+    subst (λ (r : Result Done Refusal). IfErr r (λ x. x ≡ NoMemory → owes_blocks w.core ≡ true)) (sym returned)
     (subst (λ (x : PrimaryView). e ≡ NoMemory → owes_blocks x.core ≡ true) is owes)
 
 -- the step of a push that the link or the memory refused
@@ -73,17 +73,17 @@ pub not-pushed-steps : (v : PrimaryView) → IsNode v → (o p : PacketSenderSta
     → v.outgoing ≡ Some o
     → due v.core ≡ Ok packet → said ≡ Err e → ((e ≡ LinkFull → ⊥) → e ≡ NoMemory) → p.pushed ≡ o.pushed
     → NodeSteps (Sends (has_room said) (is_out_of_memory said)) (node v) (replied reply.Ok said) (node (record v { outgoing = Some p }))
-not-pushed-steps v before o p packet e said there is told memory pushed =
+not-pushed-steps v before o p packet e said there is returned memory pushed =
     let same : node v ≡ node (record v { outgoing = Some p }) = λ i. record (node v) { pushed = (ap (λ x. pushed_of x) there ∙ sym pushed) i } in
     subst (NodeSteps (Sends (has_room said) (is_out_of_memory said)) (node v) (replied reply.Ok said)) same (elim (full-or-not e) [
-      | inl full ↦ refused-step (node v) said e LinkFull told full (node-not-pushed (node v) false false LinkFull (send-full v.core packet is))
-      | inr other ↦ refused-step (node v) said e NoMemory told (memory other)
+      | inl full ↦ refused-step (node v) said e LinkFull returned full (node-not-pushed (node v) false false LinkFull (send-full v.core packet is))
+      | inr other ↦ refused-step (node v) said e NoMemory returned (memory other)
           (node-not-pushed (node v) true true NoMemory (send-out-of-memory v.core packet is))
     ])
 
 -- what the side of the link says of it
 pub nothing-sent : (o : Option PacketSenderState) (e : Refusal) (said : Result Done Refusal) → said ≡ Err e → (e ≡ LinkFull → ⊥) → link.Sends said o o
-nothing-sent o e said told none = subst (λ (r : Result Done Refusal). link.Sends r o o) (sym told)
+nothing-sent o e said returned none = subst (λ (r : Result Done Refusal). link.Sends r o o) (sym returned)
     (record { pushed = tt; kept = kept o; full = λ is. absurd (none (let same : e ≡ LinkFull = cc in same)) })
   where
     kept : (o : Option PacketSenderState) → (partly : Option (List Packet)) × (o ≡ option_map (λ (x : PacketSenderState). record x { partly = partly }) o)
@@ -93,7 +93,7 @@ nothing-sent o e said told none = subst (λ (r : Result Done Refusal). link.Send
 -- where nothing was due
 pub not-due-sent : (v : PrimaryView) → IsNode v → (now : Option PacketSenderState) (e : Refusal) (said : Result Done Refusal) → said ≡ Err e
     → (due v.core ≡ Err e) ⊎ ((e ≡ NoMemory) × IsOk (due v.core)) → link.Sends said now now
-not-due-sent v before now e said told why = nothing-sent now e said told (λ full. elim why [
+not-due-sent v before now e said returned why = nothing-sent now e said returned (λ full. elim why [
   | inl none ↦ elim (due-refused v.core e none) [
     | inl shut ↦ let no : NotConnected ≡ LinkFull = sym shut ∙ full in absurd (cc)
     | inr nothing ↦ let no : NothingThere ≡ LinkFull = sym nothing ∙ full in absurd (cc)
@@ -104,8 +104,8 @@ not-due-sent v before now e said told why = nothing-sent now e said told (λ ful
 -- where a packet went in part, or not at all
 pub part-sent : (o p : PacketSenderState) (now : Option PacketSenderState) (e : Refusal) (said : Result Done Refusal) → now ≡ Some o → said ≡ Err e
     → p ≡ record o { partly = p.partly } → (e ≡ LinkFull → IfSome o.room (λ n. n ≡ 0)) → link.Sends said now (Some p)
-part-sent o p now e said there told same full = subst (λ (x : Option PacketSenderState). link.Sends said x (Some p)) (sym there)
-    (subst (λ (r : Result Done Refusal). link.Sends r (Some o) (Some p)) (sym told) (record {
+part-sent o p now e said there returned same full = subst (λ (x : Option PacketSenderState). link.Sends said x (Some p)) (sym there)
+    (subst (λ (r : Result Done Refusal). link.Sends r (Some o) (Some p)) (sym returned) (record {
       pushed = tt;
       kept = (p.partly, ap Some same);
       full = λ is. (o, refl, full (let same : e ≡ LinkFull = cc in same));

@@ -23,7 +23,7 @@ use Rattle.primary_protocol.specs.Steps.{replied}
 use Rattle.primary_protocol.proofs.Node.Due.{IsStill}
 use Rattle.primary_protocol.proofs.Node.Runs.{node-had}
 use Rattle.std.proofs.lemmas.Bool.{both_ways}
-use Rattle.primary_protocol.proofs.Node.Faults.{takes-told}
+use Rattle.primary_protocol.proofs.Node.Faults.{takes-frame}
 use Rattle.primary_protocol.proofs.Node.Takes.{IsShort, node-takes, takes-still, established-open, node-not-taken, open-short}
 use Rattle.primary.specs.Calls.{TakesOne}
 use Rattle.primary.specs.State.{PrimaryView, IsNode, IsNumbered, node, taken_of}
@@ -54,9 +54,9 @@ pub takes-none : (v now : PrimaryView) → IsNode v → (new : Option PacketRece
     → (e ≡ NothingThere → (before : PacketReceiverState) × (v.incoming ≡ Some before) × IfSome before.queued (λ frames. frames ≡ []))
     → (ack_in None (is_out_of_memory {R = Done} (Err e)) v.core).0 ≡ Err e
     → TakesOne result now (record v { incoming = new })
-takes-none v now before new e result is told ready empty refused =
+takes-none v now before new e result is returned ready empty refused =
     subst (λ (w : PrimaryView). TakesOne result w (record v { incoming = new })) is
-    (subst (λ (r : Result Done Refusal). TakesOne r v (record v { incoming = new })) (sym told) (record {
+    (subst (λ (r : Result Done Refusal). TakesOne r v (record v { incoming = new })) (sym returned) (record {
       frame = None;
       link = record { took = λ frame none. absurd (cc); kept = λ none. ready; empty = λ nothing. empty (let same : e ≡ NothingThere = cc in same) };
       step = subst (λ (l : List Received). NodeSteps (Takes None (is_out_of_memory {R = Done} (Err e))) (node v) (reply.Refused e)
@@ -115,7 +115,7 @@ module _ (v : PrimaryView) (before : IsNode v) (i x j : PacketReceiverState) (re
         queued = subst (λ (y : PacketReceiverState). IfSome y.queued (λ frames. frames ≡ [] → ⊥)) readied.1 (some-queued x.queued queued);
       });
       kept = λ none. absurd (cc);
-      empty = λ nothing. absurd (takes-told (node v) (received read) result core some is before.had other nothing);
+      empty = λ nothing. absurd (takes-frame (node v) (received read) result core some is before.had other nothing);
     };
     step = takes-step;
   })

@@ -57,13 +57,13 @@ fn is_entry_of(entry: &JournalEntry, receipt: &Receipt) -> bool
 }
 
 // Returns whether two stream positions are the same.
-fn same_home(home: Option<StreamPosition>, told: Option<StreamPosition>) -> bool
-    ensures { result ≡ same_home home told }
+fn same_home(home: Option<StreamPosition>, other: Option<StreamPosition>) -> bool
+    ensures { result ≡ same_home home other }
 {
-    match (home, told) {
+    match (home, other) {
         (None, None) => true,
-        (Some(home), Some(told)) => {
-            home.connection() == told.connection() && home.place() == told.place()
+        (Some(home), Some(other)) => {
+            home.connection() == other.connection() && home.place() == other.place()
         }
         _ => false,
     }

@@ -25,8 +25,8 @@ impl<O: FrameOut + Drop, I: FrameIn + Drop, S: Store + Drop> Primary<O, I, S> {
     /// become so; `StreamFull` (6) if the stream has 4,294,967,288 items or more; else `NoMemory` (7) if there is no
     /// room for it and all that it may need later.
     pub fn submit(&mut self, first: u64, bytes: &Bytes) -> Result<(u64, Done), Refusal>
-        ensures step { NodeSteps (Submits first (whole_blocks bytes.now) (is_out_of_memory result)) (node self.old) (replied (λ told. reply.Ok told.1) result) (node self.new) }
-        ensures number { IfOk result (λ told. told.1.what ≡ what.Write told.0) }
+        ensures step { NodeSteps (Submits first (whole_blocks bytes.now) (is_out_of_memory result)) (node self.old) (replied (λ accepted. reply.Ok accepted.1) result) (node self.new) }
+        ensures number { IfOk result (λ accepted. accepted.1.what ≡ what.Write accepted.0) }
         ensures rest { self.new ≡ record self.old { core = self.new.core } }
     {
         let done = self.core.submit(first, bytes)?;

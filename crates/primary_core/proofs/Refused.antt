@@ -4,23 +4,23 @@ use Rattle.blocks.specs.declared.refusal.Refusal.{Refusal}
 use Rattle.model.specs.Refusals.{Test, first_refusal}
 use Rattle.laws.proofs.Rules.Memory.{before_last, refused-alike}
 use Rattle.primary_core.specs.OutOfMemory.{is_out_of_memory}
-use Rattle.primary_core.specs.Submit.{told_by}
+use Rattle.primary_core.specs.Submit.{result_of_tests}
 use Rattle.primary_protocol.specs.Core.{PrimaryState, tested}
 use Rattle.primary_protocol.specs.Transitions.{open_end, open_tests}
 
 -- what is told is the first refusal
-told-first : (tests : List Test) (e : Refusal) → Err e ≡ told_by tests → first_refusal tests ≡ Some e
-told-first tests e told = go (first_refusal tests) told
+refused-first : (tests : List Test) (e : Refusal) → Err e ≡ result_of_tests tests → first_refusal tests ≡ Some e
+refused-first tests e returned = go (first_refusal tests) returned
   where
     go : (v : Option Refusal) → Err e ≡ (elim v as (λ _. Result (Unit {0}) Refusal) [ Some refusal ↦ Err refusal | None ↦ Ok tt ]) → v ≡ Some e
-    go (Some refusal) told = let same : refusal ≡ e = cc in ap Some same
-    go None told = absurd (cc)
+    go (Some refusal) returned = let same : refusal ≡ e = cc in ap Some same
+    go None returned = absurd (cc)
 
-pub open-refused : (sync loss : ℕ) (s : PrimaryState) (e : Refusal) → Err e ≡ told_by (open_tests sync loss false s)
+pub open-refused : (sync loss : ℕ) (s : PrimaryState) (e : Refusal) → Err e ≡ result_of_tests (open_tests sync loss false s)
     → (Err e, s) ≡ open_end sync loss (is_out_of_memory {R = Unit {0}} (Err e)) s
 open-refused sync loss s e said =
     let out_of_memory = is_out_of_memory {R = Unit {0}} (Err e) in
     let still : first_refusal (open_tests sync loss out_of_memory s) ≡ Some e =
     refused-alike (before_last (open_tests sync loss false s)) (drop 3 (open_tests sync loss out_of_memory s)) e
-    (told-first (open_tests sync loss false s) e said) in
+    (refused-first (open_tests sync loss false s) e said) in
     rw (still, tested) refl

@@ -28,11 +28,11 @@ pub first-item : (xs : List StreamItem) (x : StreamItem) → x ≡ get_or xs 0 x
 first-item [] x is some = absurd (omega arith)
 first-item (y ∷ xs) x is some = ap (λ (z : StreamItem). Some z) (sym is)
 
-pub due-told : (r : Result Packet Refusal) (d : Result frames.Packet Refusal) (x : frames.Packet) → d ≡ Ok x → IfOk r (λ p. (meaning p ≡ x) × IsSpellable p)
+pub due-returned : (r : Result Packet Refusal) (d : Result frames.Packet Refusal) (x : frames.Packet) → d ≡ Ok x → IfOk r (λ p. (meaning p ≡ x) × IsSpellable p)
     → IfErr r (λ e. e ≡ NoMemory)
     → MatchResult r (λ p. (d ≡ Ok (meaning p)) × IsSpellable p) (λ e. (d ≡ Err e) ⊎ ((e ≡ NoMemory) × IsOk d))
-due-told (Ok p) d x is ok err = (is ∙ ap (λ (y : frames.Packet). Ok y) (sym ok.0), ok.1)
-due-told (Err e) d x is ok err = inr (err, rw is refl)
+due-returned (Ok p) d x is ok err = (is ∙ ap (λ (y : frames.Packet). Ok y) (sym ok.0), ok.1)
+due-returned (Err e) d x is ok err = inr (err, rw is refl)
 
 -- the own hello is said
 pub all-said : (n : ℕ) (settings : Settings) (own : Tuple) → hello_frame n settings own ≡ None → nat_lt n 3 ≡ false

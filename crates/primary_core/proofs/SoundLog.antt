@@ -42,11 +42,11 @@ each_to_all P Q g [] makes each = tt
 each_to_all P Q g (w ∷ ws) makes each = (makes w each.0, each_to_all P Q g ws makes each.1)
 
 -- what completions and releases of sound writes say
-told-completed : (blocks : ℕ) (ws : List LogWrite) → Each (IsInside blocks) ws → AllByRecursion IsNumbered (map completed_of ws)
-told-completed blocks ws each = each_to_all (IsInside blocks) IsNumbered completed_of ws (λ w is. is.numbered) each
+reported-completed : (blocks : ℕ) (ws : List LogWrite) → Each (IsInside blocks) ws → AllByRecursion IsNumbered (map completed_of ws)
+reported-completed blocks ws each = each_to_all (IsInside blocks) IsNumbered completed_of ws (λ w is. is.numbered) each
 
-told-released : (blocks : ℕ) (ws : List LogWrite) → Each (IsInside blocks) ws → AllByRecursion (LiesInside blocks) (map released_of ws)
-told-released blocks ws each = each_to_all (IsInside blocks) (LiesInside blocks) released_of ws (λ w is. is.inside) each
+reported-released : (blocks : ℕ) (ws : List LogWrite) → Each (IsInside blocks) ws → AllByRecursion (LiesInside blocks) (map released_of ws)
+reported-released blocks ws each = each_to_all (IsInside blocks) (LiesInside blocks) released_of ws (λ w is. is.inside) each
 
 -- something happens to each write
 sound-moved : (s : Settings) (f : LogWrite → LogWrite) (confirmed : ℕ) (l : LogState)
@@ -55,10 +55,10 @@ sound-moved s f confirmed l keeps is = record {
   backlog = is.backlog;
   last_writes = is.last_writes;
   writes = each_filter (IsInside s.blocks) (λ w. not (is_released confirmed w)) (map f l.writes) (keeps l.writes is.writes);
-  completed = told-completed s.blocks (filter is_completed (map f (filter is_open l.writes)))
+  completed = reported-completed s.blocks (filter is_completed (map f (filter is_open l.writes)))
       (each_filter (IsInside s.blocks) is_completed (map f (filter is_open l.writes))
       (keeps (filter is_open l.writes) (each_filter (IsInside s.blocks) is_open l.writes is.writes)));
-  released = told-released s.blocks (filter (is_released confirmed) (map f l.writes))
+  released = reported-released s.blocks (filter (is_released confirmed) (map f l.writes))
       (each_filter (IsInside s.blocks) (is_released confirmed) (map f l.writes) (keeps l.writes is.writes));
 }
 
@@ -68,7 +68,8 @@ sound-changing s number f l keeps is =
     let after = sound-moved s (on number f) l.acknowledged_through l (λ ws each. each_changed (IsInside s.blocks) number f ws (keeps s.blocks) each) is in
     record { backlog = after.backlog; last_writes = after.last_writes; writes = after.writes; completed = after.completed; released = after.released }
 
-length-latest : (number first count : ℕ) (last_writes : List ℕ) → first + count ≤ length last_writes → length (with_last_write number first count last_writes) ≡ length last_writes
+length-latest : (number first count : ℕ) (last_writes : List ℕ) → first + count ≤ length last_writes
+    → length (with_last_write number first count last_writes) ≡ length last_writes
 length-latest number first count last_writes inside = simp (length-append, length-take, length-replicate, length-drop) (omega arith)
 
 -- a write is accepted
@@ -90,7 +91,7 @@ sound-confirming s number size l is = record {
   last_writes = is.last_writes;
   writes = each_filter (IsInside s.blocks) (λ w. not (is_released (l.acknowledged_through + size) w)) l.writes is.writes;
   completed = tt;
-  released = told-released s.blocks (filter (is_released (l.acknowledged_through + size)) l.writes)
+  released = reported-released s.blocks (filter (is_released (l.acknowledged_through + size)) l.writes)
       (each_filter (IsInside s.blocks) (is_released (l.acknowledged_through + size)) l.writes is.writes);
 }
 

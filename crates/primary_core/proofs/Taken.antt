@@ -35,14 +35,14 @@ take-refused frame s e t (Err refusal) closed is taken err closes =
 
 -- What is no frame of the hello is refused.
 
-strange : (refusal r : Refusal) (s : PrimaryState) → (let told : Result Command Refusal = Err refusal in told ≡ Err r)
+strange : (refusal r : Refusal) (s : PrimaryState) → (let returned : Result Command Refusal = Err refusal in returned ≡ Err r)
     → (let taken : Taken = Err (refusal, s) in taken ≡ Err (r, s))
 strange refusal r s is = let same : refusal ≡ r = cc in ap (λ (x : Refusal). Err (x, s)) same
 
-greeted-not : (good : Bool) (name : What) (told : Command) (refusal : Refusal) (e : EndState) (s : PrimaryState) (r : Refusal)
-    → (if good then Ok told else Err refusal) ≡ Err r → greeted good name refusal e s ≡ Err (r, s)
-greeted-not true name told refusal e s r is = absurd (cc)
-greeted-not false name told refusal e s r is = strange refusal r s is
+greeted-not : (good : Bool) (name : What) (returned : Command) (refusal : Refusal) (e : EndState) (s : PrimaryState) (r : Refusal)
+    → (if good then Ok returned else Err refusal) ≡ Err r → greeted good name refusal e s ≡ Err (r, s)
+greeted-not true name returned refusal e s r is = absurd (cc)
+greeted-not false name returned refusal e s r is = strange refusal r s is
 
 pub hello-refused : (n : ℕ) (p : Packet) (e : EndState) (s : PrimaryState) (r : Refusal) → judged n p s.settings ≡ Err r
     → taking_hello n (meaning p) e s ≡ Err (r, s)

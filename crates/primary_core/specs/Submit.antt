@@ -30,8 +30,8 @@ range_tests first count s =
     ∷ (is_established s && nat_le 4294967288 s.log.epochs.places, StreamFull) ∷ []
 
 -- the result of the tests
-abbrev pub told_by : List Test → Result (Unit {0}) Refusal
-told_by tests = elim (first_refusal tests) [ Some refusal ↦ Err refusal | None ↦ Ok tt ]
+abbrev pub result_of_tests : List Test → Result (Unit {0}) Refusal
+result_of_tests tests = elim (first_refusal tests) [ Some refusal ↦ Err refusal | None ↦ Ok tt ]
 
 -- the blocks of these bytes lie in the device, from the first one on
 pub record IsWhole (settings : Settings) (first count : ℕ) (bytes : List ℕ) : Type 0 where

@@ -2,7 +2,7 @@
 ghost use Rattle.std.specs.Prelude.{◌≡◌, false};
 ghost use Rattle.blocks.specs.Identifiers.{are_fresh, is_fresh};
 ghost use Rattle.primary_core.specs.OutOfMemory.{is_out_of_memory};
-ghost use Rattle.primary_core.specs.Submit.{told_by};
+ghost use Rattle.primary_core.specs.Submit.{result_of_tests};
 ghost use Rattle.primary_protocol.specs.Transitions.{known_tuples, open_end, open_tests};
 
 use crate::connection::Connection;
@@ -39,7 +39,7 @@ impl PrimaryCore {
     /// Checks whether `open` would accept these words, except for memory: `NotDrained` (36), `UsedIdentifier` (33)
     /// and `StreamFull` (6) as for `open`. It changes nothing, and takes no memory.
     pub fn may_open(&self, sync: u64, loss: u64) -> Result<(), Refusal>
-        ensures { result ≡ told_by (open_tests sync loss false self.now.state) }
+        ensures { result ≡ result_of_tests (open_tests sync loss false self.now.state) }
     {
         if self.connection.is_some() {
             return Err(Refusal::NotDrained);

@@ -7,7 +7,7 @@ ghost use Rattle.model.specs.Refusals.{first_refusal};
 ghost use Rattle.overlap.specs.Holdings.{conflict, holding, holding_too, is_held};
 ghost use Rattle.primary_core.specs.Kept.{owing};
 ghost use Rattle.primary_core.specs.OutOfMemory.{is_out_of_memory};
-ghost use Rattle.primary_core.specs.Submit.{IsWhole, gone_out, range_tests, taken_in, told_by};
+ghost use Rattle.primary_core.specs.Submit.{IsWhole, gone_out, range_tests, taken_in, result_of_tests};
 ghost use Rattle.primary_protocol.specs.Core.{EndState, is_established};
 ghost use Rattle.primary_protocol.specs.Transitions.{submit, whole_blocks};
 
@@ -64,7 +64,7 @@ impl PrimaryCore {
 
     // Checks whether `submit` would accept a write of this range, except for memory.
     fn may_submit(&self, range: Range) -> Result<(), Refusal>
-        ensures { result ≡ told_by (range_tests range.first.0 range.count self.now.state) }
+        ensures { result ≡ result_of_tests (range_tests range.first.0 range.count self.now.state) }
     {
         let is_established = self.log.connection().is_some();
         if !is_established && self.generations.tuple.bitmap == 0 {

@@ -156,7 +156,7 @@ pub record Resynced : Type 0 where
       command.RsDataReply 3
       ∷ frame command.BarrierAck ∷ with_sync (with_barrier 2 (frame command.RsWriteAck)) ∷ []
   pub ended : (after both_copied (two_marked standard)).tuple ≡ words 7 0 9 1
-  pub told : answers (Sends ∷ Sends ∷ []) (after both_copied (two_marked standard)) ≡ item command.Barrier 4 ∷ item command.Uuids 5 ∷ []
+  pub identifiers : answers (Sends ∷ Sends ∷ []) (after both_copied (two_marked standard)) ≡ item command.Barrier 4 ∷ item command.Uuids 5 ∷ []
   pub again : answers (copied 6 3 ∷ []) (after both_copied (two_marked standard)) ≡ Err refusal.UnknownAck ∷ []
   pub lost : (after (both_copied ++ Closes ∷ []) (two_marked standard)).tuple ≡ words 11 7 9 1
 

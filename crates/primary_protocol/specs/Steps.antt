@@ -33,16 +33,16 @@ pub record IsReached (h : PrimaryHistory) : Type 0 where
 
 -- a result as the model's reply
 abbrev pub replied : {R : Type 0} → (R → Reply) → Result R Refusal → Reply
-replied tell (Ok done) = tell done
-replied tell (Err refusal) = reply.Refused refusal
+replied as_reply (Ok done) = as_reply done
+replied as_reply (Err refusal) = reply.Refused refusal
 
 -- the reply of a step that has nothing to report
 abbrev pub plainly : Unit {0} → Reply
 plainly _ = reply.Ok (done_with what.Nothing)
 
 -- The transition gives the reply of the model's step, and its state is the one that the step leaves.
-pub record Agrees {R : Type 0} (tell : R → Reply) (got : Result R Refusal × PrimaryState) (step : Reply × PrimaryHistory) : Type 0 where
-  pub reply : replied tell got.0 ≡ step.0
+pub record Agrees {R : Type 0} (as_reply : R → Reply) (got : Result R Refusal × PrimaryState) (step : Reply × PrimaryHistory) : Type 0 where
+  pub reply : replied as_reply got.0 ≡ step.0
   pub leaves : Leaves got.1 step.1
 
 -- a new primary's state is the one that the opening leaves

@@ -3,6 +3,7 @@
 #![tactic(auto)]
 
 mod complete;
+mod ended;
 mod medium;
 mod pace;
 mod payload;
@@ -11,6 +12,7 @@ mod release;
 mod requests;
 mod under_way;
 
+pub use ended::Ended;
 pub use pace::time_left;
 pub use requests::Requests;
 pub use under_way::UnderWay;

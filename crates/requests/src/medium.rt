@@ -62,7 +62,8 @@ impl Medium {
         }
         let ready = self.ready.load(Ordering::SeqCst);
         if !*has_failed {
-            *has_failed = self.local.sync().is_err() || self.peer.sync().is_err();
+            let (local, peer) = (self.local.sync(), self.peer.sync());
+            *has_failed = local.is_err() || peer.is_err();
         }
         if *has_failed {
             return Err(Errno::InputOutput);

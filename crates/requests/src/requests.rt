@@ -1,10 +1,11 @@
 //! Requests over a device.
-ghost use Rattle.std.specs.Prelude.{◌≡◌, ◌*◌, [], vec_len, IfOk, OnOk};
+ghost use Rattle.std.specs.Prelude.{◌≡◌, ◌*◌, [], true, vec_len, IfOk, OnOk};
 ghost use Rattle.nbd.specs.Pieces.{pieces};
 ghost use Rattle.nbd.specs.declared.command.Command.TheVariants as command;
 ghost use Rattle.requests.specs.Receipts.{HasBegun, HasMore, range_of};
 
 use crate::complete::complete_all;
+use crate::ended::Ended;
 use crate::medium::Medium;
 use crate::perform::{begin_write, begin_zeroes, read};
 use crate::release::wait_for_release;
@@ -76,27 +77,24 @@ impl Requests {
         }
     }
 
-    /// Ends a request, and returns it with the data of a READ, and no bytes for any other command. A WRITE or
-    /// WRITE_ZEROES is done once each of its ranges has its receipt, which is appended. With FUA, and for a FLUSH, both
-    /// images are then on stable storage, and the peer's has each write that was answered before, unless that has no
-    /// connection: its blocks are marked.
+    /// Waits until a request is done, but for what it asks of stable storage: a WRITE or WRITE_ZEROES once each of its ranges
+    /// has its receipt, which is appended, and a READ once it has its bytes. A caller with many requests that ask for stable
+    /// storage ends them all, and then stores one after another: they share a sync.
     ///
-    /// `Invalid` (EINVAL) for a range that the device refuses and for DISC, which has no reply; `NoMemory` (ENOMEM) if
-    /// there is no memory; `InputOutput` (EIO) if a disk or a file failed, or the session has no room left. Then some
-    /// of the ranges may be written, and have their receipts.
-    pub fn end<R: Wait + Clock>(
+    /// It fails with `Invalid` (EINVAL) for a range that the device refuses and for DISC, which has no reply; `NoMemory`
+    /// (ENOMEM) if there is no memory; `InputOutput` (EIO) if a disk or a file failed, or the session has no room left. Then
+    /// some of the ranges may be written, and have their receipts.
+    pub fn end(
         &self,
-        rt: &R,
         device: &impl Device,
         under_way: UnderWay,
         receipts: &mut Vec<Receipt>,
-    ) -> (Request, Result<Vec<u8>, Errno>)
-        ensures request { result.0 ≡ under_way }
-        ensures read { under_way.command ≡ command.Read → IfOk result.1 (λ read. vec_len read ≡ under_way.block_count * 4096) }
-        ensures written { under_way.command ≡ command.Write
-            → OnOk result.1 (HasMore range_of (pieces under_way.first_block under_way.block_count) receipts.old.items receipts.new.items) }
-        ensures zeroed { under_way.command ≡ command.WriteZeroes
-            → OnOk result.1 (HasMore range_of (pieces under_way.first_block under_way.block_count) receipts.old.items receipts.new.items) }
+    ) -> Ended
+        ensures request { result.request ≡ under_way }
+        ensures written { under_way.command ≡ command.Write → result.is_done ≡ true
+            → HasMore range_of (pieces under_way.first_block under_way.block_count) receipts.old.items receipts.new.items }
+        ensures zeroed { under_way.command ≡ command.WriteZeroes → result.is_done ≡ true
+            → HasMore range_of (pieces under_way.first_block under_way.block_count) receipts.old.items receipts.new.items }
     {
         let UnderWay {
             request,
@@ -106,10 +104,57 @@ impl Requests {
         } = under_way;
         let completed = complete_all(device, begun, receipts);
         let result = match (begins, completed) {
-            (Ok(()), Ok(())) => self.finish(rt, device, &request, round),
+            (Ok(()), Ok(())) => self.read_data(device, &request),
             (Err(errno), _) | (_, Err(errno)) => Err(errno),
         };
-        (request, result)
+        // A FLUSH owes stable storage to what was answered before it began. The writes of any other request are in the files
+        // only now, so a round has to begin from now on.
+        let round = match request.command {
+            Command::Flush => round,
+            _ => self.medium.last_round(),
+        };
+        Ended {
+            request,
+            result,
+            round,
+        }
+    }
+
+    /// Returns a request that has ended, with the data of a READ, and no bytes for any other command. For a FLUSH, and with
+    /// FUA, both images are then on stable storage, and the peer's has each write that was answered before, unless that has
+    /// no connection: its blocks are marked. One sync does for all requests that had ended when it began.
+    ///
+    /// It fails as the request did, and with `InputOutput` (EIO) if a sync fails.
+    pub fn store<R: Wait + Clock>(
+        &self,
+        rt: &R,
+        device: &impl Device,
+        ended: Ended,
+    ) -> (Request, Result<Vec<u8>, Errno>)
+        ensures request { result.0 ≡ ended.request }
+        ensures done { OnOk result.1 (ended.is_done ≡ true) }
+        ensures read { ended.request.command ≡ command.Read → IfOk result.1 (λ read. vec_len read ≡ ended.request.block_count * 4096) }
+    {
+        let Ended {
+            request,
+            result,
+            round,
+        } = ended;
+        let asks = request.fua || request.command == Command::Flush;
+        if !asks || result.is_err() {
+            return (request, result);
+        }
+        match self.sync(rt, device, round) {
+            Ok(()) => (request, result),
+            Err(errno) => (request, Err(errno)),
+        }
+    }
+
+    /// Syncs both images to stable storage, whether a request asks for it or not. `InputOutput` (EIO) if a sync fails, or has
+    /// failed before: the system then forgets the data that it could not store.
+    pub fn sync_images<R: Wait>(&self, rt: &R) -> Result<(), Errno> {
+        let last = self.medium.last_round();
+        self.medium.sync(rt, last, self.medium.begin_round())
     }
 
     // Begins the writes of a request, in order, until one is refused.
@@ -133,39 +178,26 @@ impl Requests {
         }
     }
 
-    // Does the remaining part of a request once its writes are completed. Before it began, `round` was the last round of
-    // syncing.
-    fn finish<R: Wait + Clock>(
-        &self,
-        rt: &R,
-        device: &impl Device,
-        request: &Request,
-        round: u64,
-    ) -> Result<Vec<u8>, Errno>
-        ensures read { request.now.command ≡ command.Read → IfOk result (λ read. vec_len read ≡ request.now.block_count * 4096) }
+    // Returns the data of a READ, and no bytes for any other command. `Invalid` for DISC.
+    fn read_data(&self, device: &impl Device, request: &Request) -> Result<Vec<u8>, Errno>
+        ensures { request.now.command ≡ command.Read → IfOk result (λ read. vec_len read ≡ request.now.block_count * 4096) }
     {
         match request.command {
             Command::Read => {
                 let count = u64::from(request.block_count);
-                return read(self.alloc, device, ranges_of(request)?, count);
+                read(self.alloc, device, ranges_of(request)?, count)
             }
-            Command::Flush => self.sync(rt, device, round)?,
-            Command::Disconnect => return Err(Errno::Invalid),
-            Command::Write | Command::WriteZeroes => {}
+            Command::Disconnect => Err(Errno::Invalid),
+            Command::Flush | Command::Write | Command::WriteZeroes => Ok(Vec::new(self.alloc)),
         }
-        if request.fua {
-            // Its own writes are in the files only now, so a round has to begin from now on.
-            self.sync(rt, device, self.medium.last_round())?;
-        }
-        Ok(Vec::new(self.alloc))
     }
 
     // Syncs both images to stable storage, in a round that begins after the round `last`: one of another request, or a
     // new one. A round is ready once the peer's disk has each write that was answered before the round began, unless that has
     // no connection; under protocol C it has it already.
     //
-    // So any round after `last` does for a request that took this number when it began: the round began later, and each
-    // write that was answered before the request is in the files once the round is ready.
+    // So any round after `last` does for a request that took this number: the round began later, and each write that was
+    // answered before is in the files once the round is ready.
     fn sync<R: Wait + Clock>(&self, rt: &R, device: &impl Device, last: u64) -> Result<(), Errno> {
         if self.medium.is_synced_after(last) {
             return Ok(());

@@ -2,8 +2,8 @@
 //! reports.
 #![tactic(auto)]
 
-mod telling;
+mod progress;
 mod workers;
 
-pub use telling::tell_status;
+pub use progress::print_status;
 pub use workers::work;

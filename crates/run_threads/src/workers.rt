@@ -2,7 +2,7 @@
 ghost use Rattle.std.specs.Prelude.{◌≡◌, ◌*◌, ◌<◌, vec_len, IfOk};
 ghost use Rattle.std.specs.Thread.{IsSend, IsSync};
 
-use crate::telling::{Course, tell};
+use crate::progress::{Progress, report};
 use blocks::{BLOCK_BYTES, Refusal};
 use bytes::Bytes;
 use halves::Device;
@@ -35,18 +35,18 @@ pub fn work<
     requires { 0 < options.now.blocks }
     ensures { IfOk result (λ receipts. vec_len receipts ≡ options.now.writers * options.now.writes) }
 {
-    let course = Course::new();
-    if !options.telling.status && !options.telling.progress {
-        return write_and_cut(rt, alloc, device, options, &course);
+    let progress = Progress::new();
+    if !options.live.status && !options.live.progress {
+        return write_and_cut(rt, alloc, device, options, &progress);
     }
     let (_, worked) = thread::join(
         rt,
-        || { tell(rt, device, options, &course, err) },
+        || { report(rt, device, options, &progress, err) },
         || -> Result<Vec<Receipt>, Refusal>
             requires { IsSend R.row × IsSync R.row × IsSync D.row × (0 < options.now.blocks) }
         {
-            let worked = write_and_cut(rt, alloc, device, options, &course);
-            course.end(rt);
+            let worked = write_and_cut(rt, alloc, device, options, &progress);
+            progress.end(rt);
             worked
         },
     );
@@ -59,7 +59,7 @@ fn write_and_cut<R: Threads + Wait + Clock + Copy + Drop + Send + Sync + 'static
     alloc: Global,
     device: &D,
     options: &RunOptions,
-    course: &Course,
+    progress: &Progress,
 ) -> Result<Vec<Receipt>, Refusal>
     requires { 0 < options.now.blocks }
     ensures { IfOk result (λ receipts. vec_len receipts ≡ options.now.writers * options.now.writes) }
@@ -69,7 +69,7 @@ fn write_and_cut<R: Threads + Wait + Clock + Copy + Drop + Send + Sync + 'static
         || -> Result<(), Refusal> { cut_all(rt, device, options.cuts) },
         || -> Result<Vec<Receipt>, Refusal>
             requires { IsSend R.row × IsSync R.row × IsSync D.row × (0 < options.now.blocks) }
-        { write_all(rt, alloc, device, options, course) },
+        { write_all(rt, alloc, device, options, progress) },
     );
     rest(rt, device);
     let receipts = written?;
@@ -93,7 +93,7 @@ fn write_all<R: Threads + Wait + Clock + Copy + Drop + Send + Sync + 'static>(
     alloc: Global,
     device: &(impl Device + Sync),
     options: &RunOptions,
-    course: &Course,
+    progress: &Progress,
 ) -> Result<Vec<Receipt>, Refusal>
     requires { 0 < options.now.blocks }
     ensures { IfOk result (λ receipts. vec_len receipts ≡ options.now.writers * options.now.writes) }
@@ -103,7 +103,7 @@ fn write_all<R: Threads + Wait + Clock + Copy + Drop + Send + Sync + 'static>(
         alloc,
         options.writers as usize,
         &|writer| -> Result<Vec<Receipt>, Refusal> {
-            write_turns(alloc, device, options, writer as u32, course)
+            write_turns(alloc, device, options, writer as u32, progress)
         },
     )?;
     let mut all = Vec::new(alloc);
@@ -123,7 +123,7 @@ fn write_turns(
     device: &impl Device,
     options: &RunOptions,
     writer: u32,
-    course: &Course,
+    progress: &Progress,
 ) -> Result<Vec<Receipt>, Refusal>
     requires { 0 < options.now.blocks }
     ensures { IfOk result (λ receipts. vec_len receipts ≡ options.now.writes) }
@@ -132,7 +132,7 @@ fn write_turns(
     for turn in 0..options.writes {
         let bytes = Bytes::copy_from_slice(alloc, &[byte_of_turn(writer, turn); BLOCK_BYTES])?;
         receipts.push(device.write(options.block(writer, turn), &bytes)?)?;
-        course.count();
+        progress.count();
     }
     Ok(receipts)
 }

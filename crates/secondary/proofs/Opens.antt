@@ -51,12 +51,12 @@ pub not-opened-steps : (unseen : ℕ) (v : SecondaryView) (t : SecondaryState) (
     → number ≡ suc (v.core.number + unseen)
     → result ≡ Err e → said ≡ Err e → (result, t) ≡ open_end number v.core
     → NodeSteps (OpensToo unseen) (node v) (replied plainly said) (node (record v { core = t }))
-not-opened-steps unseen v t number result said e node_is next refused told is =
+not-opened-steps unseen v t number result said e node_is next refused returned is =
     let same : (Err e, t) ≡ open_end number v.core = subst (λ (r : Result (Unit {0}) Refusal). (r, t) ≡ open_end number v.core) refused is in
     let here : (Err e, t) ≡ open_end (suc (v.core.number + unseen)) v.core = subst (λ (n : ℕ). (Err e, t) ≡ open_end n v.core) next same in
     subst (λ (x : SecondaryState). NodeSteps (OpensToo unseen) (node v) (replied plainly said) (node (record v { core = x })))
     (sym (stays v.core t (open_tests v.core) (opened number v.core) e same))
-    (subst (λ (r : Result (Unit {0}) Refusal). NodeSteps (OpensToo unseen) (node v) (replied plainly r) (node v)) (sym told)
+    (subst (λ (r : Result (Unit {0}) Refusal). NodeSteps (OpensToo unseen) (node v) (replied plainly r) (node v)) (sym returned)
     (node-not-opened unseen (node v) e t here))
 
 -- An opening that is done, over sides through which nothing has gone on this connection.

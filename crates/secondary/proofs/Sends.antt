@@ -121,13 +121,13 @@ due-refused s e is = go s.end is
 pub nothing-due-steps : (n : NodeState) (e : Refusal) (result : Result Done Refusal) → due n.core ≡ Err e → result ≡ Err e
     → NodeSteps (Acknowledges (has_room result) (is_out_of_memory result)) n (replied (λ done. done) result) n
 nothing-due-steps n e result is refused = elim (due-refused n.core e is) [
-  | inl shut ↦ told NotConnected shut (node-not-due n NotConnected (is ∙ ap Err shut))
-  | inr none ↦ told NothingThere none (node-not-due n NothingThere (is ∙ ap Err none))
+  | inl shut ↦ returned NotConnected shut (node-not-due n NotConnected (is ∙ ap Err shut))
+  | inr none ↦ returned NothingThere none (node-not-due n NothingThere (is ∙ ap Err none))
 ]
   where
-    told : (x : Refusal) → e ≡ x → NodeSteps (Acknowledges (has_room {R = Done} (Err x)) (is_out_of_memory {R = Done} (Err x))) n (reply.Refused x) n
+    returned : (x : Refusal) → e ≡ x → NodeSteps (Acknowledges (has_room {R = Done} (Err x)) (is_out_of_memory {R = Done} (Err x))) n (reply.Refused x) n
         → NodeSteps (Acknowledges (has_room result) (is_out_of_memory result)) n (replied (λ done. done) result) n
-    told x same steps = subst (λ (r : Result Done Refusal). NodeSteps (Acknowledges (has_room r) (is_out_of_memory r)) n (replied (λ done. done) r) n)
+    returned x same steps = subst (λ (r : Result Done Refusal). NodeSteps (Acknowledges (has_room r) (is_out_of_memory r)) n (replied (λ done. done) r) n)
         (sym (refused ∙ ap Err same)) steps
 
 -- and the link is left alone

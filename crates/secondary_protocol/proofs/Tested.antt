@@ -18,14 +18,16 @@ use Rattle.secondary_protocol.specs.Leaves.{Leaves, EndLeft, FailedLeft}
 use Rattle.secondary_protocol.specs.Steps.{Agrees}
 
 -- With the same tests they agree, where they agree when no test holds.
-pub tested-agrees : {R : Type 0} (tell : R → Done) (s : SecondaryState) (h : SecondaryHistory) (tests same : List Test) (got : Unit {0}
+pub tested-agrees : {R : Type 0} (as_reply : R → Done) (s : SecondaryState) (h : SecondaryHistory) (tests same : List Test) (got : Unit {0}
     → Result R Refusal × SecondaryState) (step : Unit {0} → Reply × SecondaryHistory)
-    → tests ≡ same → Leaves s h → (first_refusal same ≡ None → Agrees tell (got tt) (step tt)) → Agrees tell (tested s tests got) (tested_secondary h same step)
-tested-agrees {R} tell s h tests same got step e left done = subst (λ (ts : List Test). Agrees tell (tested s ts got) (tested_secondary h same step)) (sym e)
+    → tests ≡ same → Leaves s h → (first_refusal same ≡ None → Agrees as_reply (got tt) (step tt))
+    → Agrees as_reply (tested s tests got) (tested_secondary h same step)
+tested-agrees {R} as_reply s h tests same got step e left done = subst (λ (ts : List Test). Agrees as_reply (tested s ts got) (tested_secondary h same step))
+    (sym e)
     (go (first_refusal same) refl)
   where
     go : (v : Option Refusal) → first_refusal same ≡ v
-        → Agrees tell (elim v as (λ _. Result R Refusal × SecondaryState) [ Some refusal ↦ (Err refusal, s) | None ↦ got tt ])
+        → Agrees as_reply (elim v as (λ _. Result R Refusal × SecondaryState) [ Some refusal ↦ (Err refusal, s) | None ↦ got tt ])
         (elim v as (λ _. Reply × SecondaryHistory) [ Some refusal ↦ (reply.Refused refusal, h) | None ↦ step tt ])
     go (Some refusal) is = record { reply = refl; leaves = left }
     go None is = done is

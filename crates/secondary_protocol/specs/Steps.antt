@@ -21,16 +21,16 @@ use Rattle.secondary_protocol.specs.Leaves.{Leaves}
 
 -- a result as the model's reply
 abbrev pub replied : {R : Type 0} → (R → Done) → Result R Refusal → Reply
-replied tell (Ok done) = reply.Ok (tell done)
-replied tell (Err refusal) = reply.Refused refusal
+replied as_reply (Ok done) = reply.Ok (as_reply done)
+replied as_reply (Err refusal) = reply.Refused refusal
 
 -- the report of a step that has nothing to report
 abbrev pub plainly : Unit {0} → Done
 plainly _ = done_with what.Nothing
 
 -- The transition gives the reply of the model's step, and its state is the one that the step leaves.
-pub record Agrees {R : Type 0} (tell : R → Done) (got : Result R Refusal × SecondaryState) (step : Reply × SecondaryHistory) : Type 0 where
-  pub reply : replied tell got.0 ≡ step.0
+pub record Agrees {R : Type 0} (as_reply : R → Done) (got : Result R Refusal × SecondaryState) (step : Reply × SecondaryHistory) : Type 0 where
+  pub reply : replied as_reply got.0 ≡ step.0
   pub leaves : Leaves got.1 step.1
 
 -- a new secondary's state is the one that the opening leaves

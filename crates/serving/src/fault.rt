@@ -22,6 +22,10 @@ pub(crate) enum Fault<'a> {
     Unmarked(u32),
     /// This many blocks are still marked, so the peer's image may not have them.
     Marked(u32),
+    /// The image was replaced, or its length changed, while it was served.
+    Changed(&'a str),
+    /// A sync of an image has failed, now or at a flush.
+    Unsynced,
     /// The output could not be written.
     Unwritten(io::Error),
 }
@@ -51,6 +55,13 @@ impl fmt::Display for Fault<'_> {
             Fault::Marked(count) => write!(
                 f,
                 "{count} blocks could not be copied: the peer's image is not like the local one"
+            ),
+            Fault::Changed(file) => write!(
+                f,
+                "{file} was replaced, or its length changed, while it was served"
+            ),
+            Fault::Unsynced => f.write_str(
+                "an image could not be put on stable storage: it may lack what was written to it",
             ),
             Fault::Unwritten(error) => write!(f, "the output could not be written: {error}"),
         }

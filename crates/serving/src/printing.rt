@@ -25,9 +25,9 @@ type Opened = (ImageStore<File>, SyncHandle<File>);
 
 /// Serves both images to block clients until `input` has a line `quit`, and prints `completed X`, `settled X` and
 /// `unmarked 0`, X being the number of ranges that clients wrote. Locks both images meanwhile. Returns how it ended:
-/// `Done` if all is done; `Failed` if a file, an address, the output, memory or a thread failed, an image is in use, the
-/// disks differ without a mark, or blocks are still marked; `Refused` for any other refusal. For the last two a line on
-/// `err` says why. The end of `input` is no order to end.
+/// `Done` if all is done, and both images are on stable storage; `Failed` if a file, a sync, an address, the output, memory
+/// or a thread failed, an image is in use or was changed by others, the disks differ without a mark, or blocks are still
+/// marked; `Refused` for any other refusal. For the last two a line on `err` says why. The end of `input` is no order to end.
 pub fn serve<
     H: Host + Files<File = File> + Net<Listener = TcpListener, Stream = TcpStream> + RandomSource,
     I: Read + Drop + Send + 'static,
@@ -54,19 +54,26 @@ fn serve_images<
     I: Read + Drop + Send + 'static,
     E: Write,
 >(rt: &H, options: &ServeOptions<'a>, input: I, err: &mut E) -> Result<Totals, Fault<'a>> {
-    let locks = lock_both(rt, options)?;
-    let served = serve_locked(rt, options, input, err);
-    drop(locks);
+    let (local, peer) = lock_both(rt, options)?;
+    let served = serve_locked(rt, options, (&local, &peer), input, err);
+    drop(local);
+    drop(peer);
     served
 }
 
-// Serves both images. Returns the results of the sessions.
+// Serves both images. Returns the results of the sessions, if the images are still the files that were locked.
 fn serve_locked<
     'a,
     H: Host + Files<File = File> + Net<Listener = TcpListener, Stream = TcpStream> + RandomSource,
     I: Read + Drop + Send + 'static,
     E: Write,
->(rt: &H, options: &ServeOptions<'a>, input: I, err: &mut E) -> Result<Totals, Fault<'a>> {
+>(
+    rt: &H,
+    options: &ServeOptions<'a>,
+    locks: (&ImageLock, &ImageLock),
+    input: I,
+    err: &mut E,
+) -> Result<Totals, Fault<'a>> {
     let blocks = blocks_of(rt, options)?;
     let doors = Doors::open(rt, options.listen, options.status)?;
     match open_both(rt, options, blocks) {
@@ -80,7 +87,12 @@ fn serve_locked<
                 input,
                 err,
             ) {
-                Ok(service) => finish(rt, &service, options, (local, peer)),
+                Ok(service) => {
+                    let totals = finish(rt, &service, options, (local, peer))?;
+                    check_kept(rt, locks.0, options.local, blocks)?;
+                    check_kept(rt, locks.1, options.peer, blocks)?;
+                    Ok(totals)
+                }
                 Err(fault) => Err(fault),
             }
         }
@@ -115,15 +127,20 @@ fn begin<
     Ok(service)
 }
 
-// Runs the sessions of a server until it ends.
+// Runs the sessions of a server until it ends, and puts both images on stable storage.
 fn finish<'a, H: Runtime>(
     rt: &H,
     service: &Service,
     options: &ServeOptions<'a>,
     disks: Disks,
 ) -> Result<Totals, Fault<'a>> {
-    match run_sessions(*rt, service, options.cut_every, disks) {
-        Ok(rest) => Ok(rest.totals),
+    let ran = run_sessions(*rt, service, options.cut_every, disks);
+    let synced = service.requests.sync_images(rt);
+    match ran {
+        Ok(rest) => Ok(Totals {
+            is_synced: synced.is_ok(),
+            ..rest.totals
+        }),
         Err(refusal) => Err(Fault::Refused(refusal)),
     }
 }
@@ -146,6 +163,20 @@ fn blocks_of<'a, H: Files>(rt: &H, options: &ServeOptions<'a>) -> Result<u32, Fa
         });
     }
     Ok(blocks as u32)
+}
+
+// Checks that a locked image is still the file at its path, and an image of the device.
+fn check_kept<'a, H: Files<File = File>>(
+    rt: &H,
+    lock: &ImageLock,
+    file: &'a str,
+    blocks: u32,
+) -> Result<(), Fault<'a>> {
+    if lock.is_kept(rt, file, u64::from(blocks) * BLOCK_BYTES as u64) {
+        Ok(())
+    } else {
+        Err(Fault::Changed(file))
+    }
 }
 
 // Locks both images, the local one first.
@@ -214,6 +245,7 @@ fn print<'a, W: Write>(totals: &Totals, out: &mut W) -> Result<(), Fault<'a>> {
     match print_lines(totals, out) {
         Ok(()) if totals.unmarked > 0 => Err(Fault::Unmarked(totals.unmarked)),
         Ok(()) if totals.marked > 0 => Err(Fault::Marked(totals.marked)),
+        Ok(()) if !totals.is_synced => Err(Fault::Unsynced),
         Ok(()) => Ok(()),
         Err(error) => Err(Fault::Unwritten(error)),
     }

@@ -24,6 +24,8 @@ pub(crate) struct Totals {
     pub(crate) unmarked: u32,
     /// Blocks that were marked after the last session: the peer's image may not have them.
     pub(crate) marked: u32,
+    /// Whether no sync of an image has failed.
+    pub(crate) is_synced: bool,
 }
 
 impl Totals {
@@ -33,6 +35,7 @@ impl Totals {
         confirmed: 0,
         unmarked: 0,
         marked: 0,
+        is_synced: true,
     };
 
     /// Adds the results of one session, after which this many blocks are marked.
@@ -42,6 +45,7 @@ impl Totals {
             confirmed: self.confirmed.saturating_add(settled.confirmed),
             unmarked: settled.unmarked,
             marked,
+            is_synced: self.is_synced,
         }
     }
 }

@@ -48,7 +48,7 @@ pub(crate) fn ask(kind: u8, cookie: u8, offset: [u8; 2], length: [u8; 2]) -> [u8
 }
 
 /// Makes the header of a reply.
-pub(crate) fn told(error: u8, cookie: u8) -> [u8; 16] {
+pub(crate) fn reply(error: u8, cookie: u8) -> [u8; 16] {
     [
         0x67, 0x44, 0x66, 0x98, 0, 0, 0, error, 0, 0, 0, 0, 0, 0, 0, cookie,
     ]
@@ -125,7 +125,7 @@ fn talk(alloc: Global, stream: &mut TcpStream) -> io::Result<bool> {
         alloc,
         stream,
         &[&ask(0, 4, [0x10, 0], [0x20, 0])],
-        &[&told(0, 4), &AB_BLOCK, &ZERO_BLOCK],
+        &[&reply(0, 4), &AB_BLOCK, &ZERO_BLOCK],
     )?;
     let is_done_at_once = burst(alloc, stream)?;
     let is_refused = overstep(alloc, stream)?;
@@ -142,10 +142,10 @@ fn change(alloc: Global, stream: &mut TcpStream) -> io::Result<bool> {
         alloc,
         stream,
         &[&write, &AB_BLOCK, &AB_BLOCK],
-        &[&told(0, 1)],
+        &[&reply(0, 1)],
     )?;
-    let is_zeroed = exchange(alloc, stream, &[&zero], &[&told(0, 2)])?;
-    let is_flushed = exchange(alloc, stream, &[&flush], &[&told(0, 3)])?;
+    let is_zeroed = exchange(alloc, stream, &[&zero], &[&reply(0, 2)])?;
+    let is_flushed = exchange(alloc, stream, &[&flush], &[&reply(0, 3)])?;
     Ok(is_written && is_zeroed && is_flushed)
 }
 
@@ -153,8 +153,8 @@ fn change(alloc: Global, stream: &mut TcpStream) -> io::Result<bool> {
 fn overstep(alloc: Global, stream: &mut TcpStream) -> io::Result<bool> {
     let part = ask(0, 5, [0, 1], [0x10, 0]);
     let past = ask(1, 6, [0x80, 0], [0x10, 0]);
-    let is_part_refused = exchange(alloc, stream, &[&part], &[&told(22, 5)])?;
-    let is_end_refused = exchange(alloc, stream, &[&past, &AB_BLOCK], &[&told(28, 6)])?;
+    let is_part_refused = exchange(alloc, stream, &[&part], &[&reply(22, 5)])?;
+    let is_end_refused = exchange(alloc, stream, &[&past, &AB_BLOCK], &[&reply(28, 6)])?;
     Ok(is_part_refused && is_end_refused)
 }
 
@@ -165,7 +165,7 @@ fn burst(alloc: Global, stream: &mut TcpStream) -> io::Result<bool> {
     stream.write_all(asked.as_slice())?;
     let mut seen = [false; 3];
     for _ in 0..3 {
-        if !is_one_told(alloc, stream, &mut seen)? {
+        if !is_one_answered(alloc, stream, &mut seen)? {
             return Ok(false);
         }
     }
@@ -185,11 +185,15 @@ fn asked_at_once(alloc: Global) -> Result<Vec<u8>, AllocError> {
 }
 
 // Returns whether the next reply is right for one of these requests, whose reply did not come before.
-fn is_one_told(alloc: Global, stream: &mut TcpStream, seen: &mut [bool; 3]) -> io::Result<bool> {
+fn is_one_answered(
+    alloc: Global,
+    stream: &mut TcpStream,
+    seen: &mut [bool; 3],
+) -> io::Result<bool> {
     let mut header = [0u8; 16];
     stream.read_exact(&mut header)?;
     let cookie = header[15];
-    if header != told(0, cookie) || !(8..=10).contains(&cookie) {
+    if header != reply(0, cookie) || !(8..=10).contains(&cookie) {
         return Ok(false);
     }
     let place = usize::from(cookie) - 8;
@@ -212,7 +216,7 @@ const PAGE_ANSWER: &[u8] = b"HTTP/1.1 200 OK\r\n";
 const PAGE_LINE: &[u8] = b"\r\n\r\ncs:Connected ro:Primary/Secondary ds:UpToDate/UpToDate pr:";
 
 // Returns whether the status page says that both nodes are connected.
-fn is_told(alloc: Global, stream: &mut TcpStream) -> io::Result<bool> {
+fn is_answered(alloc: Global, stream: &mut TcpStream) -> io::Result<bool> {
     stream.write_all(PAGE)?;
     let mut came = Vec::new(alloc);
     stream.read_to_end(&mut came)?;
@@ -240,7 +244,7 @@ fn is_shown<R: Net<Stream = TcpStream> + Clock>(
     page: SocketAddr,
 ) -> io::Result<bool> {
     let mut stream = connect(rt, page)?;
-    is_told(alloc, &mut stream)
+    is_answered(alloc, &mut stream)
 }
 
 // Returns two addresses at which nothing listens.

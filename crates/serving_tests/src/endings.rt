@@ -1,5 +1,5 @@
 //! Test of a client whose requests are under way when the server ends.
-use crate::clients::{ZERO_BLOCK, ask, free_addresses, options_of, put_image, serve_until, told};
+use crate::clients::{ZERO_BLOCK, ask, free_addresses, options_of, put_image, reply, serve_until};
 use crate::slow_reader::{BLOCKS, READS, ask_for_all, open};
 use blocks::Protocol;
 use serving::{Host, ServeOptions};
@@ -52,10 +52,10 @@ fn take_one(rt: &impl Abort, stream: &mut TcpStream, seen: &mut [usize; 256]) ->
     if let Some(count) = seen.get_mut(usize::from(cookie)) {
         *count = count.saturating_add(1);
     }
-    if header == told(SHUTDOWN, cookie) {
+    if header == reply(SHUTDOWN, cookie) {
         return false;
     }
-    assert_eq!(rt; header, told(0, cookie), "a header");
+    assert_eq!(rt; header, reply(0, cookie), "a header");
     let mut block = [0u8; 4096];
     for number in 0..BLOCKS {
         stream.read_exact(&mut block).expect(rt, "a block");

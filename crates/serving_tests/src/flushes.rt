@@ -1,39 +1,49 @@
 //! Tests of what a FLUSH and a request with FUA wait for, over a device whose writes are released late.
-use blocks::{Protocol, Refusal};
+use blocks::{BLOCK_BYTES, Protocol, Refusal};
 use bytes::Bytes;
 use halves::{Begun, Device};
 use image_store::ImageStore;
 use nbd::{Command, Request};
 use primary::Receipt;
 use requests::Requests;
+use std::alloc::Global;
 use std::fs::{self, File, Files, OpenFile};
 use std::process::Abort;
 use std::sync::Wait;
 use std::sync::atomic::{AtomicU64, Ordering};
 use std::time::Clock;
 
-/// How many writes the device has accepted before it is asked for the first time.
+/// How many writes a device has accepted before it is asked for the first time.
 const ACCEPTED: u64 = 3;
 
-/// The question that the device answers with yes first.
+/// The question that a device answers with yes first.
 const RELEASED_AT: u64 = 4;
 
-/// A device whose first `ACCEPTED` writes are released late: it says so when it is asked for the `RELEASED_AT`th time. Another
-/// write is accepted each time that it is asked how many are. It takes no request.
+/// A device whose writes are released late: it says so when it is asked for the `released_at`th time. At first `ACCEPTED` are
+/// accepted, and another one each time that it is asked how many are. Its blocks are zeros, and it takes no write.
 #[derive(Drop)]
-struct LateDevice {
+pub(crate) struct LateDevice {
+    alloc: Global,
     accepted: AtomicU64,
+    released_at: AtomicU64,
     questions: AtomicU64,
     strays: AtomicU64,
 }
 
 impl LateDevice {
-    fn new() -> LateDevice {
+    pub(crate) fn new(alloc: Global, released_at: u64) -> LateDevice {
         LateDevice {
+            alloc,
             accepted: AtomicU64::new(ACCEPTED),
+            released_at: AtomicU64::new(released_at),
             questions: AtomicU64::new(0),
             strays: AtomicU64::new(0),
         }
+    }
+
+    /// Releases its writes from now on.
+    pub(crate) fn release(&self) {
+        self.released_at.store(0, Ordering::SeqCst);
     }
 
     // Returns how often it was asked whether writes are released, and how often of these for others than the first `ACCEPTED`.
@@ -57,7 +67,7 @@ impl Device for LateDevice {
     }
 
     fn read(&self, _first: u64, _count: u64) -> Result<Vec<u8>, Refusal> {
-        Err(Refusal::ReadFault)
+        Ok(Vec::from_elem(self.alloc, 0u8, BLOCK_BYTES)?)
     }
 
     fn cut(&self) {}
@@ -75,7 +85,7 @@ impl Device for LateDevice {
     }
 
     fn is_quiet(&self) -> bool {
-        false
+        true
     }
 
     fn accepted(&self) -> u64 {
@@ -87,16 +97,16 @@ impl Device for LateDevice {
             self.strays.fetch_add(1, Ordering::SeqCst);
         }
         let before = self.questions.fetch_add(1, Ordering::SeqCst);
-        before.saturating_add(1) >= RELEASED_AT
+        before.saturating_add(1) >= self.released_at.load(Ordering::SeqCst)
     }
 }
 
-// Creates requests under this protocol, which sync a file.
-fn requests_under(
+/// Creates requests under this protocol, which sync a file. The file is made by this name, and then removed.
+pub(crate) fn requests_under(
     rt: &(impl Abort + Files<File = File> + AllocGlobal),
     protocol: Protocol,
+    image: &str,
 ) -> Requests {
-    let image = "flushed_late";
     fs::write(rt, image, &[0; 4096]).expect(rt, "a file");
     let (_, local) = ImageStore::open(rt, image, 1).expect(rt, "an image");
     let (_, peer) = ImageStore::open(rt, image, 1).expect(rt, "an image");
@@ -104,8 +114,8 @@ fn requests_under(
     Requests::new(rt.alloc(), protocol, local, peer)
 }
 
-// Begins a request `count` times over a device, and then ends one after another.
-fn end_together(
+// Begins a request `count` times over a device, ends one after another, and then stores one after another.
+fn store_together(
     rt: &(impl Abort + Wait + Clock + AllocGlobal),
     requests: &Requests,
     device: &LateDevice,
@@ -118,8 +128,13 @@ fn end_together(
         begun.push(under_way).expect(rt, "memory");
     }
     let mut receipts = Vec::new(rt.alloc());
+    let mut unstored = Vec::new(rt.alloc());
     for under_way in begun {
-        let (_, result) = requests.end(rt, device, under_way, &mut receipts);
+        let ended = requests.end(device, under_way, &mut receipts);
+        unstored.push(ended).expect(rt, "memory");
+    }
+    for ended in unstored {
+        let (_, result) = requests.store(rt, device, ended);
         assert!(rt; result.is_ok());
     }
 }
@@ -131,9 +146,9 @@ fn asked_for(
     command: Command,
     fua: bool,
 ) -> (u64, u64) {
-    let device = LateDevice::new();
-    let requests = requests_under(rt, protocol);
-    end_together(rt, &requests, &device, (command, fua), 1);
+    let device = LateDevice::new(rt.alloc(), RELEASED_AT);
+    let requests = requests_under(rt, protocol, "flushed_late");
+    store_together(rt, &requests, &device, (command, fua), 1);
     device.asked()
 }
 
@@ -179,20 +194,38 @@ fn a_flush_under_c_waits_for_no_write(rt: HostRuntime) {
 #[test]
 fn flushes_share_a_round(rt: HostRuntime) {
     for protocol in [Protocol::A, Protocol::B] {
-        let device = LateDevice::new();
-        let requests = requests_under(&rt, protocol);
-        end_together(&rt, &requests, &device, (Command::Flush, false), 3);
+        let device = LateDevice::new(rt.alloc(), RELEASED_AT);
+        let requests = requests_under(&rt, protocol, "flushed_late");
+        store_together(&rt, &requests, &device, (Command::Flush, false), 3);
         assert_eq!(rt; device.asked(), (RELEASED_AT, 0));
-        end_together(&rt, &requests, &device, (Command::Flush, false), 1);
+        store_together(&rt, &requests, &device, (Command::Flush, false), 1);
         assert_eq!(rt; device.asked(), (RELEASED_AT + 1, 1));
     }
 }
 
-// The writes of a request with FUA are completed as it ends, so a round that began before is none for it.
+// Requests with FUA that have ended before the first of them is stored share its round. One that ends later takes no earlier
+// round, since its writes are completed only as it ends: it asks once more.
+#[test]
+fn requests_with_fua_share_a_round(rt: HostRuntime) {
+    let device = LateDevice::new(rt.alloc(), RELEASED_AT);
+    let requests = requests_under(&rt, Protocol::A, "flushed_late");
+    store_together(&rt, &requests, &device, (Command::WriteZeroes, true), 3);
+    assert_eq!(rt; device.asked(), (RELEASED_AT, 0));
+    store_together(&rt, &requests, &device, (Command::WriteZeroes, true), 1);
+    assert_eq!(rt; device.asked(), (RELEASED_AT + 1, 1));
+}
+
+// A request that begins before a round and ends after it takes a later one.
 #[test]
 fn a_request_with_fua_takes_no_earlier_round(rt: HostRuntime) {
-    let device = LateDevice::new();
-    let requests = requests_under(&rt, Protocol::A);
-    end_together(&rt, &requests, &device, (Command::WriteZeroes, true), 2);
+    let device = LateDevice::new(rt.alloc(), RELEASED_AT);
+    let requests = requests_under(&rt, Protocol::A, "flushed_late");
+    let under_way = requests.begin(&device, request(Command::WriteZeroes, true));
+    store_together(&rt, &requests, &device, (Command::Flush, false), 1);
+    assert_eq!(rt; device.asked(), (RELEASED_AT, 0));
+    let mut receipts = Vec::new(rt.alloc());
+    let ended = requests.end(&device, under_way, &mut receipts);
+    let (_, result) = requests.store(&rt, &device, ended);
+    assert!(rt; result.is_ok());
     assert_eq!(rt; device.asked(), (RELEASED_AT + 1, 1));
 }

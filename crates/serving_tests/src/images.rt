@@ -118,9 +118,9 @@ fn another_length_is_refused(rt: HostRuntime) {
         found: 12_289,
         wanted: 16_384,
     };
-    let told = format!(in rt.alloc(); "{fault}").expect(&rt, "memory");
+    let text = format!(in rt.alloc(); "{fault}").expect(&rt, "memory");
     let wanted = "the image has 12289 bytes, and an image of this device has 16384";
-    assert_eq!(rt; told.as_str(), wanted);
+    assert_eq!(rt; text.as_str(), wanted);
     fs::remove_file(&rt, "other_length").expect(&rt, "a file");
 }
 
@@ -146,7 +146,7 @@ fn lock_fault(rt: &impl Files<File = File>, path: &str) -> Option<OpenFault> {
 }
 
 // An image has one lock, whatever path names it, and is free again once that is dropped. The locked image still opens
-// as a disk. A file that does not exist is not created.
+// as a disk. A file that does not exist is not created, and what is no file is no image.
 #[test]
 fn an_image_is_locked_once(rt: HostRuntime) {
     make_image(&rt, "locked", 1, 4096);
@@ -159,14 +159,30 @@ fn an_image_is_locked_once(rt: HostRuntime) {
         );
     }
     assert!(rt; ImageStore::open(&rt, "locked", 1).is_ok());
+    assert!(rt; lock.is_kept(&rt, "locked_link", 4096));
+    assert!(rt; !lock.is_kept(&rt, "locked_link", 8192));
     drop(lock);
     assert!(rt; lock_fault(&rt, "locked_link").is_none());
     assert!(rt;
         matches!(&lock_fault(&rt, "no_image"), Some(OpenFault::Unread(error)) if error.kind() == io::ErrorKind::NotFound)
     );
     assert!(rt; fs::metadata(&rt, "no_image").is_err());
+    assert!(rt; matches!(&lock_fault(&rt, "/dev/null"), Some(OpenFault::NotAFile)));
     fs::remove_file(&rt, "locked_link").expect(&rt, "a link");
     fs::remove_file(&rt, "locked").expect(&rt, "a file");
+}
+
+// A lock is kept on a file. It says so if another one has taken its place.
+#[test]
+fn a_replaced_image_is_not_kept(rt: HostRuntime) {
+    make_image(&rt, "replaced", 1, 4096);
+    make_image(&rt, "replacing", 1, 4096);
+    let lock = ImageLock::take(&rt, "replaced").expect(&rt, "a lock");
+    assert!(rt; lock.is_kept(&rt, "replaced", 4096));
+    fs::rename(&rt, "replacing", "replaced").expect(&rt, "a file");
+    assert!(rt; !lock.is_kept(&rt, "replaced", 4096));
+    fs::remove_file(&rt, "replaced").expect(&rt, "a file");
+    assert!(rt; !lock.is_kept(&rt, "replaced", 4096));
 }
 
 // Makes a file of 16 MiB of zeros.

@@ -1,4 +1,4 @@
-//! Tests of a server: clients over sockets, by bytes written out by hand, also at its end; what a flush waits for; disks over
+//! Tests of a server: clients over sockets, by bytes written out by hand, also at its end; what a flush waits for and holds up; disks over
 //! image files; and the status page.
 #![tactic(auto)]
 
@@ -8,6 +8,8 @@ mod clients;
 mod endings;
 #[cfg(test)]
 mod flushes;
+#[cfg(test)]
+mod held_flush;
 #[cfg(test)]
 mod images;
 #[cfg(test)]

@@ -25,7 +25,7 @@ const JSON: &str =
     "{\"primary\":{\"connection\":\"SyncSource\",\"disk\":\"UpToDate\",\"open_epochs\":2,\"open_writes\":1,\"out_of_sync_kib\":12,\"peer_disk\":\"Inconsistent\",\"peer_role\":\"Secondary\",\"protocol\":\"C\",\"role\":\"Primary\",\"unanswered_writes\":0},\"resync\":{\"left_kib\":12,\"percent\":25},\"secondary\":{\"connection\":\"SyncTarget\",\"disk\":\"Inconsistent\",\"is_consistent\":false,\"peer_disk\":\"UpToDate\",\"peer_role\":\"Primary\",\"pending_items\":3,\"protocol\":\"C\",\"role\":\"Secondary\",\"whole_epoch\":1}}";
 
 /// Checks that a client that asks this gets this status and this body.
-fn is_told(
+fn is_answered(
     rt: &(impl Abort + AllocGlobal + RandomSource),
     asked: &str,
     report: Option<&Report>,
@@ -45,7 +45,7 @@ fn is_told(
 }
 
 #[test]
-fn a_client_is_told(rt: HostRuntime) {
+fn a_client_is_answered(rt: HostRuntime) {
     let report = report(rt.alloc()).expect(&rt, "memory");
     let cases: [(&str, &str, &str); 4] = [
         ("GET /", "HTTP/1.1 200 OK", LINES),
@@ -58,8 +58,11 @@ fn a_client_is_told(rt: HostRuntime) {
         ("DELETE /", "HTTP/1.1 405 Method Not Allowed", ""),
     ];
     for (asked, status, body) in cases {
-        is_told(&rt, asked, Some(&report), (status, body));
+        is_answered(&rt, asked, Some(&report), (status, body));
     }
-    let between = ("HTTP/1.1 503 Service Unavailable", "between two sessions\n");
-    is_told(&rt, "GET /", None, between);
+    let none = (
+        "HTTP/1.1 503 Service Unavailable",
+        "no session answers: it gives way to the next, or a disk hangs\n",
+    );
+    is_answered(&rt, "GET /", None, none);
 }

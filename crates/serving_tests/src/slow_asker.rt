@@ -31,7 +31,7 @@ fn ask_slowly<R: Clock>(rt: &R, stream: &mut TcpStream, is_answered: &AtomicBool
 }
 
 // Asks for the page. Returns whether an answer comes.
-fn is_told(alloc: Global, stream: &mut TcpStream) -> io::Result<bool> {
+fn gets_answer(alloc: Global, stream: &mut TcpStream) -> io::Result<bool> {
     stream.write_all(PAGE)?;
     let mut came = Vec::new(alloc);
     stream.read_to_end(&mut came)?;
@@ -49,16 +49,16 @@ fn ask_beside<R: Abort + Host + Net<Stream = TcpStream>>(
         .expect(rt, "a request");
     let mut beside = connect(rt, page).expect(rt, "a connection");
     let is_answered = AtomicBool::new(false);
-    let (is_in_time, told) = thread::join(
+    let (is_in_time, answer) = thread::join(
         rt,
         || -> bool { ask_slowly(rt, &mut slow, &is_answered) },
         || -> io::Result<bool> {
-            let told = is_told(alloc, &mut beside);
+            let answer = gets_answer(alloc, &mut beside);
             is_answered.store(true, Ordering::SeqCst);
-            told
+            answer
         },
     );
-    is_in_time && told.expect(rt, "an answer")
+    is_in_time && answer.expect(rt, "an answer")
 }
 
 // Serves two images and their page to both clients. Returns the server's status, and whether the second client is answered

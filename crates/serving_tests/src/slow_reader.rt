@@ -1,7 +1,7 @@
 //! Test of a client that reads no replies while another one is served.
 use crate::clients::{
     AB_BLOCK, FLAGS, GO, GO_ANSWER, GREETING, Order, ZERO_BLOCK, ask, connect, exchange,
-    free_addresses, options_of, told,
+    free_addresses, options_of, reply,
 };
 use blocks::Protocol;
 use serving::{Host, ServeOptions, serve};
@@ -47,7 +47,13 @@ pub(crate) fn open<R: Abort + Net<Stream = TcpStream> + Clock>(
 }
 
 // Sends bytes, and sees that the wanted ones come back.
-fn gets(rt: &impl Abort, alloc: Global, stream: &mut TcpStream, asked: &[&[u8]], wanted: &[&[u8]]) {
+pub(crate) fn gets(
+    rt: &impl Abort,
+    alloc: Global,
+    stream: &mut TcpStream,
+    asked: &[&[u8]],
+    wanted: &[&[u8]],
+) {
     let is_right = exchange(alloc, stream, asked, wanted).expect(rt, "a reply");
     assert!(rt; is_right, "a reply");
 }
@@ -57,9 +63,9 @@ fn take_turn(rt: &impl Abort, alloc: Global, stream: &mut TcpStream) {
     let write = ask(1, 1, [0x10, 0], [0x10, 0]);
     let read = ask(0, 2, [0x10, 0], [0x10, 0]);
     let flush = ask(3, 3, [0, 0], [0, 0]);
-    gets(rt, alloc, stream, &[&write, &AB_BLOCK], &[&told(0, 1)]);
-    gets(rt, alloc, stream, &[&read], &[&told(0, 2), &AB_BLOCK]);
-    gets(rt, alloc, stream, &[&flush], &[&told(0, 3)]);
+    gets(rt, alloc, stream, &[&write, &AB_BLOCK], &[&reply(0, 1)]);
+    gets(rt, alloc, stream, &[&read], &[&reply(0, 2), &AB_BLOCK]);
+    gets(rt, alloc, stream, &[&flush], &[&reply(0, 3)]);
 }
 
 // Asks for all blocks, again and again, and reads no reply.
@@ -80,7 +86,7 @@ fn take_all(rt: &impl Abort, stream: &mut TcpStream) {
     for _ in 0..READS {
         stream.read_exact(&mut header).expect(rt, "a header");
         let cookie = header[15];
-        assert_eq!(rt; header, told(0, cookie), "a header");
+        assert_eq!(rt; header, reply(0, cookie), "a header");
         let place = usize::from(cookie);
         seen[place] = seen[place].saturating_add(1);
         for number in 0..BLOCKS {

@@ -25,14 +25,15 @@ came-on : (number : ℕ) (s : InwardState) → came_at number (incoming (taking 
 came-on number s = ap (λ (rest : List (List ℕ)). if s.number == number then s.taken else rest) (came-past number s.past)
 
 -- So where the frames taken begin the frames sent, the packets do, whichever way the ends are told.
-pub joins : (o : PacketSenderState) (i : PacketReceiverState) (told_o : PacketSenderState) (told_i : PacketReceiverState) (s : OutwardState) (t : InwardState)
-    → o ≡ outgoing (sending s) → i ≡ incoming (taking t) → told_o ≡ outgoing (sending s) → told_i ≡ incoming (taking t)
-    → IsJoined s t → PacketsFollowEverywhere told_o told_i → (number : ℕ) → BeginsPushed (taken_at number i) (pushed_at number o)
-joins o i told_o told_i s t o_is i_is told_o_is told_i_is joined told number =
+pub joins : (o : PacketSenderState) (i : PacketReceiverState) (returned_o : PacketSenderState) (returned_i : PacketReceiverState) (s : OutwardState)
+    (t : InwardState)
+    → o ≡ outgoing (sending s) → i ≡ incoming (taking t) → returned_o ≡ outgoing (sending s) → returned_i ≡ incoming (taking t)
+    → IsJoined s t → PacketsFollowEverywhere returned_o returned_i → (number : ℕ) → BeginsPushed (taken_at number i) (pushed_at number o)
+joins o i returned_o returned_i s t o_is i_is returned_o_is returned_i_is joined returned number =
     let both = joined number in
     let everywhere : PacketsFollowEverywhere (outgoing (sending s)) (incoming (taking t)) =
-    subst (λ (x : PacketSenderState). PacketsFollowEverywhere x (incoming (taking t))) told_o_is
-    (subst (λ (y : PacketReceiverState). PacketsFollowEverywhere told_o y) told_i_is told) in
+    subst (λ (x : PacketSenderState). PacketsFollowEverywhere x (incoming (taking t))) returned_o_is
+    (subst (λ (y : PacketReceiverState). PacketsFollowEverywhere returned_o y) returned_i_is returned) in
     let begins : BeginsPushed (taken_at number (incoming (taking t))) (pushed_at number (outgoing (sending s))) =
     everywhere number (both.0, ap (λ (l : List (List ℕ)). l ++ both.0) (came-on number t) ∙ (both.1 ∙ sym (sent-on number s))) in
     subst (λ (x : PacketSenderState). BeginsPushed (taken_at number i) (pushed_at number x)) (sym o_is)

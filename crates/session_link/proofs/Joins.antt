@@ -26,11 +26,11 @@ carried : {there : Option PacketSenderState} {here : Option PacketReceiverState}
     (pushed : List Packet)
     (taken : List Received) → there ≡ Some o → there ≡ Some one → here ≡ Some i → here ≡ Some two → pushed_at number one ≡ pushed → taken_at number two ≡ taken
     → BeginsPushed (taken_at number i) (pushed_at number o) → IsBeginning taken (map (λ packet. Ok packet) pushed)
-carried number o one i two pushed taken o_is one_is i_is two_is pushed_is taken_is told =
+carried number o one i two pushed taken o_is one_is i_is two_is pushed_is taken_is returned =
     let came : taken_at number i ≡ taken = ap (taken_at number) (same_Some i two (sym i_is ∙ two_is)) ∙ taken_is in
     let went : pushed_at number o ≡ pushed = ap (pushed_at number) (same_Some o one (sym o_is ∙ one_is)) ∙ pushed_is in
     subst (λ (l : List Received). IsBeginning l (map (λ packet. Ok packet) pushed)) came
-    (subst (λ (l : List Packet). IsBeginning (taken_at number i) (map (λ packet. Ok packet) l)) went (begins _ _ told))
+    (subst (λ (l : List Packet). IsBeginning (taken_at number i) (map (λ packet. Ok packet) l)) went (begins _ _ returned))
 
 pub joined : (v : PrimaryView) (w : SecondaryView) (o : PacketSenderState) (acks : PacketReceiverState) (answers : PacketSenderState) (i : PacketReceiverState)
     → v.outgoing ≡ Some o → v.incoming ≡ Some acks → w.outgoing ≡ Some answers → w.incoming ≡ Some i

@@ -205,24 +205,25 @@ has-step event none v w h was same has =
     (omega arith) (traffic-stays over.traffic same count)
 
 -- So the node's step is a step over the link, and the node is one over it then.
-pub steps-over : {Told : Type 0} (event : PrimaryEvent) → IsNoOpening event → (step : PrimaryHistory → Told × PrimaryHistory)
+pub steps-over : {Returned : Type 0} (event : PrimaryEvent) → IsNoOpening event → (step : PrimaryHistory → Returned × PrimaryHistory)
     → ((h : PrimaryHistory) → (step h).1 ≡ primary_after event h)
-    → (v w : PrimaryView) (told : Told) → SameEnds v.outgoing w.outgoing v.incoming w.incoming
-    → ((h : PrimaryHistory) → NodeHas (node v) h → told ≡ (step h).0)
-    → ((h : PrimaryHistory) → NodeHas (node v) h → NodeHas (node w) (step h).1) → IsPrimaryStep step v told w
-steps-over event none step is v w told same said after = record {
+    → (v w : PrimaryView) (returned : Returned) → SameEnds v.outgoing w.outgoing v.incoming w.incoming
+    → ((h : PrimaryHistory) → NodeHas (node v) h → returned ≡ (step h).0)
+    → ((h : PrimaryHistory) → NodeHas (node v) h → NodeHas (node w) (step h).1) → IsPrimaryStep step v returned w
+steps-over event none step is v w returned same said after = record {
   replies = λ h was. said h was.has;
   after = λ h was. subst (PrimaryHas w) (sym (is h)) (has-step event none v w h was same (subst (NodeHas (node w)) (is h) (after h was.has)));
 }
 
-pub had-over : {Told : Type 0} (step : PrimaryHistory → Told × PrimaryHistory) (v w : PrimaryView) (told : Told) → PrimaryIsHad v → IsPrimaryStep step v told w
+pub had-over : {Returned : Type 0} (step : PrimaryHistory → Returned × PrimaryHistory) (v w : PrimaryView) (returned : Returned) → PrimaryIsHad v
+    → IsPrimaryStep step v returned w
     → PrimaryIsHad w
-had-over step v w told had steps = record { history = (step had.history).1; has = steps.after had.history had.has }
+had-over step v w returned had steps = record { history = (step had.history).1; has = steps.after had.history had.has }
 
 -- A step is a run of one event, and runs go on.
-pub runs-step : (event : PrimaryEvent) (v w : PrimaryView) (told : Reply) → ((h : PrimaryHistory) → (primary_step event h).1 ≡ primary_after event h)
-    → PrimarySteps event v told w → PrimaryRuns v w
-runs-step event v w told is steps h was = (event ∷ [], subst (PrimaryHas w) (is h) (steps.after h was))
+pub runs-step : (event : PrimaryEvent) (v w : PrimaryView) (returned : Reply) → ((h : PrimaryHistory) → (primary_step event h).1 ≡ primary_after event h)
+    → PrimarySteps event v returned w → PrimaryRuns v w
+runs-step event v w returned is steps h was = (event ∷ [], subst (PrimaryHas w) (is h) (steps.after h was))
 
 pub runs-self : (v : PrimaryView) → PrimaryRuns v v
 runs-self v h was = ([], was)

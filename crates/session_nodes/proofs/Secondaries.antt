@@ -279,24 +279,25 @@ has-step event none v w h was same has =
 
 -- So the node's step is a step over the link, and the node is one over it then.
 pub steps-over : (event : SecondaryEvent) → IsNoOpening event → ((h : SecondaryHistory) → (secondary_step event h).1 ≡ secondary_after event h)
-    → (v w : SecondaryView) (told : Reply) → SameEnds v.outgoing w.outgoing v.incoming w.incoming → NodeSteps event (node v) told (node w)
-    → SecondarySteps event v told w
-steps-over event none is v w told same steps = record {
+    → (v w : SecondaryView) (returned : Reply) → SameEnds v.outgoing w.outgoing v.incoming w.incoming → NodeSteps event (node v) returned (node w)
+    → SecondarySteps event v returned w
+steps-over event none is v w returned same steps = record {
   replies = λ h was. steps.replies h was.has;
   after = λ h was. subst (SecondaryHas w) (sym (is h)) (has-step event none v w h was same (subst (NodeHas (node w)) (is h) (steps.after h was.has)));
 }
 
-pub had-over : (event : SecondaryEvent) (v w : SecondaryView) (told : Reply) → SecondaryIsHad v → SecondarySteps event v told w → SecondaryIsHad w
-had-over event v w told had steps = record { history = (secondary_step event had.history).1; has = steps.after had.history had.has }
+pub had-over : (event : SecondaryEvent) (v w : SecondaryView) (returned : Reply) → SecondaryIsHad v → SecondarySteps event v returned w → SecondaryIsHad w
+had-over event v w returned had steps = record { history = (secondary_step event had.history).1; has = steps.after had.history had.has }
 
 -- where only the core and what came in are new
 pub outgoing-stays : (v w : SecondaryView) → w ≡ record v { core = w.core; incoming = w.incoming } → w.outgoing ≡ v.outgoing
 outgoing-stays v w rest = ap (λ (x : SecondaryView). x.outgoing) rest
 
 -- A step is a run of one event, and runs go on.
-pub runs-step : (event : SecondaryEvent) (v w : SecondaryView) (told : Reply) → ((h : SecondaryHistory) → (secondary_step event h).1 ≡ secondary_after event h)
-    → SecondarySteps event v told w → SecondaryRuns v w
-runs-step event v w told is steps h was = (event ∷ [], subst (SecondaryHas w) (is h) (steps.after h was))
+pub runs-step : (event : SecondaryEvent) (v w : SecondaryView) (returned : Reply)
+    → ((h : SecondaryHistory) → (secondary_step event h).1 ≡ secondary_after event h)
+    → SecondarySteps event v returned w → SecondaryRuns v w
+runs-step event v w returned is steps h was = (event ∷ [], subst (SecondaryHas w) (is h) (steps.after h was))
 
 pub runs-self : (v : SecondaryView) → SecondaryRuns v v
 runs-self v h was = ([], was)
@@ -391,7 +392,7 @@ has-opened unseen number v w h was said has counted restarted =
 pub reopens-over : (number : ℕ) (v w : SecondaryView) (result : Result (Unit {0}) Refusal) → v.core.number < number
     → NodeSteps (OpensToo (number - (v.core.number + 1))) (node v) (replied plainly result) (node w)
     → OnOk result (IsRestarted number v w) → OnErr result (w ≡ v) → SecondarySteps (OpensToo (number - (v.core.number + 1))) v (replied plainly result) w
-reopens-over number v w (Ok told) above s restarted unchanged = record {
+reopens-over number v w (Ok returned) above s restarted unchanged = record {
   replies = λ h was. s.replies h was.has;
   after = λ h was.
       let last = was.has.leaves.core.last.number in

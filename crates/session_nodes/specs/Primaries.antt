@@ -40,8 +40,9 @@ pub record PrimaryIsHad (v : PrimaryView) : Type 0 where
   pub has : PrimaryHas v history
 
 -- The call was this step of the model, for every such history that the node refined.
-pub record IsPrimaryStep {Told : Type 0} (step : PrimaryHistory → Told × PrimaryHistory) (v : PrimaryView) (told : Told) (w : PrimaryView) : Type 0 where
-  pub replies : (h : PrimaryHistory) → PrimaryHas v h → told ≡ (step h).0
+pub record IsPrimaryStep {Returned : Type 0} (step : PrimaryHistory → Returned × PrimaryHistory) (v : PrimaryView) (returned : Returned)
+    (w : PrimaryView) : Type 0 where
+  pub replies : (h : PrimaryHistory) → PrimaryHas v h → returned ≡ (step h).0
   pub after : (h : PrimaryHistory) → PrimaryHas v h → PrimaryHas w (step h).1
 
 -- the call was the event's step

@@ -39,9 +39,9 @@ pub record SecondaryIsHad (v : SecondaryView) : Type 0 where
   pub has : SecondaryHas v history
 
 -- The call was this step of the model, for every such history that the node refined.
-pub record IsSecondaryStep {Told : Type 0} (step : SecondaryHistory → Told × SecondaryHistory) (v : SecondaryView) (told : Told)
+pub record IsSecondaryStep {Returned : Type 0} (step : SecondaryHistory → Returned × SecondaryHistory) (v : SecondaryView) (returned : Returned)
     (w : SecondaryView) : Type 0 where
-  pub replies : (h : SecondaryHistory) → SecondaryHas v h → told ≡ (step h).0
+  pub replies : (h : SecondaryHistory) → SecondaryHas v h → returned ≡ (step h).0
   pub after : (h : SecondaryHistory) → SecondaryHas v h → SecondaryHas w (step h).1
 
 -- the call was the event's step

@@ -62,7 +62,7 @@ impl<O: FrameOut + Drop, I: FrameIn + Drop, S: Store + Drop> Local<O, I, S> {
 
     /// Accepts a write and returns its number. The refusals are those of `Primary::submit`.
     pub fn submit(&mut self, first: u64, bytes: &Bytes) -> Result<(u64, Done), Refusal>
-        ensures step { PrimarySteps (Submits first (whole_blocks bytes.now) (is_out_of_memory result)) self.old (replied (λ told. reply.Ok told.1) result) self.new }
+        ensures step { PrimarySteps (Submits first (whole_blocks bytes.now) (is_out_of_memory result)) self.old (replied (λ wakes_writers. reply.Ok wakes_writers.1) result) self.new }
     {
         self.node.submit(first, bytes)
     }

@@ -21,7 +21,7 @@ impl<O: FrameOut + Drop, I: FrameIn + Drop, S: Store + Drop> Local<O, I, S> {
         }
         if was_open && !self.node.is_open() {
             turn.closed = Some(self.node.connections());
-            turn.told = true;
+            turn.wakes_writers = true;
         }
         turn
     }
@@ -65,19 +65,19 @@ impl<O: FrameOut + Drop, I: FrameIn + Drop, S: Store + Drop> Local<O, I, S> {
             LocalRole::Sender => match self.send() {
                 Ok(done) => {
                     turn.pushed = true;
-                    turn.told |= done.completed.is_some();
+                    turn.wakes_writers |= done.completed.is_some();
                     true
                 }
                 Err(_) => false,
             },
             LocalRole::Receiver => {
                 let taken = self.ack_in();
-                turn.told |= taken.is_ok();
+                turn.wakes_writers |= taken.is_ok();
                 taken.is_ok()
             }
             LocalRole::Disk => {
                 let written = self.write_next();
-                turn.told |= written.is_ok();
+                turn.wakes_writers |= written.is_ok();
                 written.is_ok()
             }
             LocalRole::Resync => self.resync_next().is_ok(),

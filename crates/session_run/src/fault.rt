@@ -53,7 +53,7 @@ impl fmt::Display for Fault<'_> {
             Fault::WrongLength(file, found, wanted) => {
                 write!(
                     f,
-                    "{file} has {found} bytes: an image of this device has {wanted}"
+                    "{file} has {found} bytes: an image of this device has {wanted} (see --blocks)"
                 )
             }
             Fault::Unconnected(error) => write!(f, "the sockets could not be connected: {error}"),

@@ -13,6 +13,6 @@ mod session;
 mod sockets;
 mod whole_run;
 
-pub use options::{Images, Path, RunOptions, Telling};
+pub use options::{Images, LiveOutput, Path, RunOptions};
 pub use volume::Host;
 pub use whole_run::run;

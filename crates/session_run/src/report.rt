@@ -95,7 +95,7 @@ fn status<O: FrameOut + Drop, I: FrameIn + Drop, P: FrameOut + Drop, J: FrameIn 
     primary: &Primary<O, I, MemStore>,
     secondary: &Secondary<P, J, MemStore>,
 ) -> Result<Option<(String, String)>, Refusal> {
-    if !options.telling.status {
+    if !options.live.status {
         return Ok(None);
     }
     Ok(Some((

@@ -9,7 +9,7 @@ use crate::sockets::run_over;
 use blocks::Refusal;
 use numbers::SessionStatus;
 use options::{Images, Path, RunOptions};
-use run_threads::tell_status;
+use run_threads::print_status;
 use std::fs::File;
 use std::io::Write;
 use std::net::{Net, TcpListener, TcpStream};
@@ -60,7 +60,7 @@ fn run_images<
     let peer = load(rt, &peer_image, options.blocks)?;
     let mut report = run_disks(rt, options, (local, peer), err)?;
     if let Some(lines) = &report.status {
-        let _ = tell_status(lines, err);
+        let _ = print_status(lines, err);
     }
     report.check_marks()?;
     save(

@@ -106,22 +106,22 @@ impl Store for FailingDisk {
 
 /// A primary's disk in memory that signals when it has written block 1, if it `opens`.
 #[derive(Drop)]
-pub(crate) struct TellingDisk {
+pub(crate) struct SignallingDisk {
     memory: MemStore,
     signals: Arc<Signals, Global>,
     /// Whether the write of block 1 lets the peer's write of block 0 end.
     opens: bool,
 }
 
-impl TellingDisk {
+impl SignallingDisk {
     /// Makes a disk over this memory.
     pub(crate) fn new(
         rt: &impl Abort,
         memory: MemStore,
         signals: &Arc<Signals, Global>,
         opens: bool,
-    ) -> TellingDisk {
-        TellingDisk {
+    ) -> SignallingDisk {
+        SignallingDisk {
             memory,
             signals: Arc::try_clone(signals).expect(rt, "signals"),
             opens,
@@ -129,7 +129,7 @@ impl TellingDisk {
     }
 }
 
-impl Store for TellingDisk {
+impl Store for SignallingDisk {
     ghost contents = { λ s. s.memory };
 
     ghost faults = { λ s. 0 };

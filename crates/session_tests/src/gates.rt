@@ -1,6 +1,6 @@
 //! Tests that both disks work at the same time, and that a resync goes on by itself.
 use crate::callers::Work;
-use crate::disks::{GatedDisk, Signals, TellingDisk, memory};
+use crate::disks::{GatedDisk, SignallingDisk, Signals, memory};
 use crate::outcome::Outcome;
 use crate::session::{Case, UNKNOWN, run};
 use blocks::Protocol;
@@ -16,7 +16,7 @@ fn over_watched<R: Abort + Runtime>(rt: R, alloc: Global, case: Case) -> Outcome
         _ => (false, false),
     };
     let is_resync = !waits;
-    let local = TellingDisk::new(&rt, memory(&rt, alloc, is_resync), &signals, opens);
+    let local = SignallingDisk::new(&rt, memory(&rt, alloc, is_resync), &signals, opens);
     let peer = GatedDisk::new(&rt, memory(&rt, alloc, false), &signals, waits);
     run(rt, alloc, case, (local, peer), &signals).expect(&rt, "a session")
 }

@@ -1,6 +1,6 @@
 //! Tests of the refusals of a session, at its start and while it runs.
 use crate::callers::Work;
-use crate::disks::{GatedDisk, Signals, TellingDisk, memory};
+use crate::disks::{GatedDisk, SignallingDisk, Signals, memory};
 use crate::outcome::Outcome;
 use crate::session::{ALIKE, Case, run};
 use blocks::{MemStore, Protocol, Refusal, Tuple};
@@ -29,7 +29,7 @@ fn answer<R: Abort + Runtime>(
     let signals = Signals::shared(&rt, alloc);
     let blocks = if is_short { 7 } else { 8 };
     let zeroed = MemStore::zeroed(alloc, blocks).expect(&rt, "a disk");
-    let local = TellingDisk::new(&rt, memory(&rt, alloc, false), &signals, false);
+    let local = SignallingDisk::new(&rt, memory(&rt, alloc, false), &signals, false);
     let peer = GatedDisk::new(&rt, zeroed, &signals, false);
     let answer = run(rt, alloc, case, (local, peer), &signals);
     (answer, Arc::into_inner(signals).is_some())

@@ -72,7 +72,7 @@ pub(crate) const PEER_TO_LOCAL: (Side, Side) = (Side::Peer, Side::Local);
 #[derive(Drop)]
 pub(crate) struct Carrier {
     alloc: Global,
-    told: Sender<PumpEnd, Global>,
+    ends: Sender<PumpEnd, Global>,
 }
 
 impl Carrier {
@@ -87,14 +87,14 @@ impl Carrier {
         workers: &mut Workers,
         shared: &Arc<Shared<R, A, B>, Global>,
     ) -> Result<Carrier, Refusal> {
-        let (told, notices) = bounded(alloc, PUMPS)?;
+        let (ends, notices) = bounded(alloc, PUMPS)?;
         workers.handles.try_reserve(1)?;
         let listener = Arc::try_clone(shared)?;
         let Ok(handle) = thread::spawn(&shared.rt, move || listener.listen(&notices)) else {
             return Err(Refusal::NoMemory);
         };
         workers.handles.push(handle)?;
-        Ok(Carrier { alloc, told })
+        Ok(Carrier { alloc, ends })
     }
 
     /// Starts both pumps of a way: one at the row of the half that sends, and one at the row of the half that takes.
@@ -133,11 +133,11 @@ impl Carrier {
         writer: W,
     ) -> Result<(), Refusal> {
         let buffer = Buffer::new(self.alloc)?;
-        let told = self.told.clone()?;
+        let ends = self.ends.clone()?;
         workers.handles.try_reserve(1)?;
         let pump = Arc::try_clone(shared)?;
         let Ok(handle) = thread::spawn(&shared.rt, move || {
-            pump.carry_out(side, row, writer, buffer, told)
+            pump.carry_out(side, row, writer, buffer, ends)
         }) else {
             return Err(Refusal::NoMemory);
         };
@@ -160,11 +160,11 @@ impl Carrier {
         reader: D,
     ) -> Result<(), Refusal> {
         let buffer = Buffer::new(self.alloc)?;
-        let told = self.told.clone()?;
+        let ends = self.ends.clone()?;
         workers.handles.try_reserve(1)?;
         let pump = Arc::try_clone(shared)?;
         let Ok(handle) = thread::spawn(&shared.rt, move || {
-            pump.carry_in(side, row, reader, buffer, told)
+            pump.carry_in(side, row, reader, buffer, ends)
         }) else {
             return Err(Refusal::NoMemory);
         };
@@ -188,7 +188,7 @@ impl<R: Wait + Clock + Drop, A: PrimaryHalf, B: SecondaryHalf> Shared<R, A, B> {
         row: PieceIn<R>,
         writer: W,
         buffer: Buffer,
-        told: Sender<PumpEnd, Global>,
+        ends: Sender<PumpEnd, Global>,
     ) {
         let (mut row, mut writer, mut buffer) = (row, writer, buffer);
         let sent = match side {
@@ -204,7 +204,7 @@ impl<R: Wait + Clock + Drop, A: PrimaryHalf, B: SecondaryHalf> Shared<R, A, B> {
             sent,
         );
         drop(writer);
-        self.tell(&told, end);
+        self.report(&ends, end);
     }
 
     // Runs the pump that reads what a node takes, drops its reader, and reports its end.
@@ -214,7 +214,7 @@ impl<R: Wait + Clock + Drop, A: PrimaryHalf, B: SecondaryHalf> Shared<R, A, B> {
         row: PieceOut<R>,
         reader: D,
         buffer: Buffer,
-        told: Sender<PumpEnd, Global>,
+        ends: Sender<PumpEnd, Global>,
     ) {
         let (mut row, mut reader, mut buffer) = (row, reader, buffer);
         let work = match side {
@@ -230,12 +230,12 @@ impl<R: Wait + Clock + Drop, A: PrimaryHalf, B: SecondaryHalf> Shared<R, A, B> {
             work,
         );
         drop(reader);
-        self.tell(&told, end);
+        self.report(&ends, end);
     }
 
     // Reports that a pump has ended. If no thread receives the report, closes both ends here.
-    fn tell(&self, told: &Sender<PumpEnd, Global>, end: PumpEnd) {
-        if told.send(&self.rt, end).is_err() {
+    fn report(&self, ends: &Sender<PumpEnd, Global>, end: PumpEnd) {
+        if ends.send(&self.rt, end).is_err() {
             self.cut();
         }
     }

@@ -11,7 +11,7 @@ pub struct Turn {
     /// Whether a frame was pushed, for which the other half may wait.
     pub pushed: bool,
     /// Whether something happened for which a writer may wait: its write ended, or there may be room for it.
-    pub told: bool,
+    pub wakes_writers: bool,
     /// The number of the connection that closed by itself in this turn, if one did.
     pub closed: Option<u32>,
 }
@@ -21,7 +21,7 @@ impl Turn {
     pub const NOTHING: Turn = Turn {
         worked: false,
         pushed: false,
-        told: false,
+        wakes_writers: false,
         closed: None,
     };
 }

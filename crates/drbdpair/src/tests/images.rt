@@ -189,7 +189,7 @@ fn images_have_the_length_of_their_blocks(rt: HostRuntime) {
     ];
     let outcome = outcome_of(&rt, &words, "");
     assert_eq!(rt; outcome.status, 1);
-    let line = "short_image has 32767 bytes: an image of this device has 32768\n";
+    let line = "short_image has 32767 bytes: an image of this device has 32768 (see --blocks)\n";
     assert_eq!(rt; outcome.said.bytes.as_slice(), line.as_bytes());
     is_left(&rt, "short_image", 0, 32_767);
 }

@@ -34,7 +34,7 @@ use Rattle.laws.proofs.Tracked.Kept.{IsKnown, known-kept, known-completions, kno
 use Rattle.laws.proofs.Tracked.Quiet.{under-way-copied}
 use Rattle.laws.proofs.Accounted.{sure-last, IsAccounted, Carries, KeepsBegun}
 use Rattle.laws.proofs.Accounted.Moves.{settled-carries, waiting-carries, first-carries}
-use Rattle.laws.proofs.Accounted.Turns.{account-submits, account-closes, account-refuses}
+use Rattle.laws.proofs.Accounted.AcceptingAndClosing.{account-submits, account-closes, account-refuses}
 use Rattle.laws.proofs.Accounted.Begins.{account-begins}
 use Rattle.laws.proofs.Accounted.Steps.{KeepsEnd, carries-change, begun-change, accounted-carries, accounted-change, accounted-still, keeps-pushed, keeps-taken}
 use Rattle.laws.proofs.Accounted.Steps.{open-plain, begun-at, accounted-appending}

@@ -31,7 +31,7 @@ use Rattle.laws.proofs.Rules.ResyncEnds.{over-established}
 use Rattle.laws.proofs.Pair.RefusedFrames.{close-open, refused-open, others-count, had-open, refused_frames_close_the_primary}
 use Rattle.laws.proofs.Rules.RefusedFrames.{refusing_frame}
 use Rattle.laws.proofs.Rules.Releases.{released-same}
-use Rattle.laws.proofs.Primary.Seen.{alone-seen, confirmed-seen}
+use Rattle.laws.proofs.Primary.WriteConnections.{alone-seen, confirmed-seen}
 
 -- The frame itself releases nothing.
 

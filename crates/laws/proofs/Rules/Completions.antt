@@ -10,7 +10,7 @@ completes-parts h a done = and_parts (is_on_disk a.outcome) (is_answered h a || 
 
 -- the other way
 pub completes-by : (h : PrimaryHistory) (a : Accepted) → is_on_disk a.outcome ≡ true → (is_answered h a || is_alone h a) ≡ true → completes h a ≡ true
-completes-by h a disk told = and_from (is_on_disk a.outcome) (is_answered h a || is_alone h a) disk told
+completes-by h a disk returned = and_from (is_on_disk a.outcome) (is_answered h a || is_alone h a) disk returned
 
 -- whatever asks the same says when it is
 pub completes-with : (h : PrimaryHistory) (a : Accepted) (disk answered alone : Bool) → disk ≡ is_on_disk a.outcome → answered ≡ is_answered h a

@@ -72,13 +72,13 @@ released-same h later a confirmed alone = λ i. not (is_waiting a.outcome) && (c
 -- whatever asks the same says when it is
 pub released-with : (h : PrimaryHistory) (a : Accepted) (done alone confirmed : Bool) → done ≡ not (is_waiting a.outcome) → alone ≡ is_alone h a
     → (is_alone h a ≡ false → is_confirmed h a ≡ confirmed) → (done && (alone || confirmed)) ≡ is_released h a
-released-with h a done alone confirmed is_local is_unlinked told =
-    λ i. is_local i && go alone (is_alone h a) (is_confirmed h a) is_unlinked told i
+released-with h a done alone confirmed is_local is_unlinked returned =
+    λ i. is_local i && go alone (is_alone h a) (is_confirmed h a) is_unlinked returned i
   where
     go : (x y z : Bool) → x ≡ y → (y ≡ false → z ≡ confirmed) → (x || confirmed) ≡ (z || y)
-    go true true true same told = refl
-    go true true false same told = refl
-    go false false true same told = sym (told refl)
-    go false false false same told = sym (told refl)
-    go true false z same told = absurd (cc)
-    go false true z same told = absurd (cc)
+    go true true true same returned = refl
+    go true true false same returned = refl
+    go false false true same returned = sym (returned refl)
+    go false false false same returned = sym (returned refl)
+    go true false z same returned = absurd (cc)
+    go false true z same returned = absurd (cc)

@@ -12,7 +12,7 @@ use Rattle.laws.proofs.WriteOrder.Consistent.{synced-run}
 use Rattle.laws.proofs.WriteOrder.GenerationRuns.{left-run}
 use Rattle.laws.proofs.WriteOrder.Never.{never-keeps}
 use Rattle.laws.proofs.WriteOrder.Sets.{behind-keeps}
-use Rattle.laws.proofs.WriteOrder.Turns.{turns-run}
+use Rattle.laws.proofs.WriteOrder.CompletedEarlier.{turns-run}
 
 -- of two nodes that are joined
 pub joined_write_order : JoinedRunsKeepWriteOrder

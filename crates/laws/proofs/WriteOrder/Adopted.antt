@@ -230,13 +230,13 @@ module _ (o : Opening) (here : List PrimaryEvent) (there : List SecondaryEvent) 
     | inr past ↦ opened-outside span.0 block (λ inside. omega arith) bare
     | inl inside ↦ elim (span.2.synced fine a.place s.tuple ended-there block inside) [
       | inr below ↦ elim below [ inl from ↦ opened-below span.0 block from | inr opening ↦ opened-as-opening span.0 block opening ]
-      | inl told ↦ absurd (
-          let applied = sure-is-applied o here there joined k j told.place c d told.item adopted-on.2 told.there told.sure in
-          let parts = between-parts (first_of told.item) (length (contents_of told.item)) block told.touched in
+      | inl returned ↦ absurd (
+          let applied = sure-is-applied o here there joined k j returned.place c d returned.item adopted-on.2 returned.there returned.sure in
+          let parts = between-parts (first_of returned.item) (length (contents_of returned.item)) block returned.touched in
           let low = parts.0 in
           let high = parts.1 in
-          both_ways (is_in d.applied told.place (block - first_of told.item)) (bare told.place told.item applied.0 told.touched)
-          (whole-has d.applied told.place (block - first_of told.item) told.item applied.1 (omega arith)))
+          both_ways (is_in d.applied returned.place (block - first_of returned.item)) (bare returned.place returned.item applied.0 returned.touched)
+          (whole-has d.applied returned.place (block - first_of returned.item) returned.item applied.1 (omega arith)))
     ]
   ]
 

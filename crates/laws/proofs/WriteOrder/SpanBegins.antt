@@ -34,7 +34,7 @@ use Rattle.laws.proofs.Accounted.Moves.{first-carries}
 use Rattle.laws.proofs.Accounted.Kept.{keeps-open, named-item, resynced-now}
 use Rattle.laws.proofs.WriteOrder.Layers.{full_layer}
 use Rattle.laws.proofs.WriteOrder.Sets.{IsRead}
-use Rattle.laws.proofs.WriteOrder.Spans.{NoneFailed, IsTold, left_by, Passes}
+use Rattle.laws.proofs.WriteOrder.Spans.{NoneFailed, IsAcknowledged, left_by, Passes}
 use Rattle.laws.proofs.WriteOrder.SpanMoves.{HasSpans, span-shut, keeps-quiet}
 use Rattle.laws.proofs.WriteOrder.SpanKept.{grows-with, grows-item, spans-end, spans-takes}
 use Rattle.laws.proofs.Rules.RefusedFrames.{refused_out, refused_by, refused-last}
@@ -53,7 +53,7 @@ spans-clears h ack homes last standing begun may t =
       | inr cleared ↦
           let is : block ≡ ack.first = eqb-true block ack.first (not-false (block == ack.first) cleared) in
           let named = named-item h ack standing begun may in
-          inr (subst (λ (b : ℕ). IsTold (with_frame (Ok (RsWriteAckFrame ack)) (primary_connection h)) b) (sym is) (record {
+          inr (subst (λ (b : ℕ). IsAcknowledged (with_frame (Ok (RsWriteAckFrame ack)) (primary_connection h)) b) (sym is) (record {
             place = ack.place;
             item = ResyncItem ack.first named.0;
             there = named.1.there;

@@ -18,7 +18,7 @@ use Rattle.laws.proofs.Primary.StaysClosed.{open-established}
 use Rattle.laws.proofs.Rules.ResyncEnds.{over-established, over-unmarked}
 use Rattle.laws.proofs.Accounted.Moves.{first-carries}
 use Rattle.laws.proofs.Accounted.Steps.{begun-change}
-use Rattle.laws.proofs.WriteOrder.Spans.{IsTold}
+use Rattle.laws.proofs.WriteOrder.Spans.{IsAcknowledged}
 use Rattle.laws.proofs.WriteOrder.SpanMoves.{HasSpans, SameOpening, passes-change, KeepsSpan, keeps-quiet, spans-change}
 
 -- The moves that change the last connection alone, and its stream not.
@@ -59,7 +59,8 @@ spans-end h later f last connections writes opening begun taken keeps t =
 -- A frame is taken, and no mark goes away but with a word of the peer.
 pub spans-takes : (h later : PrimaryHistory) (frame : Received) → HasHomes h → IsLastOpen h → (primary_connection h).closed ≡ false
     → later.connections ≡ change_last (with_frame frame) h.connections → later.writes ≡ h.writes → SameOpening h later
-    → ((block : ℕ) → later.marks block ≡ false → (h.marks block ≡ false) ⊎ IsTold (with_frame frame (primary_connection h)) block) → HasSpans h → HasSpans later
+    → ((block : ℕ) → later.marks block ≡ false → (h.marks block ≡ false) ⊎ IsAcknowledged (with_frame frame (primary_connection h)) block) → HasSpans h
+    → HasSpans later
 spans-takes h later frame homes last standing connections writes opening marks t =
     spans-end h later (with_frame frame) last connections writes opening refl (frame ∷ [], refl) (record {
       grows = λ k at. grows-with (primary_connection h) (with_frame frame (primary_connection h)) refl (omega arith)

@@ -13,7 +13,7 @@ use Rattle.laws.proofs.Primary.Homes.{Grows, grows-self}
 use Rattle.laws.proofs.Primary.LastOpen.{IsLastOpen}
 use Rattle.laws.proofs.WriteOrder.Layers.{writes_over}
 use Rattle.laws.proofs.WriteOrder.Sets.{IsRead}
-use Rattle.laws.proofs.WriteOrder.Spans.{NoneFailed, IsTold, IsSpan, Passes, span-passes}
+use Rattle.laws.proofs.WriteOrder.Spans.{NoneFailed, IsAcknowledged, IsSpan, Passes, span-passes}
 
 -- Each connection that began has its span; and as long as none began, no write was accepted where there was nothing to resync.
 pub record HasSpans (h : PrimaryHistory) : Type 0 where
@@ -119,7 +119,7 @@ pub record KeepsSpan (h later : PrimaryHistory) (d : PrimaryConnection) : Type 0
   pub unshut : d.closed ≡ false → (primary_connection h).closed ≡ false
   pub begun : d.begun ≡ (primary_connection h).begun
   pub marks : NoneFailed later → d.closed ≡ false → (block : ℕ) → block < h.settings.blocks → later.marks block ≡ false
-      → (h.marks block ≡ false) ⊎ IsTold d block
+      → (h.marks block ≡ false) ⊎ IsAcknowledged d block
   pub reads : (k older newer : ℕ) → slice_get h.connections k ≡ Some (primary_connection h) → IsSpan h k (primary_connection h) older newer → NoneFailed later
       → (place block : ℕ) (contents : List ℕ) → slice_get d.stream place ≡ Some (ResyncItem block contents)
       → (slice_get (primary_connection h).stream place ≡ Some (ResyncItem block contents)) ⊎ IsRead later k d older place block contents

@@ -24,7 +24,7 @@ abbrev pub NoneFailed : PrimaryHistory → Type 0
 NoneFailed h = (n : ℕ) (a : Accepted) → slice_get h.writes n ≡ Some a → is_failed a.outcome ≡ false
 
 -- the peer has said that it has an item of this end on the block
-pub record IsTold (c : PrimaryConnection) (block : ℕ) : Type 0 where
+pub record IsAcknowledged (c : PrimaryConnection) (block : ℕ) : Type 0 where
   pub place : ℕ
   pub item : StreamItem
   pub there : slice_get c.stream place ≡ Some item
@@ -75,9 +75,10 @@ pub record IsSpan (h : PrimaryHistory) (k : ℕ) (c : PrimaryConnection) (older 
   pub reads : NoneFailed h → (place block : ℕ) (contents : List ℕ) → slice_get c.stream place ≡ Some (ResyncItem block contents)
       → IsRead h k c older place block contents
   pub first : ((j : ℕ) (d : PrimaryConnection) → j < k → slice_get h.connections j ≡ Some d → d.begun ≡ false) → h.opening_tuple.bitmap ≡ 0 → older ≡ 0
-  pub clean : NoneFailed h → c.closed ≡ false → (block : ℕ) → block < h.settings.blocks → h.marks block ≡ false → IsTold c block ⊎ WasBelow h k older block
+  pub clean : NoneFailed h → c.closed ≡ false → (block : ℕ) → block < h.settings.blocks → h.marks block ≡ false
+      → IsAcknowledged c block ⊎ WasBelow h k older block
   pub synced : NoneFailed h → (n : ℕ) (tuple : Tuple) → slice_get c.stream n ≡ Some (UuidsItem tuple) → (block : ℕ) → block < h.settings.blocks
-      → IsTold c block ⊎ WasBelow h k older block
+      → IsAcknowledged c block ⊎ WasBelow h k older block
 
 -- What every move keeps: the opening, the writes but for what the local disk did, and the connections before the last one.
 pub record Passes (h later : PrimaryHistory) : Type 0 where
@@ -134,8 +135,8 @@ below-passes h later k older block p within few (inr b) =
     inr (opening-below h later k older block p within few b.content b.unmarked b.items (b.began.0, p.first b.began.0 b.began.1, b.began.2))
 
 -- what the peer has said stays said
-told-grows : (c d : PrimaryConnection) (block : ℕ) → Grows c d → IsTold c block → IsTold d block
-told-grows c d block g t = record {
+acknowledged-grows : (c d : PrimaryConnection) (block : ℕ) → Grows c d → IsAcknowledged c block → IsAcknowledged d block
+acknowledged-grows c d block g t = record {
   place = t.place;
   item = t.item;
   there = get-beginning c.stream d.stream t.place t.item g.stream t.there;
@@ -186,7 +187,8 @@ pub record Extends (h later : PrimaryHistory) (k : ℕ) (c d : PrimaryConnection
 -- the peer, nor a resync ends with one.
 pub span-passes : (h later : PrimaryHistory) (k : ℕ) (c d : PrimaryConnection) (older newer upto : ℕ) → Passes h later → slice_get h.connections k ≡ Some c
     → Extends h later k c d newer upto
-    → (NoneFailed later → d.closed ≡ false → (block : ℕ) → block < h.settings.blocks → later.marks block ≡ false → (h.marks block ≡ false) ⊎ IsTold d block)
+    → (NoneFailed later → d.closed ≡ false → (block : ℕ) → block < h.settings.blocks → later.marks block ≡ false
+    → (h.marks block ≡ false) ⊎ IsAcknowledged d block)
     → (NoneFailed later → (place block : ℕ) (contents : List ℕ) → slice_get d.stream place ≡ Some (ResyncItem block contents)
     → (slice_get c.stream place ≡ Some (ResyncItem block contents)) ⊎ IsRead later k d older place block contents)
     → ((n : ℕ) (tuple : Tuple) → slice_get d.stream n ≡ Some (UuidsItem tuple)
@@ -195,8 +197,9 @@ pub span-passes : (h later : PrimaryHistory) (k : ℕ) (c d : PrimaryConnection)
 span-passes h later k c d older newer upto p at e unmarks reads ends s =
     let within = slice_get_within h.connections k c at in
     let few : older ≤ length h.writes = let low = s.rising in let high = s.bound in omega arith in
-    let carried : (block : ℕ) → IsTold c block ⊎ WasBelow h k older block → IsTold d block ⊎ WasBelow later k older block = λ block either. elim either [
-      | inl told ↦ inl (told-grows c d block e.grows told)
+    let carried : (block : ℕ) → IsAcknowledged c block ⊎ WasBelow h k older block
+    → IsAcknowledged d block ⊎ WasBelow later k older block = λ block either. elim either [
+      | inl returned ↦ inl (acknowledged-grows c d block e.grows returned)
       | inr below ↦ inr (below-passes h later k older block p within few below)
     ] in
     record {
@@ -219,8 +222,8 @@ span-passes h later k c d older newer upto p at e unmarks reads ends s =
           let here : block < h.settings.blocks = subst (λ (x : Settings). block < x.blocks) p.settings inside in
           elim (unmarks fine unshut block here unmarked) [
             | inl was ↦ carried block (s.clean (p.fine fine) (e.unshut unshut) block here was)
-            | inr told ↦ inl
-                told
+            | inr returned ↦ inl
+                returned
           ];
       synced = λ fine n tuple there block inside.
           let here : block < h.settings.blocks = subst (λ (x : Settings). block < x.blocks) p.settings inside in

@@ -17,11 +17,11 @@ pub(crate) trait Stepped {
     type Step: Copy;
 
     /// What a step returns.
-    type Said: Copy + Debug + PartialEq;
+    type Outcome: Copy + Debug + PartialEq;
 
     type Fact: Copy;
 
-    fn do_step(&mut self, alloc: Global, step: Self::Step) -> Result<Self::Said, Refusal>;
+    fn do_step(&mut self, alloc: Global, step: Self::Step) -> Result<Self::Outcome, Refusal>;
 
     fn is_true(&self, fact: Self::Fact) -> bool;
 }
@@ -40,7 +40,7 @@ pub(crate) fn run<C: Stepped>(
     rt: &impl Abort,
     core: &mut C,
     scene: Scene,
-    rows: &[(C::Step, Result<C::Said, Refusal>)],
+    rows: &[(C::Step, Result<C::Outcome, Refusal>)],
 ) {
     for (i, (step, wanted)) in rows.iter().enumerate() {
         let answer = core.do_step(scene.alloc, *step);

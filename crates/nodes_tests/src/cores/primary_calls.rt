@@ -2,7 +2,7 @@
 use crate::contents::filled;
 use crate::cores::cases::{Core, Scene, Stepped, holds, run};
 use crate::cores::primary_tables::{
-    Answer, Fact, Frame, PROTOCOL_WENT, Part, SIZES_WENT, Said, Start, Step, UUIDS_WENT,
+    Answer, Fact, Frame, Outcome, PROTOCOL_WENT, Part, SIZES_WENT, Start, Step, UUIDS_WENT,
 };
 use blocks::{Block, Decision, Done, Refusal, Tuple, What};
 use bytes::Bytes;
@@ -54,15 +54,15 @@ fn packet_of(alloc: Global, frame: Frame) -> Result<Packet, Refusal> {
     }
 }
 
-fn told_of(done: Done) -> Said {
+fn outcome_of(done: Done) -> Outcome {
     if done.completed.is_none() && done.barrier.is_none() && !done.synced {
         return match done.what {
-            What::Write(number) => Said::Accepted(number),
-            What::Frame(command, place) => Said::Went(command, place),
-            what => Said::Did(what),
+            What::Write(number) => Outcome::Accepted(number),
+            What::Frame(command, place) => Outcome::Went(command, place),
+            what => Outcome::Did(what),
         };
     }
-    Said::More(done.what, done.completed, done.barrier, done.synced)
+    Outcome::More(done.what, done.completed, done.barrier, done.synced)
 }
 
 fn send(core: &mut PrimaryCore, alloc: Global, frame: Frame) -> Answer {
@@ -70,15 +70,15 @@ fn send(core: &mut PrimaryCore, alloc: Global, frame: Frame) -> Answer {
     let packet = core.due()?;
     let done = core.sent();
     if packet != wanted {
-        return Ok(Said::Other(packet.command()));
+        return Ok(Outcome::Other(packet.command()));
     }
-    Ok(told_of(done))
+    Ok(outcome_of(done))
 }
 
 fn resync(core: &mut PrimaryCore, alloc: Global, byte: u8) -> Answer {
     let contents = Bytes::copy_from_slice(alloc, &[byte; 4096])?;
     let block = core.resync_block()?;
-    Ok(told_of(core.resync_read(block, contents)))
+    Ok(outcome_of(core.resync_read(block, contents)))
 }
 
 fn receipt(core: &mut PrimaryCore, number: u64) -> Answer {
@@ -87,7 +87,7 @@ fn receipt(core: &mut PrimaryCore, number: u64) -> Answer {
         return Err(Refusal::NotCompleted);
     };
     let home = home.map(|home| (home.connection(), home.place()));
-    Ok(Said::Receipt(entry.first(), entry.count(), linked, home))
+    Ok(Outcome::Receipt(entry.first(), entry.count(), linked, home))
 }
 
 fn given(core: &PrimaryCore, alloc: Global, number: u64, fill: (u8, u8)) -> Answer {
@@ -95,13 +95,13 @@ fn given(core: &PrimaryCore, alloc: Global, number: u64, fill: (u8, u8)) -> Answ
     let write = core.start(number)?;
     let range = write.range();
     let is_same = *write.contents() == wanted;
-    Ok(Said::Given(write.number(), range.first.0, range.count, is_same))
+    Ok(Outcome::Given(write.number(), range.first.0, range.count, is_same))
 }
 
 impl Stepped for PrimaryCore {
     type Step = Step;
 
-    type Said = Said;
+    type Outcome = Outcome;
 
     type Fact = Fact;
 
@@ -109,29 +109,29 @@ impl Stepped for PrimaryCore {
         match step {
             Step::Open(sync, loss) => {
                 self.open(sync, loss)?;
-                Ok(Said::Nothing)
+                Ok(Outcome::Nothing)
             }
-            Step::Close => Ok(Said::Closed(self.close()?)),
+            Step::Close => Ok(Outcome::Closed(self.close()?)),
             Step::Submit(first, blocks, byte) => {
                 let bytes = filled(alloc, blocks, byte)?;
-                Ok(told_of(self.submit(first, &bytes)?))
+                Ok(outcome_of(self.submit(first, &bytes)?))
             }
             Step::SubmitPart => {
                 let bytes = Bytes::copy_from_slice(alloc, &[0xAA; 100])?;
-                Ok(told_of(self.submit(0, &bytes)?))
+                Ok(outcome_of(self.submit(0, &bytes)?))
             }
             Step::Given(number, blocks, byte) => given(self, alloc, number, (blocks, byte)),
-            Step::Next => Ok(Said::Next(self.next())),
+            Step::Next => Ok(Outcome::Next(self.next())),
             Step::Local(number) => {
                 self.start(number)?;
-                Ok(told_of(self.done(number)))
+                Ok(outcome_of(self.done(number)))
             }
             Step::LocalFail(number) => {
                 self.start(number)?;
-                Ok(told_of(self.failed(number)))
+                Ok(outcome_of(self.failed(number)))
             }
             Step::Send(frame) => send(self, alloc, frame),
-            Step::Take(frame) => Ok(told_of(self.take(packet_of(alloc, frame))?)),
+            Step::Take(frame) => Ok(outcome_of(self.take(packet_of(alloc, frame))?)),
             Step::Resync(byte) => resync(self, alloc, byte),
             Step::Receipt(number) => receipt(self, number),
         }
@@ -173,11 +173,16 @@ fn decides(
     peer: Tuple,
     decided: Result<Decision, Refusal>,
 ) {
-    let said = match decided {
-        Ok(decision) => Ok(Said::Did(What::Decided(decision))),
+    let outcome = match decided {
+        Ok(decision) => Ok(Outcome::Did(What::Decided(decision))),
         Err(refusal) => Err(refusal),
     };
-    run(rt, core, scene, &[(Step::Take(Frame::Uuids(peer)), said)]);
+    run(
+        rt,
+        core,
+        scene,
+        &[(Step::Take(Frame::Uuids(peer)), outcome)],
+    );
     holds(
         rt,
         core,
@@ -199,7 +204,7 @@ fn greet(
     let protocol = Frame::Protocol(settings.protocol);
     let sizes = Frame::Sizes(u64::from(settings.blocks));
     let rows = [
-        (Step::Open(words.0, words.1), Ok(Said::Nothing)),
+        (Step::Open(words.0, words.1), Ok(Outcome::Nothing)),
         (Step::Send(protocol), PROTOCOL_WENT),
         (Step::Send(sizes), SIZES_WENT),
         (Step::Send(Frame::Uuids(own)), UUIDS_WENT),

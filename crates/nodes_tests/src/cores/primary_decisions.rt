@@ -1,7 +1,7 @@
 //! Tests of the decisions of a primary that has the peer's identifiers.
 use crate::cores::cases::{Way, goes};
 use crate::cores::primary_tables::{
-    Frame, PROTOCOL_WENT, Part, SETTINGS, SIZES_WENT, Said, Start, Step,
+    Frame, Outcome, PROTOCOL_WENT, Part, SETTINGS, SIZES_WENT, Start, Step,
 };
 use blocks::{Decision, Protocol, Refusal, Tuple};
 use primary_core::PrimaryCore;
@@ -48,7 +48,7 @@ static CASES: [Case; 9] = [
 ];
 
 const HEARD: [Part; 1] = [Part::Rows(&[
-    (Step::Open(101, 103), Ok(Said::Nothing)),
+    (Step::Open(101, 103), Ok(Outcome::Nothing)),
     (Step::Take(Frame::Protocol(Protocol::C)), PROTOCOL_WENT),
     (Step::Take(Frame::Sizes(8)), SIZES_WENT),
 ])];

@@ -1,8 +1,8 @@
 //! Frames that no secondary sends: each is refused, and closes the end with all that a close does.
 use crate::cores::cases::{Foreign, are_foreign};
 use crate::cores::primary_tables::{
-    ACCEPTED, ANSWERED, BARRIER, CONNECTED, DONE, Fact, Frame, OF_ONE, PROTOCOL_WENT, Part, Row,
-    SENT, SIZES_WENT, START, Said, Start, Step,
+    ACCEPTED, ANSWERED, BARRIER, CONNECTED, DONE, Fact, Frame, OF_ONE, Outcome, PROTOCOL_WENT,
+    Part, Row, SENT, SIZES_WENT, START, Start, Step,
 };
 use crate::tuples::{OWN, PARTED};
 use blocks::{Protocol, Refusal, Tuple, What};
@@ -60,7 +60,7 @@ const LEFT_OPEN: [Part; 4] = [
 const ENDED: [Row; 2] = [
     (
         Step::Submit(2, 1, 0xAA),
-        Ok(Said::More(What::Write(1), None, Some(1), false)),
+        Ok(Outcome::More(What::Write(1), None, Some(1), false)),
     ),
     SENT,
 ];
@@ -117,7 +117,7 @@ const STRANGE: Tuple = Tuple {
     second_historical: 23,
 };
 
-const OPEN: Row = (Step::Open(5, 7), Ok(Said::Nothing));
+const OPEN: Row = (Step::Open(5, 7), Ok(Outcome::Nothing));
 
 const PROTOCOL: Row = (Step::Take(Frame::Protocol(Protocol::C)), PROTOCOL_WENT);
 

@@ -1,8 +1,8 @@
 //! Refusals of a primary in each state: of writes, connections and receipts.
 use crate::cores::cases::{Case, passes};
 use crate::cores::primary_tables::{
-    BARRIER, COMPLETES_1, CONNECTED, DONE, Fact, Frame, Part, RELEASED, Row, SETTINGS, START, Said,
-    Start, Step,
+    BARRIER, COMPLETES_1, CONNECTED, DONE, Fact, Frame, Outcome, Part, RELEASED, Row, SETTINGS,
+    START, Start, Step,
 };
 use crate::tuples::{OWN, PARTED, RESYNCING};
 use blocks::{Block, Command, Decision, Refusal, Settings, What};
@@ -27,7 +27,7 @@ const OPENED: [Row; 3] = [
 
 /// On a device of 2048 blocks, whose extents have 1024 each.
 const RANGES: [Row; 7] = [
-    (Step::Submit(2016, 32, 0xAA), Ok(Said::Accepted(1))),
+    (Step::Submit(2016, 32, 0xAA), Ok(Outcome::Accepted(1))),
     (Step::Submit(0, 33, 0xAA), Err(Refusal::BadRange)),
     (Step::Submit(0, 0, 0xAA), Err(Refusal::BadRange)),
     (Step::Submit(2048, 1, 0xAA), Err(Refusal::BadRange)),
@@ -38,60 +38,60 @@ const RANGES: [Row; 7] = [
 
 /// One extent may be active, and stays so until its writes are released.
 const ONE_SLOT: [Row; 9] = [
-    (Step::Submit(0, 1, 0xAA), Ok(Said::Accepted(1))),
+    (Step::Submit(0, 1, 0xAA), Ok(Outcome::Accepted(1))),
     (Step::Submit(1024, 1, 0xBB), Err(Refusal::ActivityFull)),
     (Step::Local(1), DONE),
     (
         Step::Send(Frame::Data(0, 1, 0, 0xAA)),
-        Ok(Said::Went(Command::Data, Some(0))),
+        Ok(Outcome::Went(Command::Data, Some(0))),
     ),
     (Step::Take(Frame::WriteAck(0, 1, 0)), COMPLETES_1),
     (Step::Submit(1024, 1, 0xBB), Err(Refusal::ActivityFull)),
     BARRIER,
     RELEASED,
-    (Step::Submit(1024, 1, 0xBB), Ok(Said::Accepted(2))),
+    (Step::Submit(1024, 1, 0xBB), Ok(Outcome::Accepted(2))),
 ];
 
 /// A full log is reported before a conflict.
 const ONE_WRITE: [Row; 3] = [
-    (Step::Submit(0, 1, 0xAA), Ok(Said::Accepted(1))),
+    (Step::Submit(0, 1, 0xAA), Ok(Outcome::Accepted(1))),
     (Step::Submit(1, 1, 0xBB), Err(Refusal::LogFull)),
     (Step::Submit(0, 1, 0xBB), Err(Refusal::LogFull)),
 ];
 
 /// A write that the local disk failed holds no block any more, and is marked.
 const FAILED: [Row; 6] = [
-    (Step::Submit(2, 2, 0xAA), Ok(Said::Accepted(1))),
+    (Step::Submit(2, 2, 0xAA), Ok(Outcome::Accepted(1))),
     (
         Step::LocalFail(1),
-        Ok(Said::More(What::Nothing, None, Some(1), false)),
+        Ok(Outcome::More(What::Nothing, None, Some(1), false)),
     ),
-    (Step::Submit(3, 1, 0xBB), Ok(Said::Accepted(2))),
+    (Step::Submit(3, 1, 0xBB), Ok(Outcome::Accepted(2))),
     (Step::Local(1), Err(Refusal::UnknownJob)),
     (Step::Receipt(1), Err(Refusal::LocalFault)),
     (Step::Receipt(1), Err(Refusal::UnknownJob)),
 ];
 
 const GIVEN: [Row; 3] = [
-    (Step::Submit(6, 2, 0x5A), Ok(Said::Accepted(1))),
-    (Step::Given(1, 2, 0x5A), Ok(Said::Given(1, 6, 2, true))),
+    (Step::Submit(6, 2, 0x5A), Ok(Outcome::Accepted(1))),
+    (Step::Given(1, 2, 0x5A), Ok(Outcome::Given(1, 6, 2, true))),
     (Step::Given(2, 2, 0x5A), Err(Refusal::UnknownJob)),
 ];
 
 /// A closed end sends nothing, and every unreleased write is marked, sent or not.
 const CUT: [Row; 8] = [
-    (Step::Submit(0, 2, 0x11), Ok(Said::Accepted(1))),
-    (Step::Submit(2, 2, 0x22), Ok(Said::Accepted(2))),
-    (Step::Submit(5, 1, 0x33), Ok(Said::Accepted(3))),
+    (Step::Submit(0, 2, 0x11), Ok(Outcome::Accepted(1))),
+    (Step::Submit(2, 2, 0x22), Ok(Outcome::Accepted(2))),
+    (Step::Submit(5, 1, 0x33), Ok(Outcome::Accepted(3))),
     (
         Step::Send(Frame::TwoBlocks(0, 1, 0, 0x11)),
-        Ok(Said::Went(Command::Data, Some(0))),
+        Ok(Outcome::Went(Command::Data, Some(0))),
     ),
     (
         Step::Send(Frame::TwoBlocks(2, 2, 1, 0x22)),
-        Ok(Said::Went(Command::Data, Some(1))),
+        Ok(Outcome::Went(Command::Data, Some(1))),
     ),
-    (Step::Close, Ok(Said::Closed(0))),
+    (Step::Close, Ok(Outcome::Closed(0))),
     (
         Step::Send(Frame::Data(5, 3, 2, 0x33)),
         Err(Refusal::NotConnected),
@@ -104,9 +104,12 @@ const RESUMED: [Row; 4] = [
     (Step::Resync(0x11), Err(Refusal::NothingToDo)),
     (
         Step::Local(1),
-        Ok(Said::More(What::Nothing, Some(1), None, false)),
+        Ok(Outcome::More(What::Nothing, Some(1), None, false)),
     ),
-    (Step::Resync(0x11), Ok(Said::Did(What::Block(Block(0), 1)))),
+    (
+        Step::Resync(0x11),
+        Ok(Outcome::Did(What::Block(Block(0), 1))),
+    ),
     (Step::Resync(0x11), Err(Refusal::NothingToDo)),
 ];
 
@@ -184,7 +187,7 @@ static REFUSALS: [Case<Start, Part>; 8] = [
             Part::Rows(&FAILED),
             Part::Marks(&[2, 3]),
             Part::Holds(&[Fact::OpenWrites(1)]),
-            Part::Rows(&[(Step::Next, Ok(Said::Next(Some(2))))]),
+            Part::Rows(&[(Step::Next, Ok(Outcome::Next(Some(2))))]),
         ],
     },
     Case {

@@ -1,7 +1,7 @@
 //! The primary's half of a resync: it reads and sends the marked blocks, and what the peer has is not marked.
 use crate::cores::cases::{Case, passes};
 use crate::cores::primary_tables::{
-    CONNECTED, DONE, Fact, Frame, OF_ONE, Part, RELEASED, Row, START, Said, Start, Step,
+    CONNECTED, DONE, Fact, Frame, OF_ONE, Outcome, Part, RELEASED, Row, START, Start, Step,
 };
 use crate::tuples::{OWN, PARTED, RESYNCING, SYNCED, TARGET};
 use blocks::{Block, Command, Decision, Refusal, Tuple, What};
@@ -9,22 +9,22 @@ use primary_core::PrimaryCore;
 
 /// The link is lost; writes without it are completed by the local disk and marked.
 const ALONE: [Row; 8] = [
-    (Step::Close, Ok(Said::Closed(0))),
-    (Step::Submit(3, 1, 0xAA), Ok(Said::Accepted(1))),
-    (Step::Submit(6, 1, 0xBB), Ok(Said::Accepted(2))),
+    (Step::Close, Ok(Outcome::Closed(0))),
+    (Step::Submit(3, 1, 0xAA), Ok(Outcome::Accepted(1))),
+    (Step::Submit(6, 1, 0xBB), Ok(Outcome::Accepted(2))),
     (
         Step::Send(Frame::Data(3, 1, 0, 0xAA)),
         Err(Refusal::NotConnected),
     ),
     (
         Step::Local(1),
-        Ok(Said::More(What::Nothing, Some(1), None, false)),
+        Ok(Outcome::More(What::Nothing, Some(1), None, false)),
     ),
     (
         Step::Local(2),
-        Ok(Said::More(What::Nothing, Some(2), None, false)),
+        Ok(Outcome::More(What::Nothing, Some(2), None, false)),
     ),
-    (Step::Receipt(1), Ok(Said::Receipt(3, 1, false, None))),
+    (Step::Receipt(1), Ok(Outcome::Receipt(3, 1, false, None))),
     (Step::Receipt(1), Err(Refusal::UnknownJob)),
 ];
 
@@ -43,52 +43,58 @@ const BEGUN: [Part; 5] = [
 
 const SYNC_UUID: Row = (
     Step::Send(Frame::SyncUuid(9)),
-    Ok(Said::Went(Command::SyncUuid, Some(0))),
+    Ok(Outcome::Went(Command::SyncUuid, Some(0))),
 );
 
-const FIRST_BLOCK: Row = (Step::Resync(0xAA), Ok(Said::Did(What::Block(Block(3), 1))));
+const FIRST_BLOCK: Row = (
+    Step::Resync(0xAA),
+    Ok(Outcome::Did(What::Block(Block(3), 1))),
+);
 
 const FIRST_SENT: Row = (
     Step::Send(Frame::RsDataReply(3, 1, 0xAA)),
-    Ok(Said::Went(Command::RsDataReply, Some(1))),
+    Ok(Outcome::Went(Command::RsDataReply, Some(1))),
 );
 
 /// The acknowledgement of a block ends the epoch.
 const FIRST_DONE: Row = (
     Step::Take(Frame::RsWriteAck(3, 1)),
-    Ok(Said::More(What::Frame(Command::RsWriteAck, None), None, Some(1), false)),
+    Ok(Outcome::More(What::Frame(Command::RsWriteAck, None), None, Some(1), false)),
 );
 
 const FIRST_COPIED: [Row; 3] = [SYNC_UUID, FIRST_BLOCK, FIRST_SENT];
 
 const SECOND_COPIED: [Row; 5] = [
-    (Step::Resync(0xBB), Ok(Said::Did(What::Block(Block(6), 3)))),
+    (
+        Step::Resync(0xBB),
+        Ok(Outcome::Did(What::Block(Block(6), 3))),
+    ),
     (
         Step::Send(Frame::Barrier(1)),
-        Ok(Said::Went(Command::Barrier, Some(2))),
+        Ok(Outcome::Went(Command::Barrier, Some(2))),
     ),
     (
         Step::Send(Frame::RsDataReply(6, 3, 0xBB)),
-        Ok(Said::Went(Command::RsDataReply, Some(3))),
+        Ok(Outcome::Went(Command::RsDataReply, Some(3))),
     ),
     (
         Step::Take(Frame::BarrierAck(1, 0)),
-        Ok(Said::Went(Command::BarrierAck, None)),
+        Ok(Outcome::Went(Command::BarrierAck, None)),
     ),
     (
         Step::Take(Frame::RsWriteAck(6, 3)),
-        Ok(Said::More(What::Frame(Command::RsWriteAck, None), None, Some(2), true)),
+        Ok(Outcome::More(What::Frame(Command::RsWriteAck, None), None, Some(2), true)),
     ),
 ];
 
 const CLOSING: [Row; 3] = [
     (
         Step::Send(Frame::Barrier(2)),
-        Ok(Said::Went(Command::Barrier, Some(4))),
+        Ok(Outcome::Went(Command::Barrier, Some(4))),
     ),
     (
         Step::Send(Frame::Uuids(SYNCED)),
-        Ok(Said::Went(Command::Uuids, Some(5))),
+        Ok(Outcome::Went(Command::Uuids, Some(5))),
     ),
     (Step::Resync(0xAA), Err(Refusal::NothingToDo)),
 ];
@@ -112,12 +118,12 @@ const FULL: Tuple = Tuple {
 const SHARED: [Row; 8] = [
     FIRST_BLOCK,
     (Step::Submit(2, 2, 0xCC), Err(Refusal::Conflict(0))),
-    (Step::Submit(6, 1, 0xDD), Ok(Said::Accepted(3))),
+    (Step::Submit(6, 1, 0xDD), Ok(Outcome::Accepted(3))),
     SYNC_UUID,
     FIRST_SENT,
     (
         Step::Send(Frame::Data(6, 3, 2, 0xDD)),
-        Ok(Said::Went(Command::Data, Some(2))),
+        Ok(Outcome::Went(Command::Data, Some(2))),
     ),
     FIRST_DONE,
     (Step::Resync(0xDD), Err(Refusal::NothingToDo)),
@@ -125,22 +131,25 @@ const SHARED: [Row; 8] = [
 
 /// The resync passes over a block that an open write holds.
 const PASSED: [Row; 2] = [
-    (Step::Submit(3, 1, 0xCC), Ok(Said::Accepted(3))),
-    (Step::Resync(0xBB), Ok(Said::Did(What::Block(Block(6), 2)))),
+    (Step::Submit(3, 1, 0xCC), Ok(Outcome::Accepted(3))),
+    (
+        Step::Resync(0xBB),
+        Ok(Outcome::Did(What::Block(Block(6), 2))),
+    ),
 ];
 
 /// A connected write of a marked block goes through.
 const WRITTEN: [Row; 7] = [
-    (Step::Submit(3, 1, 0xCC), Ok(Said::Accepted(3))),
+    (Step::Submit(3, 1, 0xCC), Ok(Outcome::Accepted(3))),
     (Step::Local(3), DONE),
     SYNC_UUID,
     (
         Step::Send(Frame::Data(3, 3, 1, 0xCC)),
-        Ok(Said::Went(Command::Data, Some(1))),
+        Ok(Outcome::Went(Command::Data, Some(1))),
     ),
     (
         Step::Take(Frame::WriteAck(3, 3, 1)),
-        Ok(Said::More(
+        Ok(Outcome::More(
             What::Frame(Command::WriteAck, None),
             Some(3),
             Some(1),
@@ -149,34 +158,37 @@ const WRITTEN: [Row; 7] = [
     ),
     (
         Step::Send(Frame::Barrier(1)),
-        Ok(Said::Went(Command::Barrier, Some(2))),
+        Ok(Outcome::Went(Command::Barrier, Some(2))),
     ),
     (
         Step::Receipt(3),
-        Ok(Said::Receipt(3, 1, true, Some((2, 1)))),
+        Ok(Outcome::Receipt(3, 1, true, Some((2, 1)))),
     ),
 ];
 
-const SECOND_BLOCK: Row = (Step::Resync(0xBB), Ok(Said::Did(What::Block(Block(6), 3))));
+const SECOND_BLOCK: Row = (
+    Step::Resync(0xBB),
+    Ok(Outcome::Did(What::Block(Block(6), 3))),
+);
 
 /// Writes of both marked blocks, sent and answered.
 const BOTH: [Row; 10] = [
-    (Step::Submit(3, 1, 0xCC), Ok(Said::Accepted(3))),
-    (Step::Submit(6, 1, 0xDD), Ok(Said::Accepted(4))),
+    (Step::Submit(3, 1, 0xCC), Ok(Outcome::Accepted(3))),
+    (Step::Submit(6, 1, 0xDD), Ok(Outcome::Accepted(4))),
     (Step::Local(3), DONE),
     (Step::Local(4), DONE),
     SYNC_UUID,
     (
         Step::Send(Frame::Data(3, 3, 1, 0xCC)),
-        Ok(Said::Went(Command::Data, Some(1))),
+        Ok(Outcome::Went(Command::Data, Some(1))),
     ),
     (
         Step::Send(Frame::Data(6, 4, 2, 0xDD)),
-        Ok(Said::Went(Command::Data, Some(2))),
+        Ok(Outcome::Went(Command::Data, Some(2))),
     ),
     (
         Step::Take(Frame::WriteAck(3, 3, 1)),
-        Ok(Said::More(
+        Ok(Outcome::More(
             What::Frame(Command::WriteAck, None),
             Some(3),
             Some(1),
@@ -185,22 +197,22 @@ const BOTH: [Row; 10] = [
     ),
     (
         Step::Take(Frame::WriteAck(6, 4, 2)),
-        Ok(Said::More(What::Frame(Command::WriteAck, None), Some(4), None, false)),
+        Ok(Outcome::More(What::Frame(Command::WriteAck, None), Some(4), None, false)),
     ),
     (
         Step::Send(Frame::Barrier(1)),
-        Ok(Said::Went(Command::Barrier, Some(3))),
+        Ok(Outcome::Went(Command::Barrier, Some(3))),
     ),
 ];
 
 const SYNCED_BY_WRITES: [Row; 2] = [
     (
         Step::Take(Frame::BarrierAck(1, 2)),
-        Ok(Said::More(What::Frame(Command::BarrierAck, None), None, None, true)),
+        Ok(Outcome::More(What::Frame(Command::BarrierAck, None), None, None, true)),
     ),
     (
         Step::Send(Frame::Uuids(SYNCED)),
-        Ok(Said::Went(Command::Uuids, Some(4))),
+        Ok(Outcome::Went(Command::Uuids, Some(4))),
     ),
 ];
 
@@ -208,27 +220,27 @@ const SYNCED_BY_WRITES: [Row; 2] = [
 const ACKNOWLEDGED: [Row; 6] = [
     (
         Step::Submit(3, 1, 0xCC),
-        Ok(Said::More(What::Write(3), None, Some(1), false)),
+        Ok(Outcome::More(What::Write(3), None, Some(1), false)),
     ),
     SYNC_UUID,
     (
         Step::Send(Frame::Data(3, 3, 1, 0xCC)),
-        Ok(Said::Went(Command::Data, Some(1))),
+        Ok(Outcome::Went(Command::Data, Some(1))),
     ),
     (
         Step::Send(Frame::Barrier(1)),
-        Ok(Said::Went(Command::Barrier, Some(2))),
+        Ok(Outcome::Went(Command::Barrier, Some(2))),
     ),
     (
         Step::Take(Frame::WriteAck(3, 3, 1)),
-        Ok(Said::Went(Command::WriteAck, None)),
+        Ok(Outcome::Went(Command::WriteAck, None)),
     ),
     RELEASED,
 ];
 
 const LOCAL: Row = (
     Step::Local(3),
-    Ok(Said::More(What::Nothing, Some(3), None, false)),
+    Ok(Outcome::More(What::Nothing, Some(3), None, false)),
 );
 
 static RESYNCS: [Case<Start, Part>; 7] = [
@@ -256,7 +268,7 @@ static RESYNCS: [Case<Start, Part>; 7] = [
             Part::Rows(&FIRST_COPIED),
             Part::Rows(&[FIRST_DONE]),
             Part::Rows(&SECOND_COPIED),
-            Part::Rows(&[(Step::Close, Ok(Said::Closed(0)))]),
+            Part::Rows(&[(Step::Close, Ok(Outcome::Closed(0)))]),
             Part::Holds(&[Fact::Tuple(LOST)]),
             Part::Greeting((13, 15), (LOST, TARGET), Decision::FullSync),
             Part::Marks(&[0, 1, 2, 3, 4, 5, 6, 7]),

@@ -1,8 +1,8 @@
 //! The primary's half of the worked rows: writes, from their acceptance to their release.
 use crate::cores::cases::{Case, passes};
 use crate::cores::primary_tables::{
-    ACCEPTED, ANSWERED, BARRIER, COMPLETES_1, CONNECTED, DONE, Fact, Frame, OF_ONE, Part, RELEASED,
-    Row, SENT, SETTINGS, START, Said, Start, Step,
+    ACCEPTED, ANSWERED, BARRIER, COMPLETES_1, CONNECTED, DONE, Fact, Frame, OF_ONE, Outcome, Part,
+    RELEASED, Row, SENT, SETTINGS, START, Start, Step,
 };
 use crate::tuples::{OWN, PARTED};
 use blocks::{Command, Protocol, Refusal, Settings, What};
@@ -10,18 +10,18 @@ use primary_core::PrimaryCore;
 
 /// Under C a write is completed once both disks have it, and released by its epoch's acknowledgement.
 const WRITTEN: [Row; 13] = [
-    (Step::Next, Ok(Said::Next(None))),
+    (Step::Next, Ok(Outcome::Next(None))),
     ACCEPTED,
-    (Step::Next, Ok(Said::Next(Some(1)))),
+    (Step::Next, Ok(Outcome::Next(Some(1)))),
     (Step::Local(1), DONE),
-    (Step::Next, Ok(Said::Next(None))),
+    (Step::Next, Ok(Outcome::Next(None))),
     (Step::Local(1), Err(Refusal::UnknownJob)),
     SENT,
     (Step::Receipt(1), Err(Refusal::NotCompleted)),
     ANSWERED,
     (
         Step::Receipt(1),
-        Ok(Said::Receipt(2, 1, true, Some((1, 0)))),
+        Ok(Outcome::Receipt(2, 1, true, Some((1, 0)))),
     ),
     (Step::Receipt(1), Err(Refusal::UnknownJob)),
     (Step::Receipt(2), Err(Refusal::UnknownJob)),
@@ -34,7 +34,7 @@ const FREED: [Row; 3] = [
     RELEASED,
 ];
 
-const CLOSED: [Row; 1] = [(Step::Close, Ok(Said::Closed(0)))];
+const CLOSED: [Row; 1] = [(Step::Close, Ok(Outcome::Closed(0)))];
 
 const COMPLETED: [Fact; 7] = [
     Fact::Tuple(OWN),
@@ -58,7 +58,7 @@ const SENT_FIRST: [Row; 3] = [
     SENT,
     (
         Step::Local(1),
-        Ok(Said::More(What::Nothing, Some(1), Some(1), false)),
+        Ok(Outcome::More(What::Nothing, Some(1), Some(1), false)),
     ),
 ];
 
@@ -67,7 +67,7 @@ const DONE_FIRST: [Row; 3] = [
     (Step::Local(1), DONE),
     (
         Step::Send(Frame::Data(2, 1, 0, 0xAA)),
-        Ok(Said::More(What::Frame(Command::Data, Some(0)), Some(1), Some(1), false)),
+        Ok(Outcome::More(What::Frame(Command::Data, Some(0)), Some(1), Some(1), false)),
     ),
 ];
 
@@ -96,7 +96,7 @@ const RECEIVED: [Row; 4] = [
     SENT,
     (
         Step::Take(Frame::RecvAck(2, 1, 0)),
-        Ok(Said::More(What::Frame(Command::RecvAck, None), Some(1), Some(1), false)),
+        Ok(Outcome::More(What::Frame(Command::RecvAck, None), Some(1), Some(1), false)),
     ),
 ];
 
@@ -110,69 +110,69 @@ const IN_B: Start = Start {
 
 /// The completion ends the epoch: what comes then follows its barrier.
 const FOLLOWED: [Row; 8] = [
-    (Step::Submit(3, 2, 0x11), Ok(Said::Accepted(1))),
+    (Step::Submit(3, 2, 0x11), Ok(Outcome::Accepted(1))),
     (Step::Submit(4, 2, 0x22), Err(Refusal::Conflict(1))),
     (Step::Local(1), DONE),
     (
         Step::Send(Frame::TwoBlocks(3, 1, 0, 0x11)),
-        Ok(Said::Went(Command::Data, Some(0))),
+        Ok(Outcome::Went(Command::Data, Some(0))),
     ),
     (Step::Take(Frame::WideAck(3, 1, 0)), COMPLETES_1),
-    (Step::Submit(4, 2, 0x22), Ok(Said::Accepted(2))),
+    (Step::Submit(4, 2, 0x22), Ok(Outcome::Accepted(2))),
     BARRIER,
     (
         Step::Send(Frame::TwoBlocks(4, 2, 2, 0x22)),
-        Ok(Said::Went(Command::Data, Some(2))),
+        Ok(Outcome::Went(Command::Data, Some(2))),
     ),
 ];
 
 /// Two writes of one epoch, completed in reverse order, and one of the next epoch.
 const EPOCHS: [Row; 14] = [
-    (Step::Submit(0, 1, 0x01), Ok(Said::Accepted(1))),
-    (Step::Submit(1, 1, 0x02), Ok(Said::Accepted(2))),
+    (Step::Submit(0, 1, 0x01), Ok(Outcome::Accepted(1))),
+    (Step::Submit(1, 1, 0x02), Ok(Outcome::Accepted(2))),
     (Step::Local(1), DONE),
     (Step::Local(2), DONE),
     (
         Step::Send(Frame::Data(0, 1, 0, 0x01)),
-        Ok(Said::Went(Command::Data, Some(0))),
+        Ok(Outcome::Went(Command::Data, Some(0))),
     ),
     (
         Step::Send(Frame::Data(1, 2, 1, 0x02)),
-        Ok(Said::Went(Command::Data, Some(1))),
+        Ok(Outcome::Went(Command::Data, Some(1))),
     ),
     (
         Step::Take(Frame::WriteAck(1, 2, 1)),
-        Ok(Said::More(
+        Ok(Outcome::More(
             What::Frame(Command::WriteAck, None),
             Some(2),
             Some(1),
             false,
         )),
     ),
-    (Step::Submit(2, 1, 0x03), Ok(Said::Accepted(3))),
+    (Step::Submit(2, 1, 0x03), Ok(Outcome::Accepted(3))),
     (
         Step::Send(Frame::Barrier(1)),
-        Ok(Said::Went(Command::Barrier, Some(2))),
+        Ok(Outcome::Went(Command::Barrier, Some(2))),
     ),
     (
         Step::Send(Frame::Data(2, 3, 3, 0x03)),
-        Ok(Said::Went(Command::Data, Some(3))),
+        Ok(Outcome::Went(Command::Data, Some(3))),
     ),
     (
         Step::Take(Frame::WriteAck(0, 1, 0)),
-        Ok(Said::More(What::Frame(Command::WriteAck, None), Some(1), None, false)),
+        Ok(Outcome::More(What::Frame(Command::WriteAck, None), Some(1), None, false)),
     ),
     (
         Step::Take(Frame::BarrierAck(1, 2)),
-        Ok(Said::Went(Command::BarrierAck, None)),
+        Ok(Outcome::Went(Command::BarrierAck, None)),
     ),
     (
         Step::Take(Frame::WriteAck(2, 3, 3)),
-        Ok(Said::Went(Command::WriteAck, None)),
+        Ok(Outcome::Went(Command::WriteAck, None)),
     ),
     (
         Step::Local(3),
-        Ok(Said::More(What::Nothing, Some(3), Some(2), false)),
+        Ok(Outcome::More(What::Nothing, Some(3), Some(2), false)),
     ),
 ];
 
@@ -180,13 +180,13 @@ const EPOCHS: [Row; 14] = [
 const FULL: [Row; 6] = [
     (
         Step::Submit(2, 1, 0xAA),
-        Ok(Said::More(What::Write(1), None, Some(1), false)),
+        Ok(Outcome::More(What::Write(1), None, Some(1), false)),
     ),
     SENT,
     BARRIER,
     (
         Step::Take(Frame::WriteAck(2, 1, 0)),
-        Ok(Said::Went(Command::WriteAck, None)),
+        Ok(Outcome::Went(Command::WriteAck, None)),
     ),
     RELEASED,
     (Step::Receipt(1), Err(Refusal::NotCompleted)),

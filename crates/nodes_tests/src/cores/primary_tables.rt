@@ -54,7 +54,7 @@ pub(crate) enum Step {
 
 /// What a step returns.
 #[derive(Clone, Copy, Debug, PartialEq, Eq)]
-pub(crate) enum Said {
+pub(crate) enum Outcome {
     Nothing,
     /// How many writes the close completed.
     Closed(u32),
@@ -78,7 +78,7 @@ pub(crate) enum Said {
 }
 
 /// What a step returns, or why it is refused.
-pub(crate) type Answer = Result<Said, Refusal>;
+pub(crate) type Answer = Result<Outcome, Refusal>;
 
 /// A step and what it returns.
 pub(crate) type Row = (Step, Answer);
@@ -146,28 +146,28 @@ pub(crate) const OF_ONE: Start = Start {
 };
 
 /// The step was done, and has nothing to report.
-pub(crate) const DONE: Answer = Ok(Said::Did(What::Nothing));
+pub(crate) const DONE: Answer = Ok(Outcome::Did(What::Nothing));
 
-pub(crate) const PROTOCOL_WENT: Answer = Ok(Said::Went(Command::Protocol, None));
+pub(crate) const PROTOCOL_WENT: Answer = Ok(Outcome::Went(Command::Protocol, None));
 
-pub(crate) const SIZES_WENT: Answer = Ok(Said::Went(Command::Sizes, None));
+pub(crate) const SIZES_WENT: Answer = Ok(Outcome::Went(Command::Sizes, None));
 
-pub(crate) const UUIDS_WENT: Answer = Ok(Said::Went(Command::Uuids, None));
+pub(crate) const UUIDS_WENT: Answer = Ok(Outcome::Went(Command::Uuids, None));
 
 /// The first connection, whose words are 5 and 7.
 pub(crate) const CONNECTED: Part = Part::Greeting((5, 7), (OWN, OWN), Decision::NoSync);
 
 /// Write 1 of block 2 is accepted.
-pub(crate) const ACCEPTED: Row = (Step::Submit(2, 1, 0xAA), Ok(Said::Accepted(1)));
+pub(crate) const ACCEPTED: Row = (Step::Submit(2, 1, 0xAA), Ok(Outcome::Accepted(1)));
 
 /// It is sent, at place 0.
 pub(crate) const SENT: Row = (
     Step::Send(Frame::Data(2, 1, 0, 0xAA)),
-    Ok(Said::Went(Command::Data, Some(0))),
+    Ok(Outcome::Went(Command::Data, Some(0))),
 );
 
 /// An acknowledgement completes write 1, and ends its epoch.
-pub(crate) const COMPLETES_1: Answer = Ok(Said::More(
+pub(crate) const COMPLETES_1: Answer = Ok(Outcome::More(
     What::Frame(Command::WriteAck, None),
     Some(1),
     Some(1),
@@ -180,11 +180,11 @@ pub(crate) const ANSWERED: Row = (Step::Take(Frame::WriteAck(2, 1, 0)), COMPLETE
 /// The barrier after it is sent.
 pub(crate) const BARRIER: Row = (
     Step::Send(Frame::Barrier(1)),
-    Ok(Said::Went(Command::Barrier, Some(1))),
+    Ok(Outcome::Went(Command::Barrier, Some(1))),
 );
 
 /// The peer acknowledges the epoch, which has one write.
 pub(crate) const RELEASED: Row = (
     Step::Take(Frame::BarrierAck(1, 1)),
-    Ok(Said::Went(Command::BarrierAck, None)),
+    Ok(Outcome::Went(Command::BarrierAck, None)),
 );

@@ -47,7 +47,7 @@ pub(crate) enum Step {
 
 /// What a step returns.
 #[derive(Clone, Copy, Debug, PartialEq, Eq)]
-pub(crate) enum Said {
+pub(crate) enum Outcome {
     Nothing,
     /// The command of the frame that was taken, and its place.
     Took(Command, Option<u32>),
@@ -57,7 +57,7 @@ pub(crate) enum Said {
 }
 
 /// What a step returns, or why it is refused.
-pub(crate) type Answer = Result<Said, Refusal>;
+pub(crate) type Answer = Result<Outcome, Refusal>;
 
 /// A step and what it returns.
 pub(crate) type Row = (Step, Answer);
@@ -88,9 +88,9 @@ pub(crate) enum Part {
 /// The settings of the worked rows, under protocol C.
 pub(crate) const SETTINGS: Settings = Settings::STANDARD;
 
-pub(crate) const DONE: Answer = Ok(Said::Nothing);
+pub(crate) const DONE: Answer = Ok(Outcome::Nothing);
 
-const PROTOCOL_TOOK: Answer = Ok(Said::Took(Command::Protocol, None));
+const PROTOCOL_TOOK: Answer = Ok(Outcome::Took(Command::Protocol, None));
 
 /// The end opens, and takes the protocol that the primary names.
 pub(crate) const OPENED_IN_A: Part = Part::Rows(&[
@@ -112,15 +112,15 @@ pub(crate) const OPENED: Part = Part::Rows(&[
 pub(crate) const GREETED: Part = Part::Rows(&[
     (
         Step::Take(Frame::Sizes(8)),
-        Ok(Said::Took(Command::Sizes, None)),
+        Ok(Outcome::Took(Command::Sizes, None)),
     ),
     (
         Step::Take(Frame::Uuids(OWN)),
-        Ok(Said::Took(Command::Uuids, None)),
+        Ok(Outcome::Took(Command::Uuids, None)),
     ),
-    (Step::AckOut, Ok(Said::Sent(Command::Protocol, 0, 0))),
-    (Step::AckOut, Ok(Said::Sent(Command::Sizes, 0, 0))),
-    (Step::AckOut, Ok(Said::Sent(Command::Uuids, 0, 0))),
+    (Step::AckOut, Ok(Outcome::Sent(Command::Protocol, 0, 0))),
+    (Step::AckOut, Ok(Outcome::Sent(Command::Sizes, 0, 0))),
+    (Step::AckOut, Ok(Outcome::Sent(Command::Uuids, 0, 0))),
     (Step::AckOut, Err(Refusal::NothingThere)),
 ]);
 
@@ -183,8 +183,8 @@ fn take(core: &mut SecondaryCore, frame: Result<Packet, Refusal>) -> Answer
     core.may_take()?;
     core.ready()?;
     match core.take(frame)?.what {
-        What::Frame(command, place) => Ok(Said::Took(command, place)),
-        _ => Ok(Said::Nothing),
+        What::Frame(command, place) => Ok(Outcome::Took(command, place)),
+        _ => Ok(Outcome::Nothing),
     }
 }
 
@@ -198,13 +198,13 @@ fn ack_out(core: &mut SecondaryCore) -> Answer {
         Packet::BarrierAck { number, size } => (u64::from(number), size),
         _ => (0, 0),
     };
-    Ok(Said::Sent(packet.command(), number, place))
+    Ok(Outcome::Sent(packet.command(), number, place))
 }
 
 impl Stepped for SecondaryCore {
     type Step = Step;
 
-    type Said = Said;
+    type Outcome = Outcome;
 
     type Fact = Fact;
 
@@ -223,7 +223,7 @@ impl Stepped for SecondaryCore {
             }
             Step::AckOut => return ack_out(self),
         }
-        Ok(Said::Nothing)
+        Ok(Outcome::Nothing)
     }
 
     fn is_true(&self, fact: Fact) -> bool {

@@ -1,7 +1,7 @@
 //! Frames that no primary sends: each is refused, and closes the end.
 use crate::cores::cases::{Foreign, are_foreign};
 use crate::cores::secondary_calls::{
-    DONE, Fact, Frame, GREETED, OPENED, Part, Row, SETTINGS, Said, Step,
+    DONE, Fact, Frame, GREETED, OPENED, Outcome, Part, Row, SETTINGS, Step,
 };
 use crate::tuples::{OWN, SYNCED};
 use blocks::{Command, Protocol, Refusal, Settings};
@@ -28,7 +28,7 @@ const FOREIGN: [(Frame, Refusal); 11] = [
 
 const WRITE: Row = (
     Step::Take(Frame::Data(2, 1, 0)),
-    Ok(Said::Took(Command::Data, Some(0))),
+    Ok(Outcome::Took(Command::Data, Some(0))),
 );
 
 /// The end is closed; the write stays pending, and is applied.

@@ -1,7 +1,8 @@
 //! The secondary's half of the worked rows.
 use crate::cores::cases::{Case, passes};
 use crate::cores::secondary_calls::{
-    DONE, Fact, Frame, GREETED, OPENED, OPENED_IN_A, OPENED_IN_B, Part, Row, SETTINGS, Said, Step,
+    DONE, Fact, Frame, GREETED, OPENED, OPENED_IN_A, OPENED_IN_B, Outcome, Part, Row, SETTINGS,
+    Step,
 };
 use crate::tuples::{SYNCED, TARGET};
 use blocks::{Command, Protocol, Refusal, Settings};
@@ -18,30 +19,30 @@ const UNOPENED: [Row; 4] = [
 const EPOCHS: [Row; 14] = [
     (
         Step::Take(Frame::Data(0, 1, 0)),
-        Ok(Said::Took(Command::Data, Some(0))),
+        Ok(Outcome::Took(Command::Data, Some(0))),
     ),
     (
         Step::Take(Frame::Data(1, 2, 1)),
-        Ok(Said::Took(Command::Data, Some(1))),
+        Ok(Outcome::Took(Command::Data, Some(1))),
     ),
     (Step::Peer(1), DONE),
-    (Step::AckOut, Ok(Said::Sent(Command::WriteAck, 2, 1))),
+    (Step::AckOut, Ok(Outcome::Sent(Command::WriteAck, 2, 1))),
     (
         Step::Take(Frame::Barrier(1)),
-        Ok(Said::Took(Command::Barrier, Some(2))),
+        Ok(Outcome::Took(Command::Barrier, Some(2))),
     ),
     (
         Step::Take(Frame::Data(2, 3, 3)),
-        Ok(Said::Took(Command::Data, Some(3))),
+        Ok(Outcome::Took(Command::Data, Some(3))),
     ),
     (Step::AckOut, Err(Refusal::NothingThere)),
     (Step::Peer(3), Err(Refusal::EpochOpen)),
     (Step::Peer(0), DONE),
     (Step::Peer(3), DONE),
     (Step::Peer(3), Err(Refusal::UnknownJob)),
-    (Step::AckOut, Ok(Said::Sent(Command::WriteAck, 1, 0))),
-    (Step::AckOut, Ok(Said::Sent(Command::BarrierAck, 1, 2))),
-    (Step::AckOut, Ok(Said::Sent(Command::WriteAck, 3, 3))),
+    (Step::AckOut, Ok(Outcome::Sent(Command::WriteAck, 1, 0))),
+    (Step::AckOut, Ok(Outcome::Sent(Command::BarrierAck, 1, 2))),
+    (Step::AckOut, Ok(Outcome::Sent(Command::WriteAck, 3, 3))),
 ];
 
 const APPLIED: Usage = Usage {
@@ -54,7 +55,7 @@ const APPLIED: Usage = Usage {
 const NEVER: [Row; 3] = [
     (
         Step::Take(Frame::Data(2, 1, 0)),
-        Ok(Said::Took(Command::Data, Some(0))),
+        Ok(Outcome::Took(Command::Data, Some(0))),
     ),
     (Step::Peer(0), DONE),
     (Step::AckOut, Err(Refusal::NothingThere)),
@@ -64,9 +65,9 @@ const NEVER: [Row; 3] = [
 const RECEIVED: [Row; 4] = [
     (
         Step::Take(Frame::Data(2, 1, 0)),
-        Ok(Said::Took(Command::Data, Some(0))),
+        Ok(Outcome::Took(Command::Data, Some(0))),
     ),
-    (Step::AckOut, Ok(Said::Sent(Command::RecvAck, 1, 0))),
+    (Step::AckOut, Ok(Outcome::Sent(Command::RecvAck, 1, 0))),
     (Step::PeerFault(0), DONE),
     (Step::Peer(0), Err(Refusal::UnknownJob)),
 ];
@@ -75,7 +76,7 @@ const RECEIVED: [Row; 4] = [
 const REOPENED: [Row; 6] = [
     (
         Step::Take(Frame::Data(0, 1, 0)),
-        Ok(Said::Took(Command::Data, Some(0))),
+        Ok(Outcome::Took(Command::Data, Some(0))),
     ),
     (Step::Take(Frame::Data(1, 2, 1)), Err(Refusal::PendingFull)),
     (Step::Close, DONE),
@@ -88,27 +89,27 @@ const REOPENED: [Row; 6] = [
 const RESYNC: [Row; 9] = [
     (
         Step::Take(Frame::SyncUuid(9)),
-        Ok(Said::Took(Command::SyncUuid, Some(0))),
+        Ok(Outcome::Took(Command::SyncUuid, Some(0))),
     ),
     (
         Step::Take(Frame::RsDataReply(3, 1)),
-        Ok(Said::Took(Command::RsDataReply, Some(1))),
+        Ok(Outcome::Took(Command::RsDataReply, Some(1))),
     ),
     (Step::Peer(1), DONE),
-    (Step::AckOut, Ok(Said::Sent(Command::RsWriteAck, 0, 1))),
+    (Step::AckOut, Ok(Outcome::Sent(Command::RsWriteAck, 0, 1))),
     (
         Step::Take(Frame::Barrier(1)),
-        Ok(Said::Took(Command::Barrier, Some(2))),
+        Ok(Outcome::Took(Command::Barrier, Some(2))),
     ),
-    (Step::AckOut, Ok(Said::Sent(Command::BarrierAck, 1, 0))),
+    (Step::AckOut, Ok(Outcome::Sent(Command::BarrierAck, 1, 0))),
     (
         Step::Take(Frame::RsDataReply(6, 3)),
-        Ok(Said::Took(Command::RsDataReply, Some(3))),
+        Ok(Outcome::Took(Command::RsDataReply, Some(3))),
     ),
     (Step::Peer(3), DONE),
     (
         Step::Take(Frame::Barrier(2)),
-        Ok(Said::Took(Command::Barrier, Some(4))),
+        Ok(Outcome::Took(Command::Barrier, Some(4))),
     ),
 ];
 
@@ -127,7 +128,7 @@ const ENDED: Usage = Usage {
 
 const END: Row = (
     Step::Take(Frame::Uuids(SYNCED)),
-    Ok(Said::Took(Command::Uuids, Some(5))),
+    Ok(Outcome::Took(Command::Uuids, Some(5))),
 );
 
 static STEPS: [Case<Settings, Part>; 7] = [

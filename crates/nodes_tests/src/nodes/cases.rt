@@ -39,7 +39,7 @@ pub(crate) trait Node: Drop + Sized {
 pub(crate) struct Before<S: 'static> {
     pub(crate) settings: Settings,
     /// The frames that the peer sent before it.
-    pub(crate) heard: &'static [Spelled],
+    pub(crate) received: &'static [Spelled],
     /// What is done, and what each call returns.
     pub(crate) rows: &'static [&'static [(S, Answer)]],
 }
@@ -97,7 +97,7 @@ fn goes<N: Node>(
 ) {
     let Case(before, _, after) = case;
     let frames = Frames {
-        before: before.heard,
+        before: before.received,
         tested: frame,
         behind: after.behind,
     };

@@ -11,7 +11,7 @@ use blocks::{Decision, Done, Refusal, Settings, What};
 /// All of a hello but its last frame.
 const GREETING: Before = Before {
     settings: Settings::STANDARD,
-    heard: &[PROTOCOL_C, SIZES_8],
+    received: &[PROTOCOL_C, SIZES_8],
     rows: &[&HELLO],
 };
 

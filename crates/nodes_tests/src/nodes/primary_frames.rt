@@ -152,13 +152,13 @@ const ANSWERED: [Row; 2] = [(Step::AckIn, ACKNOWLEDGED), (Step::Send, BARRIER_WE
 
 const WRITE_SENT: Before = Before {
     settings: Settings::STANDARD,
-    heard: &[PROTOCOL_C, SIZES_8, UUIDS_1],
+    received: &[PROTOCOL_C, SIZES_8, UUIDS_1],
     rows: &[&HELLO, &GREETED, &SENT],
 };
 
 const WRITE_SENT_AND_WRITTEN: Before = Before {
     settings: Settings::STANDARD,
-    heard: &[PROTOCOL_C, SIZES_8, UUIDS_1],
+    received: &[PROTOCOL_C, SIZES_8, UUIDS_1],
     rows: &[&HELLO, &GREETED, &SENT, &WRITTEN],
 };
 
@@ -167,13 +167,13 @@ const EPOCH_SENT: Before = Before {
         max_epoch: 1,
         ..Settings::STANDARD
     },
-    heard: &[PROTOCOL_C, SIZES_8, UUIDS_1],
+    received: &[PROTOCOL_C, SIZES_8, UUIDS_1],
     rows: &[&HELLO, &GREETED, &SENT_AS_EPOCH],
 };
 
 const EPOCH_ANSWERED: Before = Before {
     settings: Settings::STANDARD,
-    heard: &[PROTOCOL_C, SIZES_8, UUIDS_1, WRITE_ACK],
+    received: &[PROTOCOL_C, SIZES_8, UUIDS_1, WRITE_ACK],
     rows: &[&HELLO, &GREETED, &SENT, &WRITTEN, &ANSWERED],
 };
 

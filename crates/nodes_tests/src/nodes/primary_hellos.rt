@@ -37,19 +37,19 @@ const IDENTIFIERS: [(Spelled, Answer); 3] = [
 
 const NOTHING_HEARD: Before = Before {
     settings: Settings::STANDARD,
-    heard: &[],
+    received: &[],
     rows: &[],
 };
 
 const ONE_HEARD: Before = Before {
     settings: Settings::STANDARD,
-    heard: &[PROTOCOL_C],
+    received: &[PROTOCOL_C],
     rows: &[&[(Step::AckIn, PROTOCOL_WENT)]],
 };
 
 const TWO_HEARD: Before = Before {
     settings: Settings::STANDARD,
-    heard: &[PROTOCOL_C, SIZES_8],
+    received: &[PROTOCOL_C, SIZES_8],
     rows: &[&[(Step::AckIn, PROTOCOL_WENT), (Step::AckIn, SIZES_WENT)]],
 };
 

@@ -75,26 +75,26 @@ const FOREIGN: [(Spelled, Answer); 10] = [
 
 const NOTHING_HEARD: Before = Before {
     settings: Settings::STANDARD,
-    heard: &[],
+    received: &[],
     rows: &[],
 };
 
 const ONE_HEARD: Before = Before {
     settings: Settings::STANDARD,
-    heard: &[PROTOCOL_C],
+    received: &[PROTOCOL_C],
     rows: &[&[(Step::Receive, PROTOCOL_WENT)]],
 };
 
 const TWO_HEARD: Before = Before {
     settings: Settings::STANDARD,
-    heard: &[PROTOCOL_C, SIZES_8],
+    received: &[PROTOCOL_C, SIZES_8],
     rows: &[&[(Step::Receive, PROTOCOL_WENT), (Step::Receive, SIZES_WENT)]],
 };
 
 /// The hello is done, and write 1 was taken.
 const WRITE_HEARD: Before = Before {
     settings: Settings::STANDARD,
-    heard: &[PROTOCOL_C, SIZES_8, UUIDS_1, WRITE],
+    received: &[PROTOCOL_C, SIZES_8, UUIDS_1, WRITE],
     rows: &[&[
         (Step::Receive, PROTOCOL_WENT),
         (Step::Receive, SIZES_WENT),

@@ -1,6 +1,6 @@
 //! Worked examples in which a disk fails one of its calls. At the end of each, every block on which the disks
 //! differ is marked.
-use crate::pairs::events::{Given, Line, Said};
+use crate::pairs::events::{Given, Line, Outcome};
 use crate::pairs::resyncs::RESYNC;
 use crate::pairs::rows::{BLOCKS, EPOCHS, Part};
 use crate::pairs::seen::let_go;
@@ -83,7 +83,7 @@ fn faults_of(rt: &(impl Abort + AllocGlobal), lines: &[Line]) -> Vec<(usize, Giv
 /// Returns the fault that replaces a line, if the line has a disk do something. A failed read leaves no block.
 fn fault_of(line: Line, kept: u64) -> Option<Given> {
     match line {
-        (_, Said::Refused(_)) => None,
+        (_, Outcome::Refused(_)) => None,
         (Given::Local(number), _) => Some(Given::LocalFault(number, kept)),
         (Given::Peer(place), _) => Some(Given::PeerFault(place, kept)),
         (Given::Resync, _) if kept == 0 => Some(Given::ResyncFault),
@@ -150,11 +150,11 @@ fn replies_are_due(
     (at, fault): (usize, Given),
 ) {
     assert_eq!(rt; replies.len(), lines.len());
-    for (index, (reply, (given, said))) in replies.iter().zip(lines).enumerate() {
+    for (index, (reply, (given, outcome))) in replies.iter().zip(lines).enumerate() {
         let is_due = if index == at {
             is_met(fault, *reply)
         } else {
-            at < index || *reply == said.reply()
+            at < index || *reply == outcome.reply()
         };
         assert!(rt; is_due, "{fault:?} at {at}: {given:?} is replied {reply:?}");
     }

@@ -27,7 +27,7 @@ pub(crate) enum Given {
 
 /// The reply to an event.
 #[derive(Clone, Copy)]
-pub(crate) enum Said {
+pub(crate) enum Outcome {
     /// It was done, and the reply says nothing more.
     Done,
     /// A write was accepted under this number, and the reply says nothing more.
@@ -49,7 +49,7 @@ pub(crate) enum Said {
 }
 
 /// An event, and the reply to it.
-pub(crate) type Line = (Given, Said);
+pub(crate) type Line = (Given, Outcome);
 
 impl Given {
     /// Makes the event. Its contents are new, so memory may be refused.
@@ -76,24 +76,24 @@ impl Given {
     }
 }
 
-impl Said {
+impl Outcome {
     /// Returns the reply.
     pub(crate) fn reply(self) -> Reply {
         match self {
-            Said::Done => about(What::Nothing),
-            Said::Accepted(number) => about(What::Write(number)),
-            Said::Went(command) => about(What::Frame(command, None)),
-            Said::Item(command, place) => about(What::Frame(command, Some(place))),
-            Said::Copied(block, place) => about(What::Block(Block(block), place)),
-            Said::Decided(decision) => about(What::Decided(decision)),
-            Said::More(what, completed, barrier, synced) => Reply::Ok(Done {
+            Outcome::Done => about(What::Nothing),
+            Outcome::Accepted(number) => about(What::Write(number)),
+            Outcome::Went(command) => about(What::Frame(command, None)),
+            Outcome::Item(command, place) => about(What::Frame(command, Some(place))),
+            Outcome::Copied(block, place) => about(What::Block(Block(block), place)),
+            Outcome::Decided(decision) => about(What::Decided(decision)),
+            Outcome::More(what, completed, barrier, synced) => Reply::Ok(Done {
                 what,
                 completed,
                 barrier,
                 synced,
             }),
-            Said::Closed(completed) => Reply::Closed(completed),
-            Said::Refused(refusal) => Reply::Refused(refusal),
+            Outcome::Closed(completed) => Reply::Closed(completed),
+            Outcome::Refused(refusal) => Reply::Refused(refusal),
         }
     }
 }

@@ -124,12 +124,12 @@ fn part_events(alloc: Global, lines: &'static [Line]) -> Result<Events, AllocErr
 fn answers(
     rt: &(impl Abort + AllocGlobal),
     pair: Pair,
-    (given, said): Line,
+    (given, outcome): Line,
     event: &[Event; 1],
     refusals: &mut Refusals,
 ) -> Pair {
     let (pair, reply) = done(rt, pair, given, event, refusals);
-    assert_eq!(rt; reply, Some(said.reply()), "{given:?}");
+    assert_eq!(rt; reply, Some(outcome.reply()), "{given:?}");
     pair
 }
 

@@ -1,23 +1,23 @@
 //! Worked examples of resyncs: two blocks are written while no connection is established, and the next connection
 //! copies them.
-use crate::pairs::events::{Given, Said};
+use crate::pairs::events::{Given, Outcome};
 use crate::pairs::rows::{BLOCKS, CONNECTED, Held, Part, hello};
 use blocks::{Command, Decision, Refusal, What};
 
 /// The connection is lost, and two blocks are written without one.
 const PARTED: Part = Part {
     lines: &[
-        (Given::ClosePrimary, Said::Closed(0)),
-        (Given::CloseSecondary, Said::Done),
-        (Given::Submit(3, 1, 0xAA), Said::Accepted(1)),
-        (Given::Submit(6, 1, 0xBB), Said::Accepted(2)),
+        (Given::ClosePrimary, Outcome::Closed(0)),
+        (Given::CloseSecondary, Outcome::Done),
+        (Given::Submit(3, 1, 0xAA), Outcome::Accepted(1)),
+        (Given::Submit(6, 1, 0xBB), Outcome::Accepted(2)),
         (
             Given::Local(1),
-            Said::More(What::Nothing, Some(1), None, false),
+            Outcome::More(What::Nothing, Some(1), None, false),
         ),
         (
             Given::Local(2),
-            Said::More(What::Nothing, Some(2), None, false),
+            Outcome::More(What::Nothing, Some(2), None, false),
         ),
     ],
     after: Held {
@@ -44,8 +44,8 @@ const RESYNCING: Part = Part {
 /// The secondary receives the word that makes it the target.
 const TARGET_TOLD: Part = Part {
     lines: &[
-        (Given::Send, Said::Item(Command::SyncUuid, 0)),
-        (Given::Receive, Said::Item(Command::SyncUuid, 0)),
+        (Given::Send, Outcome::Item(Command::SyncUuid, 0)),
+        (Given::Receive, Outcome::Item(Command::SyncUuid, 0)),
     ],
     after: Held {
         own: [7, 9, 1, 0],
@@ -59,14 +59,14 @@ const TARGET_TOLD: Part = Part {
 /// The first block is copied.
 const COPIED: Part = Part {
     lines: &[
-        (Given::Resync, Said::Copied(3, 1)),
-        (Given::Send, Said::Item(Command::RsDataReply, 1)),
-        (Given::Receive, Said::Item(Command::RsDataReply, 1)),
-        (Given::Peer(1), Said::Done),
-        (Given::AckOut, Said::Went(Command::RsWriteAck)),
+        (Given::Resync, Outcome::Copied(3, 1)),
+        (Given::Send, Outcome::Item(Command::RsDataReply, 1)),
+        (Given::Receive, Outcome::Item(Command::RsDataReply, 1)),
+        (Given::Peer(1), Outcome::Done),
+        (Given::AckOut, Outcome::Went(Command::RsWriteAck)),
         (
             Given::AckIn,
-            Said::More(What::Frame(Command::RsWriteAck, None), None, Some(1), false),
+            Outcome::More(What::Frame(Command::RsWriteAck, None), None, Some(1), false),
         ),
     ],
     after: Held {
@@ -81,18 +81,18 @@ const COPIED: Part = Part {
 /// The second block is copied, which ends the resync at the primary.
 const SYNCED: Part = Part {
     lines: &[
-        (Given::Resync, Said::Copied(6, 3)),
-        (Given::Send, Said::Item(Command::Barrier, 2)),
-        (Given::Send, Said::Item(Command::RsDataReply, 3)),
-        (Given::Receive, Said::Item(Command::Barrier, 2)),
-        (Given::Receive, Said::Item(Command::RsDataReply, 3)),
-        (Given::Peer(3), Said::Done),
-        (Given::AckOut, Said::Went(Command::BarrierAck)),
-        (Given::AckOut, Said::Went(Command::RsWriteAck)),
-        (Given::AckIn, Said::Went(Command::BarrierAck)),
+        (Given::Resync, Outcome::Copied(6, 3)),
+        (Given::Send, Outcome::Item(Command::Barrier, 2)),
+        (Given::Send, Outcome::Item(Command::RsDataReply, 3)),
+        (Given::Receive, Outcome::Item(Command::Barrier, 2)),
+        (Given::Receive, Outcome::Item(Command::RsDataReply, 3)),
+        (Given::Peer(3), Outcome::Done),
+        (Given::AckOut, Outcome::Went(Command::BarrierAck)),
+        (Given::AckOut, Outcome::Went(Command::RsWriteAck)),
+        (Given::AckIn, Outcome::Went(Command::BarrierAck)),
         (
             Given::AckIn,
-            Said::More(What::Frame(Command::RsWriteAck, None), None, Some(2), true),
+            Outcome::More(What::Frame(Command::RsWriteAck, None), None, Some(2), true),
         ),
     ],
     after: Held {
@@ -114,10 +114,10 @@ pub(crate) static RESYNC: [Part; 7] = [
     SYNCED,
     Part {
         lines: &[
-            (Given::Send, Said::Item(Command::Barrier, 4)),
-            (Given::Send, Said::Item(Command::Uuids, 5)),
-            (Given::Receive, Said::Item(Command::Barrier, 4)),
-            (Given::Receive, Said::Item(Command::Uuids, 5)),
+            (Given::Send, Outcome::Item(Command::Barrier, 4)),
+            (Given::Send, Outcome::Item(Command::Uuids, 5)),
+            (Given::Receive, Outcome::Item(Command::Barrier, 4)),
+            (Given::Receive, Outcome::Item(Command::Uuids, 5)),
         ],
         after: Held {
             own: [7, 0, 9, 1],
@@ -139,8 +139,8 @@ pub(crate) static UNHEARD_END: [Part; 8] = [
     SYNCED,
     Part {
         lines: &[
-            (Given::ClosePrimary, Said::Closed(0)),
-            (Given::CloseSecondary, Said::Done),
+            (Given::ClosePrimary, Outcome::Closed(0)),
+            (Given::CloseSecondary, Outcome::Done),
         ],
         after: Held {
             own: [11, 7, 9, 1],
@@ -170,25 +170,25 @@ pub(crate) static BLOCK_UNDER_WAY: [Part; 4] = [
     RESYNCING,
     Part {
         lines: &[
-            (Given::Resync, Said::Copied(3, 1)),
+            (Given::Resync, Outcome::Copied(3, 1)),
             (
                 Given::Submit(2, 2, 0xCC),
-                Said::Refused(Refusal::Conflict(0)),
+                Outcome::Refused(Refusal::Conflict(0)),
             ),
-            (Given::Submit(6, 1, 0xDD), Said::Accepted(3)),
-            (Given::Send, Said::Item(Command::SyncUuid, 0)),
-            (Given::Send, Said::Item(Command::RsDataReply, 1)),
-            (Given::Send, Said::Item(Command::Data, 2)),
-            (Given::Receive, Said::Item(Command::SyncUuid, 0)),
-            (Given::Receive, Said::Item(Command::RsDataReply, 1)),
-            (Given::Receive, Said::Item(Command::Data, 2)),
-            (Given::Peer(1), Said::Done),
-            (Given::AckOut, Said::Went(Command::RsWriteAck)),
+            (Given::Submit(6, 1, 0xDD), Outcome::Accepted(3)),
+            (Given::Send, Outcome::Item(Command::SyncUuid, 0)),
+            (Given::Send, Outcome::Item(Command::RsDataReply, 1)),
+            (Given::Send, Outcome::Item(Command::Data, 2)),
+            (Given::Receive, Outcome::Item(Command::SyncUuid, 0)),
+            (Given::Receive, Outcome::Item(Command::RsDataReply, 1)),
+            (Given::Receive, Outcome::Item(Command::Data, 2)),
+            (Given::Peer(1), Outcome::Done),
+            (Given::AckOut, Outcome::Went(Command::RsWriteAck)),
             (
                 Given::AckIn,
-                Said::More(What::Frame(Command::RsWriteAck, None), None, Some(1), false),
+                Outcome::More(What::Frame(Command::RsWriteAck, None), None, Some(1), false),
             ),
-            (Given::Resync, Said::Refused(Refusal::NothingToDo)),
+            (Given::Resync, Outcome::Refused(Refusal::NothingToDo)),
         ],
         after: Held {
             own: [7, 9, 1, 0],
@@ -207,8 +207,8 @@ pub(crate) static BLOCK_PASSED_OVER: [Part; 4] = [
     RESYNCING,
     Part {
         lines: &[
-            (Given::Submit(3, 1, 0xCC), Said::Accepted(3)),
-            (Given::Resync, Said::Copied(6, 2)),
+            (Given::Submit(3, 1, 0xCC), Outcome::Accepted(3)),
+            (Given::Resync, Outcome::Copied(6, 2)),
         ],
         after: Held {
             own: [7, 9, 1, 0],

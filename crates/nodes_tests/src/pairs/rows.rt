@@ -1,6 +1,6 @@
 //! Worked examples of writes: the events of a pair, the reply to each, and what the pair holds in between. All
 //! begin with two zero-filled disks of eight blocks, both with the tuple 1,0,0,0, and run under protocol C.
-use crate::pairs::events::{Given, Line, Said};
+use crate::pairs::events::{Given, Line, Outcome};
 use blocks::{Command, Decision, Refusal, What};
 
 /// How many blocks each disk has.
@@ -30,19 +30,19 @@ pub(crate) struct Held {
 macro_rules! hello {
     ($sync:literal, $loss:literal, $decision:expr) => {
         [
-            (Given::Open($sync, $loss), Said::Done),
-            (Given::Send, Said::Went(Command::Protocol)),
-            (Given::Receive, Said::Went(Command::Protocol)),
-            (Given::AckOut, Said::Went(Command::Protocol)),
-            (Given::AckIn, Said::Went(Command::Protocol)),
-            (Given::Send, Said::Went(Command::Sizes)),
-            (Given::Receive, Said::Went(Command::Sizes)),
-            (Given::AckOut, Said::Went(Command::Sizes)),
-            (Given::AckIn, Said::Went(Command::Sizes)),
-            (Given::Send, Said::Went(Command::Uuids)),
-            (Given::Receive, Said::Went(Command::Uuids)),
-            (Given::AckOut, Said::Went(Command::Uuids)),
-            (Given::AckIn, Said::Decided($decision)),
+            (Given::Open($sync, $loss), Outcome::Done),
+            (Given::Send, Outcome::Went(Command::Protocol)),
+            (Given::Receive, Outcome::Went(Command::Protocol)),
+            (Given::AckOut, Outcome::Went(Command::Protocol)),
+            (Given::AckIn, Outcome::Went(Command::Protocol)),
+            (Given::Send, Outcome::Went(Command::Sizes)),
+            (Given::Receive, Outcome::Went(Command::Sizes)),
+            (Given::AckOut, Outcome::Went(Command::Sizes)),
+            (Given::AckIn, Outcome::Went(Command::Sizes)),
+            (Given::Send, Outcome::Went(Command::Uuids)),
+            (Given::Receive, Outcome::Went(Command::Uuids)),
+            (Given::AckOut, Outcome::Went(Command::Uuids)),
+            (Given::AckIn, Outcome::Decided($decision)),
         ]
     };
 }
@@ -66,22 +66,22 @@ pub(crate) static WRITE: [Part; 2] = [
     CONNECTED,
     Part {
         lines: &[
-            (Given::Submit(2, 1, 0xAA), Said::Accepted(1)),
-            (Given::Local(1), Said::Done),
-            (Given::Send, Said::Item(Command::Data, 0)),
-            (Given::Receive, Said::Item(Command::Data, 0)),
-            (Given::Peer(0), Said::Done),
-            (Given::AckOut, Said::Went(Command::WriteAck)),
+            (Given::Submit(2, 1, 0xAA), Outcome::Accepted(1)),
+            (Given::Local(1), Outcome::Done),
+            (Given::Send, Outcome::Item(Command::Data, 0)),
+            (Given::Receive, Outcome::Item(Command::Data, 0)),
+            (Given::Peer(0), Outcome::Done),
+            (Given::AckOut, Outcome::Went(Command::WriteAck)),
             (
                 Given::AckIn,
-                Said::More(
+                Outcome::More(
                     What::Frame(Command::WriteAck, None),
                     Some(1),
                     Some(1),
                     false,
                 ),
             ),
-            (Given::Send, Said::Item(Command::Barrier, 1)),
+            (Given::Send, Outcome::Item(Command::Barrier, 1)),
         ],
         after: Held {
             own: [1, 0, 0, 0],
@@ -99,19 +99,19 @@ pub(crate) static EPOCHS: [Part; 3] = [
     CONNECTED,
     Part {
         lines: &[
-            (Given::Submit(0, 1, 0x01), Said::Accepted(1)),
-            (Given::Submit(1, 1, 0x02), Said::Accepted(2)),
-            (Given::Local(1), Said::Done),
-            (Given::Local(2), Said::Done),
-            (Given::Send, Said::Item(Command::Data, 0)),
-            (Given::Send, Said::Item(Command::Data, 1)),
-            (Given::Receive, Said::Item(Command::Data, 0)),
-            (Given::Receive, Said::Item(Command::Data, 1)),
-            (Given::Peer(1), Said::Done),
-            (Given::AckOut, Said::Went(Command::WriteAck)),
+            (Given::Submit(0, 1, 0x01), Outcome::Accepted(1)),
+            (Given::Submit(1, 1, 0x02), Outcome::Accepted(2)),
+            (Given::Local(1), Outcome::Done),
+            (Given::Local(2), Outcome::Done),
+            (Given::Send, Outcome::Item(Command::Data, 0)),
+            (Given::Send, Outcome::Item(Command::Data, 1)),
+            (Given::Receive, Outcome::Item(Command::Data, 0)),
+            (Given::Receive, Outcome::Item(Command::Data, 1)),
+            (Given::Peer(1), Outcome::Done),
+            (Given::AckOut, Outcome::Went(Command::WriteAck)),
             (
                 Given::AckIn,
-                Said::More(
+                Outcome::More(
                     What::Frame(Command::WriteAck, None),
                     Some(2),
                     Some(1),
@@ -129,27 +129,27 @@ pub(crate) static EPOCHS: [Part; 3] = [
     },
     Part {
         lines: &[
-            (Given::Submit(2, 1, 0x03), Said::Accepted(3)),
-            (Given::Send, Said::Item(Command::Barrier, 2)),
-            (Given::Send, Said::Item(Command::Data, 3)),
-            (Given::Receive, Said::Item(Command::Barrier, 2)),
-            (Given::Receive, Said::Item(Command::Data, 3)),
-            (Given::Peer(3), Said::Refused(Refusal::EpochOpen)),
-            (Given::Peer(0), Said::Done),
-            (Given::Peer(3), Said::Done),
-            (Given::Peer(3), Said::Refused(Refusal::UnknownJob)),
-            (Given::AckOut, Said::Went(Command::WriteAck)),
+            (Given::Submit(2, 1, 0x03), Outcome::Accepted(3)),
+            (Given::Send, Outcome::Item(Command::Barrier, 2)),
+            (Given::Send, Outcome::Item(Command::Data, 3)),
+            (Given::Receive, Outcome::Item(Command::Barrier, 2)),
+            (Given::Receive, Outcome::Item(Command::Data, 3)),
+            (Given::Peer(3), Outcome::Refused(Refusal::EpochOpen)),
+            (Given::Peer(0), Outcome::Done),
+            (Given::Peer(3), Outcome::Done),
+            (Given::Peer(3), Outcome::Refused(Refusal::UnknownJob)),
+            (Given::AckOut, Outcome::Went(Command::WriteAck)),
             (
                 Given::AckIn,
-                Said::More(What::Frame(Command::WriteAck, None), Some(1), None, false),
+                Outcome::More(What::Frame(Command::WriteAck, None), Some(1), None, false),
             ),
-            (Given::AckOut, Said::Went(Command::BarrierAck)),
-            (Given::AckIn, Said::Went(Command::BarrierAck)),
-            (Given::AckOut, Said::Went(Command::WriteAck)),
-            (Given::AckIn, Said::Went(Command::WriteAck)),
+            (Given::AckOut, Outcome::Went(Command::BarrierAck)),
+            (Given::AckIn, Outcome::Went(Command::BarrierAck)),
+            (Given::AckOut, Outcome::Went(Command::WriteAck)),
+            (Given::AckIn, Outcome::Went(Command::WriteAck)),
             (
                 Given::Local(3),
-                Said::More(What::Nothing, Some(3), Some(2), false),
+                Outcome::More(What::Nothing, Some(3), Some(2), false),
             ),
         ],
         after: Held {
@@ -167,18 +167,18 @@ pub(crate) static LOCAL_FAULT: [Part; 3] = [
     CONNECTED,
     Part {
         lines: &[
-            (Given::Submit(2, 2, 0xAA), Said::Accepted(1)),
+            (Given::Submit(2, 2, 0xAA), Outcome::Accepted(1)),
             (
                 Given::LocalFault(1, 1),
-                Said::More(What::Nothing, None, Some(1), false),
+                Outcome::More(What::Nothing, None, Some(1), false),
             ),
         ],
         after: TORN,
     },
     Part {
         lines: &[
-            (Given::Submit(3, 1, 0xBB), Said::Accepted(2)),
-            (Given::Local(1), Said::Refused(Refusal::UnknownJob)),
+            (Given::Submit(3, 1, 0xBB), Outcome::Accepted(2)),
+            (Given::Local(1), Outcome::Refused(Refusal::UnknownJob)),
         ],
         after: TORN,
     },

@@ -35,10 +35,10 @@ fn an_output_that_fails_stops_a_script(rt: HostRuntime) {
     let alloc = rt.alloc();
     let mut room = [0u8; 8];
     let mut written = room.as_mut_slice();
-    let mut said = Vec::new(alloc);
+    let mut errors = Vec::new(alloc);
     let mut input = b"pair\nmarks\nsent\n".as_slice();
-    let status = script_on(alloc, &mut input, &mut written, &mut said);
+    let status = script_on(alloc, &mut input, &mut written, &mut errors);
     assert_eq!(rt; status, 1);
     assert_eq!(rt; room.as_slice(), b"pair ok\n".as_slice());
-    is_one_line(&rt, &said);
+    is_one_line(&rt, &errors);
 }

@@ -38,9 +38,9 @@ fn is_printed(rt: &(impl Abort + AllocGlobal), script: &str, wanted: u8, calls: 
         bytes: Vec::new(alloc),
         calls: 0,
     };
-    let mut said = Vec::new(alloc);
+    let mut errors = Vec::new(alloc);
     let mut input = script.as_bytes();
-    let status = script_on(alloc, &mut input, &mut out, &mut said);
+    let status = script_on(alloc, &mut input, &mut out, &mut errors);
     let lines = out.bytes.iter().filter(|byte| **byte == b'\n').count();
     assert_eq!(rt; (status, lines, out.calls), (wanted, 301, calls));
     assert!(rt; out.bytes.ends_with(b"send refused 12\n"));

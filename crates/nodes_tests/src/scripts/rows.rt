@@ -13,28 +13,28 @@ pub(crate) fn prints(
 ) {
     let alloc = rt.alloc();
     let mut written = Vec::new(alloc);
-    let mut said = Vec::new(alloc);
+    let mut errors = Vec::new(alloc);
     let mut input = script.as_bytes();
-    let answer = script_on(alloc, &mut input, &mut written, &mut said);
-    assert_eq!(rt; (text(&written), text(&said), answer), (out, err, status));
+    let answer = script_on(alloc, &mut input, &mut written, &mut errors);
+    assert_eq!(rt; (text(&written), text(&errors), answer), (out, err, status));
 }
 
 /// Checks that standard error has one line.
-pub(crate) fn is_one_line(rt: &impl Abort, said: &[u8]) {
-    let ends = said.iter().filter(|byte| **byte == b'\n').count();
+pub(crate) fn is_one_line(rt: &impl Abort, errors: &[u8]) {
+    let ends = errors.iter().filter(|byte| **byte == b'\n').count();
     assert_eq!(rt; ends, 1);
-    assert_eq!(rt; said.last(), Some(&b'\n'));
+    assert_eq!(rt; errors.last(), Some(&b'\n'));
 }
 
 /// Checks that the input is no script: nothing is printed, and one line on standard error says so.
 pub(crate) fn is_no_script(rt: &(impl Abort + AllocGlobal), input: &mut impl Read) {
     let alloc = rt.alloc();
     let mut written = Vec::new(alloc);
-    let mut said = Vec::new(alloc);
-    let status = script_on(alloc, input, &mut written, &mut said);
+    let mut errors = Vec::new(alloc);
+    let status = script_on(alloc, input, &mut written, &mut errors);
     assert_eq!(rt; status, 1);
     assert!(rt; written.is_empty());
-    is_one_line(rt, &said);
+    is_one_line(rt, &errors);
 }
 
 /// Returns the text that was written, so that a failed comparison shows lines.

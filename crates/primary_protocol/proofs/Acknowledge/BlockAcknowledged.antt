@@ -52,7 +52,7 @@ use Rattle.primary_protocol.proofs.Common.EndChanges.{IsUnseen, turned, journal-
 use Rattle.laws.proofs.Rules.Releases.{released-same}
 use Rattle.primary_protocol.proofs.Acknowledge.WriteAnswered.{frames-more}
 use Rattle.laws.proofs.Rules.Answered.{answered-other}
-use Rattle.laws.proofs.Primary.Seen.{alone-seen, sent-seen, answered-seen, confirmed-seen}
+use Rattle.laws.proofs.Primary.WriteConnections.{alone-seen, sent-seen, answered-seen, confirmed-seen}
 
 -- the mark of a block goes
 pub set-marks : (blocks : ℕ) (marks : ℕ → Bool) (block : ℕ) → set (marks_in blocks marks) block false ≡ marks_in blocks (clearing block marks)

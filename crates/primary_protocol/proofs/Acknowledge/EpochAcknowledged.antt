@@ -52,7 +52,7 @@ use Rattle.primary_protocol.proofs.Acknowledge.BarrierTurns.{turn-back, epochs, 
 use Rattle.laws.proofs.Rules.Releases.{is_freed, freed-cases, freed-confirmed, freed-alone, released-parts, released-by, released-with}
 use Rattle.primary_protocol.proofs.Acknowledge.WriteAnswered.{frames-more}
 use Rattle.laws.proofs.Rules.Answered.{answered-other}
-use Rattle.laws.proofs.Primary.Seen.{alone-seen, sent-seen, answered-seen}
+use Rattle.laws.proofs.Primary.WriteConnections.{alone-seen, sent-seen, answered-seen}
 
 module _ (settings : Settings) (bound : TakesWrites settings) (s : PrimaryState) (h : PrimaryHistory) (e : EndState) (left : Leaves s h)
     (ordered : Ordered settings h) (is : s.end ≡ Some e) (end : LeavesEnd e (primary_connection h)) (begun : (primary_connection h).begun ≡ true)
@@ -195,12 +195,12 @@ module _ (settings : Settings) (bound : TakesWrites settings) (s : PrimaryState)
         (λ linked. confirmed-number i a at (sym (alone-same a) ∙ linked));
     stays = λ i a at so.
         let parts = released-parts h a so in
-        released-by later a parts.done (stays-told i a at parts.freed);
+        released-by later a parts.done (stays-sure i a at parts.freed);
     failed = λ i a at so. so;
   }
     where
-      stays-told : (i : ℕ) (a : Accepted) → slice_get h.writes i ≡ Some a → is_freed h a ≡ true → is_freed later a ≡ true
-      stays-told i a at told = elim (freed-cases h a told) [
+      stays-sure : (i : ℕ) (a : Accepted) → slice_get h.writes i ≡ Some a → is_freed h a ≡ true → is_freed later a ≡ true
+      stays-sure i a at returned = elim (freed-cases h a returned) [
         | inl confirmed ↦ freed-confirmed later a (confirmed-stays i a at confirmed)
         | inr alone ↦ freed-alone later a (alone-same a ∙ alone)
       ]
@@ -315,7 +315,8 @@ module _ (settings : Settings) (bound : TakesWrites settings) (s : PrimaryState)
     resync = ap (λ (x : EpochsState). x.resync) rest-is ∙ e0.resync;
     upto = λ k place write few at.
         let sum = sum-split k in
-        let same : s.log.acknowledged_through + size + total (take k (drop 1 s.log.epochs.sizes)) ≡ s.log.acknowledged_through + total (take (suc k) s.log.epochs.sizes) =
+        let same : s.log.acknowledged_through + size + total (take k (drop 1 s.log.epochs.sizes)) ≡ s.log.acknowledged_through + total
+        (take (suc k) s.log.epochs.sizes) =
         omega arith in
         let count : e0.acked + suc k ≡ suc e0.acked + k = omega arith in
         let many : length s.log.epochs.sizes ≡ suc (length (drop 1 s.log.epochs.sizes)) = ap length sizes-split.0 in
@@ -326,7 +327,8 @@ module _ (settings : Settings) (bound : TakesWrites settings) (s : PrimaryState)
         ∙ (let all : total s.log.epochs.sizes ≡ size + total (drop 1 s.log.epochs.sizes) = ap total sizes-split.0 in let n = e0.newest in omega arith);
     first = λ some. ap (λ (x : EpochsState). x.first) rest-is ∙ (e0.first (subst (λ (x : EpochsState). 0 < x.size) rest-is some)
         ∙ ((let all : total s.log.epochs.sizes ≡ size + total (drop 1 s.log.epochs.sizes) = ap total sizes-split.0 in let is : suc
-        (s.log.acknowledged_through + total s.log.epochs.sizes) ≡ suc (s.log.acknowledged_through + size + total (drop 1 s.log.epochs.sizes)) = omega arith in is)
+        (s.log.acknowledged_through + total s.log.epochs.sizes) ≡ suc (s.log.acknowledged_through + size + total (drop 1 s.log.epochs.sizes)) =
+        omega arith in is)
         ∙ sym (λ i. suc (s.log.acknowledged_through + size + total (rest-is i).sizes))));
     answered = answered-then;
   }
@@ -380,7 +382,8 @@ module _ (settings : Settings) (bound : TakesWrites settings) (s : PrimaryState)
     held = held-left;
     marks =
         ap (unmarking l1.released l1.last_writes) left.rest.marks
-        ∙ unmarking-is settings h taken l1.released l1.last_writes ordered after.1.1.0.0 after.1.0 (confirmed-releases settings h number size end.is_open ordered)
+        ∙ unmarking-is settings h taken l1.released l1.last_writes ordered after.1.1.0.0 after.1.0
+        (confirmed-releases settings h number size end.is_open ordered)
         (reports-of h taken (λ a. a) l1.released released-left (sym (map-id h.writes)) (λ a. refl)) h.settings.blocks h.marks log-left.last_writes;
     activity = subst (λ rs. LeavesActivity (leaving rs s.activity) h.settings.slots (unreleased later))
         (ap (λ ws. map released_of (filter (writes.is_released upto) ws)) (map-none s.log.writes))

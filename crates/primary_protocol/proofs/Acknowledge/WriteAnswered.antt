@@ -41,7 +41,7 @@ use Rattle.primary_protocol.proofs.Common.Marks.{unmarking-none}
 use Rattle.primary_protocol.proofs.Common.WriteStates.{completes-seen, disk-seen}
 use Rattle.primary_protocol.proofs.LocalDisk.Writes.{one}
 use Rattle.laws.proofs.Rules.Releases.{released-same}
-use Rattle.laws.proofs.Primary.Seen.{alone-seen, sent-seen, confirmed-seen}
+use Rattle.laws.proofs.Primary.WriteConnections.{alone-seen, sent-seen, confirmed-seen}
 
 -- A frame that is accepted is the last of those that count.
 pub frames-more : (c : PrimaryConnection) (frame : Received) → c.refused ≡ false → accepted_frames (with_frame frame c) ≡ accepted_frames c ++ frame ∷ []

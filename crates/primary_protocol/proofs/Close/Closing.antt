@@ -46,7 +46,7 @@ use Rattle.primary_protocol.proofs.Common.WritesChange.{IsMoved, left-then, move
 use Rattle.primary_protocol.proofs.Common.WriteStates.{settled-seen}
 use Rattle.laws.proofs.Rules.Releases.{freed-alone, released-parts, released-by, released-with}
 use Rattle.laws.proofs.Rules.Answered as rule
-use Rattle.laws.proofs.Primary.Seen.{sent-seen, answered-seen}
+use Rattle.laws.proofs.Primary.WriteConnections.{sent-seen, answered-seen}
 
 -- What a close does: the last end is closed, and nothing that a write sees of it changes but that; unreleased writes are marked, and
 -- the tuple goes by `lost` where a stream had begun.

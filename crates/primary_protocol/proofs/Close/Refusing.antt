@@ -22,7 +22,7 @@ use Rattle.primary_protocol.proofs.Common.Filters.{filter-at}
 use Rattle.primary_protocol.proofs.Common.Reached.{primary-connection-of}
 use Rattle.laws.proofs.Rules.RefusedFrames.{refusing_frame, refused_out, refused_by, refusing-last, refused-last}
 use Rattle.laws.proofs.Rules.Releases.{released-same}
-use Rattle.laws.proofs.Primary.Seen.{alone-seen, confirmed-seen}
+use Rattle.laws.proofs.Primary.WriteConnections.{alone-seen, confirmed-seen}
 
 module _ (settings : Settings) (bound : TakesWrites settings) (s : PrimaryState) (h : PrimaryHistory) (e : EndState) (left : Leaves s h)
     (ordered : Ordered settings h) (is : s.end ≡ Some e) (end : LeavesEnd e (primary_connection h)) (frame : Received) (peer : Option Tuple) where

@@ -14,7 +14,7 @@ use Rattle.laws.proofs.Streams.Places.{epoch-grows}
 use Rattle.primary_protocol.specs.Leaves.{is_sent, logged_of}
 use Rattle.laws.proofs.Rules.Releases.{released-same}
 use Rattle.laws.proofs.Rules.Answered as rule
-use Rattle.laws.proofs.Primary.Seen.{alone-seen, sent-seen, answered-seen}
+use Rattle.laws.proofs.Primary.WriteConnections.{alone-seen, sent-seen, answered-seen}
 
 -- What the log sees of a connection is the same: whether it is closed, what was pushed, and the frames.
 pub record SeesSame (c d : PrimaryConnection) : Type 0 where

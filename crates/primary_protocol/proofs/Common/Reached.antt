@@ -39,23 +39,25 @@ pub from-follow : (got : Done × PrimaryState) (answer : Reply × PrimaryHistory
 from-follow got answer f = record { reply = f.reply; leaves = f.leaves }
 
 -- With the same tests they agree, where they agree when no test holds.
-pub tested-agrees : {R : Type 0} (tell : R → Reply) (s : PrimaryState) (h : PrimaryHistory) (tests same : List Test) (got : Unit {0}
+pub tested-agrees : {R : Type 0} (as_reply : R → Reply) (s : PrimaryState) (h : PrimaryHistory) (tests same : List Test) (got : Unit {0}
     → Result R Refusal × PrimaryState) (answer : Unit {0} → Reply × PrimaryHistory)
-    → tests ≡ same → Leaves s h → (first_refusal same ≡ None → Agrees tell (got tt) (answer tt)) → Agrees tell (tested s tests got) (step.tested h same answer)
-tested-agrees {R} tell s h tests same got answer e left done = subst (λ (ts : List Test). Agrees tell (tested s ts got) (step.tested h same answer)) (sym e)
+    → tests ≡ same → Leaves s h → (first_refusal same ≡ None → Agrees as_reply (got tt) (answer tt))
+    → Agrees as_reply (tested s tests got) (step.tested h same answer)
+tested-agrees {R} as_reply s h tests same got answer e left done = subst (λ (ts : List Test). Agrees as_reply (tested s ts got) (step.tested h same answer))
+    (sym e)
     (go (first_refusal same) refl)
   where
     go : (v : Option Refusal) → first_refusal same ≡ v
-        → Agrees tell (elim v as (λ _. Result R Refusal × PrimaryState) [ Some refusal ↦ (Err refusal, s) | None ↦ got tt ])
+        → Agrees as_reply (elim v as (λ _. Result R Refusal × PrimaryState) [ Some refusal ↦ (Err refusal, s) | None ↦ got tt ])
         (elim v as (λ _. Reply × PrimaryHistory) [ Some refusal ↦ (reply.Refused refusal, h) | None ↦ answer tt ])
     go (Some refusal) is = record { reply = refl; leaves = left }
     go None is = done is
 
 -- a refusal that is sure
-pub refused-agrees : {R : Type 0} (tell : R → Reply) (s : PrimaryState) (h : PrimaryHistory) (refusal : Refusal) (got : Result R Refusal × PrimaryState)
-    (answer : Reply × PrimaryHistory) → got ≡ (Err refusal, s) → answer ≡ (reply.Refused refusal, h) → Leaves s h → Agrees tell got answer
-refused-agrees tell s h refusal got answer is so left = subst (λ x. Agrees tell x answer) (sym is)
-    (subst (Agrees tell (Err refusal, s)) (sym so) (record { reply = refl; leaves = left }))
+pub refused-agrees : {R : Type 0} (as_reply : R → Reply) (s : PrimaryState) (h : PrimaryHistory) (refusal : Refusal) (got : Result R Refusal × PrimaryState)
+    (answer : Reply × PrimaryHistory) → got ≡ (Err refusal, s) → answer ≡ (reply.Refused refusal, h) → Leaves s h → Agrees as_reply got answer
+refused-agrees as_reply s h refusal got answer is so left = subst (λ x. Agrees as_reply x answer) (sym is)
+    (subst (Agrees as_reply (Err refusal, s)) (sym so) (record { reply = refl; leaves = left }))
 
 -- The end.
 

@@ -61,7 +61,8 @@ not-alone h homes last i a at linked = go a.home refl
 module _ (h : PrimaryHistory) (l : LogState) (homes : HasHomes h) (last : IsLastOpen h) (protocol : l.protocol ≡ h.settings.protocol)
     (stream : is_established (primary_connection h) ≡ true → LeavesEpochs l (primary_connection h)) where
   -- its epoch is acknowledged where its number is confirmed
-  pub confirmed-number : (i : ℕ) (a : Accepted) → slice_get h.writes i ≡ Some a → is_alone h a ≡ false → is_confirmed h a ≡ nat_le a.write.number l.acknowledged_through
+  pub confirmed-number : (i : ℕ) (a : Accepted) → slice_get h.writes i ≡ Some a → is_alone h a ≡ false
+      → is_confirmed h a ≡ nat_le a.write.number l.acknowledged_through
   confirmed-number i a at linked =
       let here = not-alone h homes last i a at linked in
       let e = stream here.standing in
@@ -96,8 +97,8 @@ module _ (h : PrimaryHistory) (l : LogState) (homes : HasHomes h) (last : IsLast
       parts : IsReleased h a
       parts = released-parts h a released
 
-      told : (is_answered h a || is_alone h a) ≡ true
-      told = elim (cases_Bool (is_alone h a)) [
+      returned : (is_answered h a || is_alone h a) ≡ true
+      returned = elim (cases_Bool (is_alone h a)) [
         | inl alone ↦ ap (λ b. is_answered h a || b) alone ∙ or-true (is_answered h a)
         | inr linked ↦
             ap (λ b. b || is_alone h a) (confirmed-answered i a at linked (freed-linked h a parts.freed linked))
@@ -105,5 +106,5 @@ module _ (h : PrimaryHistory) (l : LogState) (homes : HasHomes h) (last : IsLast
 
       by-outcome : (o : LocalOutcome) → a.outcome ≡ o → (not (completes h a) && not (is_failed a.outcome)) ≡ false
       by-outcome Waiting is = absurd (both_ways (is_waiting a.outcome) parts.done (ap is_waiting is))
-      by-outcome OnDisk is = λ j. not (is_on_disk (is j) && told j) && not (is_failed (is j))
+      by-outcome OnDisk is = λ j. not (is_on_disk (is j) && returned j) && not (is_failed (is j))
       by-outcome (Failed offsets) is = ap (λ (o : LocalOutcome). not (completes h a) && not (is_failed o)) is ∙ and-false (not (completes h a))

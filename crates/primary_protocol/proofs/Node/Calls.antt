@@ -73,10 +73,10 @@ abbrev pub IsPlain : PrimaryEvent → Type 0
 IsPlain event = (h : PrimaryHistory) → Keeps h (unchanged h) (primary_step event h).1
 
 -- the call is the step, where its transition is
-pub node-plain : {R : Type 0} (event : PrimaryEvent) (n : NodeState) (tell : R → Reply) (result : Result R Refusal) (core : PrimaryState) → IsPlain event
-    → ((h : PrimaryHistory) → IsReached h → Leaves n.core h → Agrees tell (result, core) (primary_step event h))
-    → NodeSteps event n (replied tell result) (record n { core = core })
-node-plain event n tell result core plain agrees = node-steps event n (replied tell result) (record n { core = core }) (λ h has.
+pub node-plain : {R : Type 0} (event : PrimaryEvent) (n : NodeState) (as_reply : R → Reply) (result : Result R Refusal) (core : PrimaryState) → IsPlain event
+    → ((h : PrimaryHistory) → IsReached h → Leaves n.core h → Agrees as_reply (result, core) (primary_step event h))
+    → NodeSteps event n (replied as_reply result) (record n { core = core })
+node-plain event n as_reply result core plain agrees = node-steps event n (replied as_reply result) (record n { core = core }) (λ h has.
     let same = agrees h has.reached has.leaves.core in
     record {
       reply = same.reply;
@@ -114,7 +114,7 @@ node-submits n first bytes out_of_memory result core is = node-plain (Submits fi
 pub submit-number : (n : NodeState) (first : ℕ) (contents : List (List ℕ)) (out_of_memory : Bool) (done : Done) (core : PrimaryState) → NodeIsHad n
     → NodeSteps (Submits first contents out_of_memory) n (reply.Ok done) (record n { core = core })
     → done.what ≡ what.Write core.log.accepted
-submit-number n first contents out_of_memory done core had steps = ap told to
+submit-number n first contents out_of_memory done core had steps = ap returned to
     ∙ ap what.Write (sym ((steps.after h had.has).leaves.core.rest.log.accepted
     ∙ (ap (λ (p : Reply × PrimaryHistory). length p.1.writes) (submits-to first contents out_of_memory h done said) ∙ count)))
   where
@@ -127,9 +127,9 @@ submit-number n first contents out_of_memory done core had steps = ap told to
     to : reply.Ok done ≡ (step.succeeding (what.Write (suc (length h.writes))) (step.submitted h first contents)).0
     to = said ∙ ap (λ (p : Reply × PrimaryHistory). p.0) (submits-to first contents out_of_memory h done said)
 
-    told : Reply → What
-    told (reply.Ok d) = d.what
-    told r = what.Nothing
+    returned : Reply → What
+    returned (reply.Ok d) = d.what
+    returned r = what.Nothing
 
     grown : (h : PrimaryHistory) (a : Accepted) → length (h.writes ++ a ∷ []) ≡ suc (length h.writes)
     grown h a = length-append h.writes (a ∷ []) ∙ omega arith

@@ -26,30 +26,30 @@ use Rattle.laws.proofs.Rules.Memory.{ack-in-takes}
 use Rattle.laws.proofs.Rules.RefusedFrames.{frame-has}
 
 -- it says something else
-abbrev Told : model.Taken → Type 0
-Told (Ok done) = Unit {0}
-Told (Err error) = error.0 ≡ NothingThere → ⊥
+abbrev HasFrame : model.Taken → Type 0
+HasFrame (Ok done) = Unit {0}
+HasFrame (Err error) = error.0 ≡ NothingThere → ⊥
 
-told-if : (good : Bool) (name : What) (refusal : Refusal) (done taken : PrimaryHistory) → (refusal ≡ NothingThere → ⊥)
-    → Told (cond good (Ok (name, done)) (Err (refusal, taken)))
-told-if true name refusal done taken other = tt
-told-if false name refusal done taken other = other
+has-if : (good : Bool) (name : What) (refusal : Refusal) (done taken : PrimaryHistory) → (refusal ≡ NothingThere → ⊥)
+    → HasFrame (cond good (Ok (name, done)) (Err (refusal, taken)))
+has-if true name refusal done taken other = tt
+has-if false name refusal done taken other = other
 
-told-ack : (packet : Packet) (before h : PrimaryHistory) → Told (model.taking_ack packet before h)
-told-ack (RecvAckFrame ack) before h = told-if _ _ UnknownAck _ _ (λ same. absurd (cc))
-told-ack (WriteAckFrame ack) before h = told-if _ _ UnknownAck _ _ (λ same. absurd (cc))
-told-ack (RsWriteAckFrame ack) before h = told-if _ _ UnknownAck _ _ (λ same. absurd (cc))
-told-ack (BarrierAckFrame number size) before h = told-if _ _ BadBarrierAck _ _ (λ same. absurd (cc))
-told-ack packet before h = λ same. absurd (cc)
+has-ack : (packet : Packet) (before h : PrimaryHistory) → HasFrame (model.taking_ack packet before h)
+has-ack (RecvAckFrame ack) before h = has-if _ _ UnknownAck _ _ (λ same. absurd (cc))
+has-ack (WriteAckFrame ack) before h = has-if _ _ UnknownAck _ _ (λ same. absurd (cc))
+has-ack (RsWriteAckFrame ack) before h = has-if _ _ UnknownAck _ _ (λ same. absurd (cc))
+has-ack (BarrierAckFrame number size) before h = has-if _ _ BadBarrierAck _ _ (λ same. absurd (cc))
+has-ack packet before h = λ same. absurd (cc)
 
 -- a decision that is refused is by the generations
-told-decision : (own peer : Tuple) → decision own peer ≡ Err NothingThere → ⊥
-told-decision = decision-has (λ v. v ≡ Err NothingThere → ⊥) (λ decided same. cc) (λ same. cc) (λ same. cc) (λ same. cc)
+has-decision : (own peer : Tuple) → decision own peer ≡ Err NothingThere → ⊥
+has-decision = decision-has (λ v. v ≡ Err NothingThere → ⊥) (λ decided same. cc) (λ same. cc) (λ same. cc) (λ same. cc)
 
-told-meeting : (peer : Tuple) (h : PrimaryHistory) → Told (model.meeting peer h)
-told-meeting peer h = go (stands_in (primary_connection h).sync peer || stands_in (primary_connection h).loss peer) (decision h.tuple peer) refl
+has-meeting : (peer : Tuple) (h : PrimaryHistory) → HasFrame (model.meeting peer h)
+has-meeting peer h = go (stands_in (primary_connection h).sync peer || stands_in (primary_connection h).loss peer) (decision h.tuple peer) refl
   where
-    go : (used : Bool) (v : Result Decision Refusal) → decision h.tuple peer ≡ v → Told (elim used as (λ _. model.Taken) [
+    go : (used : Bool) (v : Result Decision Refusal) → decision h.tuple peer ≡ v → HasFrame (elim used as (λ _. model.Taken) [
       | true ↦ Err (UsedIdentifier, record h { peer = Some peer })
       | false ↦ elim v as (λ _. model.Taken) [
         | Err refusal ↦ Err (refusal, record h { peer = Some peer })
@@ -60,34 +60,34 @@ told-meeting peer h = go (stands_in (primary_connection h).sync peer || stands_i
       ]
     ])
     go true v is = λ same. absurd (cc)
-    go false (Err refusal) is = λ same. told-decision h.tuple peer (is ∙ ap Err same)
+    go false (Err refusal) is = λ same. has-decision h.tuple peer (is ∙ ap Err same)
     go false (Ok decided) is = tt
 
-told-hello : (n : ℕ) (packet : Packet) (h : PrimaryHistory) → Told (model.taking_hello n packet h)
-told-hello n packet h = subst Told (taking-is n packet h)
-    (hello-has Told (λ name. Ok (name, h)) (λ refusal. Err (refusal, h)) (λ peer. model.meeting peer h) h.settings n packet
-    (λ asked none of same. tt) (λ one of. tt) (λ m peer late of. told-meeting peer h) (λ same. absurd (cc)) (λ same. absurd (cc)) (λ same. absurd (cc)))
+has-hello : (n : ℕ) (packet : Packet) (h : PrimaryHistory) → HasFrame (model.taking_hello n packet h)
+has-hello n packet h = subst HasFrame (taking-is n packet h)
+    (hello-has HasFrame (λ name. Ok (name, h)) (λ refusal. Err (refusal, h)) (λ peer. model.meeting peer h) h.settings n packet
+    (λ asked none of same. tt) (λ one of. tt) (λ m peer late of. has-meeting peer h) (λ same. absurd (cc)) (λ same. absurd (cc)) (λ same. absurd (cc)))
 
-told-frame : (frame : Received) (before h : PrimaryHistory) → (frame ≡ Err NothingThere → ⊥) → Told (model.taking frame before h)
-told-frame (Err fault) before h other = λ same. other (ap Err same)
-told-frame (Ok packet) before h other = go (primary_connection before).begun
+has-frame : (frame : Received) (before h : PrimaryHistory) → (frame ≡ Err NothingThere → ⊥) → HasFrame (model.taking frame before h)
+has-frame (Err fault) before h other = λ same. other (ap Err same)
+has-frame (Ok packet) before h other = go (primary_connection before).begun
   where
-    go : (begun : Bool) → Told (elim begun as
+    go : (begun : Bool) → HasFrame (elim begun as
         (λ _. model.Taken) [ true ↦ model.taking_ack packet before h | false ↦ model.taking_hello (length (primary_connection before).taken) packet h ])
-    go true = told-ack packet before h
-    go false = told-hello (length (primary_connection before).taken) packet h
+    go true = has-ack packet before h
+    go false = has-hello (length (primary_connection before).taken) packet h
 
 -- the step does not say that there was none
-told-step : (frame : Received) (h : PrimaryHistory) → (frame ≡ Err NothingThere → ⊥) → reply.Refused NothingThere ≡ (model.take_frame frame h).0 → ⊥
-told-step frame h other = frame-has (λ r. reply.Refused NothingThere ≡ r.0
-    → ⊥) Told frame h (told-frame frame h (with_primary_connection (with_frame frame) h) other)
+has-step : (frame : Received) (h : PrimaryHistory) → (frame ≡ Err NothingThere → ⊥) → reply.Refused NothingThere ≡ (model.take_frame frame h).0 → ⊥
+has-step frame h other = frame-has (λ r. reply.Refused NothingThere ≡ r.0
+    → ⊥) HasFrame frame h (has-frame frame h (with_primary_connection (with_frame frame) h) other)
     (λ done fine is. cc) (λ error fine is. fine (let same : error.0 ≡ NothingThere = cc in same))
 
 -- A frame that is taken is not answered by that there is none.
-pub takes-told : (n : NodeState) (frame : Received) (result : Result Done Refusal) (core : PrimaryState) → is_some n.core.end ≡ true
+pub takes-frame : (n : NodeState) (frame : Received) (result : Result Done Refusal) (core : PrimaryState) → is_some n.core.end ≡ true
     → (result, core) ≡ take_at frame n.core → NodeIsHad n → (frame ≡ Err NothingThere → ⊥) → result ≡ Err NothingThere → ⊥
-takes-told n frame result core some is had other none =
+takes-frame n frame result core some is had other none =
     let h = had.history in
-    told-step frame h other (ap (replied reply.Ok) (sym none)
+    has-step frame h other (ap (replied reply.Ok) (sym none)
     ∙ ((node-takes n frame result core some is).replies h had.has
     ∙ ap (λ (p : Reply × PrimaryHistory). p.0) (ack-in-takes frame h (unshut-end n frame result core some is h had.has))))

@@ -49,16 +49,17 @@ module _ (n : NodeState) (number : ℕ) (got : Result JournalEntry Refusal) (cor
   })
 
   -- the call answers what the step answers
-  pub node-receipt : (told : Result Receipt Refusal) → ((e : Refusal) → got ≡ Err e → told ≡ Err e)
+  pub node-receipt : (returned : Result Receipt Refusal) → ((e : Refusal) → got ≡ Err e → returned ≡ Err e)
       → ((entry : JournalEntry) (kind : CompletionKind) (home : Option StreamPosition) → got ≡ Ok entry → entry.fate ≡ Completed (is_linked kind) home
-      → told ≡ Ok (receipt_with number entry kind home))
-      → IsStep (take_receipt number) n told (record n { core = core })
-  node-receipt told refused given = record {
+      → returned ≡ Ok (receipt_with number entry kind home))
+      → IsStep (take_receipt number) n returned (record n { core = core })
+  node-receipt returned refused given = record {
     replies = λ h has. go got (step.take_completed number h).0 refl (answer h has);
     after = λ h has. node-receipted.after h has;
   }
     where
-      go : (r : Result JournalEntry Refusal) (v : Result Completion Refusal) → got ≡ r → SameAnswer number r v → told ≡ result_map_both receipt_of (λ e. e) v
+      go : (r : Result JournalEntry Refusal) (v : Result Completion Refusal) → got ≡ r → SameAnswer number r v
+          → returned ≡ result_map_both receipt_of (λ e. e) v
       go (Ok entry) (Ok completion) at same =
           given entry completion.kind completion.home at same.3
           ∙ λ i. Ok (record {

@@ -18,7 +18,7 @@ use Rattle.primary_protocol.proofs.Receipts.Journal.{TellsEntries, tells}
 leaves-but : (s : PrimaryState) (h : PrimaryHistory) (entries : List JournalEntry) (receipts : List ℕ) → Leaves s h
     → LeavesEntries (record s { entries = entries }) (record h { receipts = receipts })
     → Leaves (record s { entries = entries }) (record h { receipts = receipts })
-leaves-but s h entries receipts left told_so = record {
+leaves-but s h entries receipts left same_receipts = record {
   rest = record {
     settings = left.rest.settings;
     tuple = left.rest.tuple;
@@ -32,7 +32,7 @@ leaves-but s h entries receipts left told_so = record {
       writes = left.rest.log.writes;
       last_writes = left.rest.log.last_writes;
     };
-    entries = told_so;
+    entries = same_receipts;
     marks = left.rest.marks;
     held = left.rest.held;
     activity = left.rest.activity;
@@ -45,17 +45,17 @@ leaves-but s h entries receipts left told_so = record {
 -- a caller takes a receipt
 pub receipts-agree : ReceiptsAgree
 receipts-agree number s h reached left = record {
-  answer = told_so.answer;
+  answer = same_receipts.answer;
   leaves = receipt-has (λ r. LeavesEntries (if given then transition.receipted number s else s) r.1
       → Leaves (if given then transition.receipted number s else s) r.1) number h
-      (λ refusal. kept given) (taken given) (λ entry. taken given) told_so.leaves;
+      (λ refusal. kept given) (taken given) (λ entry. taken given) same_receipts.leaves;
 }
   where
     known : IsKnown h
     known = (reached-ordered h reached).ordered.0
 
-    told_so : TellsEntries number s h
-    told_so = tells h (record {
+    same_receipts : TellsEntries number s h
+    same_receipts = tells h (record {
       numbered = known.tracked.homes.numbered;
       on_disk = known.tracked.on_disk;
       journal = subst JournalIsAccepted reached.is (journal-run reached.settings reached.disk reached.tuple reached.marks reached.events);

@@ -39,7 +39,7 @@ use Rattle.laws.proofs.Rules.Releases.{released-same}
 use Rattle.laws.proofs.Lists.Beginnings.{begins-self}
 use Rattle.model.specs.Primary.{accepted_frames}
 use Rattle.laws.proofs.Rules.Answered.{answered-more}
-use Rattle.laws.proofs.Primary.Seen.{alone-seen, confirmed-seen}
+use Rattle.laws.proofs.Primary.WriteConnections.{alone-seen, confirmed-seen}
 
 -- What is owed.
 

@@ -15,7 +15,7 @@ use Rattle.primary_protocol.specs.Core.{UnderWay, EndState}
 use Rattle.primary_protocol.specs.Leaves.{is_sent, logged_of, LeavesEnd, UnderWayLeft}
 use Rattle.primary_protocol.proofs.Send.Due.{drop-more}
 use Rattle.laws.proofs.Rules.Answered.{answered-alike}
-use Rattle.laws.proofs.Primary.Seen.{alone-seen}
+use Rattle.laws.proofs.Primary.WriteConnections.{alone-seen}
 
 -- Ends after a push.
 

@@ -57,7 +57,7 @@ use Rattle.laws.proofs.Rules.Releases.{released-same}
 use Rattle.laws.proofs.Lists.Beginnings.{begins-self}
 use Rattle.model.specs.Primary.{accepted_frames}
 use Rattle.laws.proofs.Rules.Answered.{answered-more, answered-sent}
-use Rattle.laws.proofs.Primary.Seen.{confirmed-seen}
+use Rattle.laws.proofs.Primary.WriteConnections.{confirmed-seen}
 
 -- A write's frame is pushed.
 module _ (settings : Settings) (bound : TakesWrites settings) (s : PrimaryState) (h : PrimaryHistory) (e : EndState) (left : Leaves s h)
@@ -170,12 +170,12 @@ module _ (settings : Settings) (bound : TakesWrites settings) (s : PrimaryState)
     where
       by-number : (b answered alone : Bool) → is_answered h a ≡ answered → is_alone h a ≡ alone → is_on_disk a.outcome ≡ true → (answered || alone) ≡ true
           → writes.is_completed (if b then writes.sending (answers_sent s.log.protocol) (logged_of h a) else logged_of h a) ≡ true
-      by-number false answered alone is so disk told = completes-seen h a ∙ done
-      by-number true true alone is so disk told = λ j. (disk-seen a.outcome ∙ disk) j && ((is j || answers_sent s.log.protocol) || not (not (is_alone h a)))
-      by-number true false true is so disk told =
+      by-number false answered alone is so disk returned = completes-seen h a ∙ done
+      by-number true true alone is so disk returned = λ j. (disk-seen a.outcome ∙ disk) j && ((is j || answers_sent s.log.protocol) || not (not (is_alone h a)))
+      by-number true false true is so disk returned =
           (λ j. (disk-seen a.outcome ∙ disk) j && ((is_answered h a || answers_sent s.log.protocol) || not (not (so j))))
           ∙ or-true (is_answered h a || answers_sent s.log.protocol)
-      by-number true false false is so disk told = absurd (cc)
+      by-number true false false is so disk returned = absurd (cc)
 
   sent-change : IsChange h (with_primary_connection pushing h) write.number (writes.sending (answers_sent s.log.protocol)) (λ a. a) pushing
   sent-change = record {

@@ -3,7 +3,7 @@ use Rattle.std.proofs.Common.{refl}
 use Rattle.primary_protocol.proofs.resyncs.Goals as goal
 
 pub returns-clause-resynced : goal.returns-clause-resynced
-returns-clause-resynced c = record { alone = refl; source = refl; marks = refl; copies = refl; ended = refl; told = refl; again = refl; lost = refl }
+returns-clause-resynced c = record { alone = refl; source = refl; marks = refl; copies = refl; ended = refl; identifiers = refl; again = refl; lost = refl }
 
 pub returns-clause-among_writes : goal.returns-clause-among_writes
 returns-clause-among_writes c = record { under_way = refl; unsent = refl; passed_over = refl }

@@ -189,14 +189,14 @@ pub node-may-not : (n : NodeState) (e : Refusal) → may_take n.core ≡ Err e �
 node-may-not n e is = node-refused (Receives None false) tt n e
     (λ h left. sym (ap (replied (λ (done : Done). done)) here) ∙ (receives-agree None false n.core h left).reply)
   where
-    told : (v : Option Refusal) → elim v as (λ _. Result (Unit {0}) Refusal) [ Some refusal ↦ Err refusal | None ↦ Ok tt ] ≡ Err e → v ≡ Some e
-    told None is = absurd (cc)
-    told (Some refusal) is = let same : refusal ≡ e = cc in ap Some same
+    returned : (v : Option Refusal) → elim v as (λ _. Result (Unit {0}) Refusal) [ Some refusal ↦ Err refusal | None ↦ Ok tt ] ≡ Err e → v ≡ Some e
+    returned None is = absurd (cc)
+    returned (Some refusal) is = let same : refusal ≡ e = cc in ap Some same
 
     here : (receive None false n.core).0 ≡ Err e
     here = ap (λ (v : Option Refusal). (elim v as (λ _. Result Done Refusal × SecondaryState)
         [ Some refusal ↦ (Err refusal, n.core) | None ↦ (Err NothingThere, n.core) ]).0)
-        (refused-on (take_tests n.core) (drop 2 (receive_tests None false n.core)) e (told (first_refusal (take_tests n.core)) is))
+        (refused-on (take_tests n.core) (drop 2 (receive_tests None false n.core)) e (returned (first_refusal (take_tests n.core)) is))
 
 pub node-out-of-memory : (n : NodeState) → may_take n.core ≡ Ok tt → NodeSteps (Receives None true) n (replied (λ (done : Done). done) (Err NoMemory)) n
 node-out-of-memory n may = let two = both n.core may in node-refused (Receives None true) tt n NoMemory (λ h left.

@@ -1,10 +1,10 @@
 -- The frames of both ends are those that their packets are read off.
-use Rattle.endpoint.proofs.Joinings.{told, past_begins, spelled_cuts, past_cuts, everywhere}
+use Rattle.endpoint.proofs.Joinings.{returned, past_begins, spelled_cuts, past_cuts, everywhere}
 use Rattle.endpoint.proofs.ends.joined.Goals as goal
 
 pub returns-clause-present : goal.returns-clause-present
 returns-clause-present g c = rw (← c.outgoing.view_is, ← c.incoming.view_is)
-    (told (g.O.FrameOut.state c.outgoing.inside.end) (g.I.FrameIn.state c.incoming.inside.end) c.outgoing.invariant.sent)
+    (returned (g.O.FrameOut.state c.outgoing.inside.end) (g.I.FrameIn.state c.incoming.inside.end) c.outgoing.invariant.sent)
 
 pub returns-clause-past : goal.returns-clause-past
 returns-clause-past g c = rw (← c.outgoing.view_is, ← c.incoming.view_is)

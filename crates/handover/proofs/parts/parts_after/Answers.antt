@@ -12,7 +12,7 @@ use Rattle.handover.proofs.parts.parts_after.Goals as goal
 
 -- what is alike is not told to differ
 not-both : (alike other : Bool) → alike ≡ true → other ≡ not alike → other ≡ true → ⊥
-not-both alike other is told differs = both_ways other (told ∙ ap not is) differs
+not-both alike other is returned differs = both_ways other (returned ∙ ap not is) differs
 
 pub returns-then-ne-clause-settings : goal.returns-then-ne-clause-settings
 returns-then-ne-clause-settings g c = λ p s hp hs is same.
@@ -39,4 +39,5 @@ returns-clause-sound g c = λ p s hp hs joined honest grounded.
     (sym (c.is_drained.ensures s hs) ∙ c.if-not-is_drained.false) (ap is_some (sym (c.next_local.ensures p hp)) ∙ sym c.is_some.ensures ∙ c.if-is_some.false) in
     let alike : are_alike c.settings.result c.settings-settings.result ≡ true = not-false _ (sym c.ne.ensures ∙ c.if-ne.false) in
     let same : p.settings ≡ s.settings = sym (c.settings-settings.ensures p hp) ∙ sym (alike-same _ _ alike) ∙ c.settings.ensures s hs in
-    parts-sound _ p s (returns-clause-left g c p s hp hs) same (reached-leave p s hp.reached hs.reached honest joined grounded rest c.identifiers_of-peer.result)
+    parts-sound _ p s (returns-clause-left g c p s hp hs) same
+    (reached-leave p s hp.reached hs.reached honest joined grounded rest c.identifiers_of-peer.result)

@@ -8,9 +8,9 @@ use Rattle.mirror.proofs.local.copy.Goals as goal
 
 pub returns : goal.returns
 returns g c =
-    let told = replied reply.Ok c.resync_next.result in
+    let returned = replied reply.Ok c.resync_next.result in
     let out_of_memory = is_out_of_memory c.resync_next.result in
     elim c.resync_next.ensures.step [
-      | inl done ↦ local-step (Resyncs out_of_memory) c.args.local.now c.resync_next.new.self told (λ h. refl) done.1
-      | inr failed ↦ local-step (FailsResync out_of_memory) c.args.local.now c.resync_next.new.self told (λ h. refl) failed.1
+      | inl done ↦ local-step (Resyncs out_of_memory) c.args.local.now c.resync_next.new.self returned (λ h. refl) done.1
+      | inr failed ↦ local-step (FailsResync out_of_memory) c.args.local.now c.resync_next.new.self returned (λ h. refl) failed.1
     ]

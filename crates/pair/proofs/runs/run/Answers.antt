@@ -36,7 +36,7 @@ ended c =
     omega (arith, most, none)
 
 pub returns-clause-each : goal.returns-clause-each
-returns-clause-each c = c.loop-event.invariant.told ∙ ended c
+returns-clause-each c = c.loop-event.invariant.returned ∙ ended c
 
 pub returns-clause-replies : goal.returns-clause-replies
 returns-clause-replies c h has =

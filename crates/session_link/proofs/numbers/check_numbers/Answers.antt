@@ -4,17 +4,17 @@ use Rattle.session_nodes.specs.Primaries.{PrimaryIsHad}
 use Rattle.session_link.proofs.numbers.check_numbers.Goals as goal
 
 -- The number of connections that the primary tells is its core's.
-told : (v : PrimaryView) (had : PrimaryIsHad v) (number : ℕ) → number ≡ length had.history.connections → v.core.connections ≡ number
-told v had number tells = had.has.has.leaves.core.rest.connections ∙ sym tells
+returned : (v : PrimaryView) (had : PrimaryIsHad v) (number : ℕ) → number ≡ length had.history.connections → v.core.connections ≡ number
+returned v had number tells = had.has.has.leaves.core.rest.connections ∙ sym tells
 
 pub returns-then-number-connections-clause-above : goal.returns-then-number-connections-clause-above
 returns-then-number-connections-clause-above g c =
     let own : c.args.primary.now.core.connections ≡ c.connections.result
-    = told c.args.primary.now c.requires c.connections.result (c.connections.ensures c.requires.history c.requires.has.has) in
+    = returned c.args.primary.now c.requires c.connections.result (c.connections.ensures c.requires.history c.requires.has.has) in
     omega (arith, own, c.number.ensures.number, c.if-number-connections.true)
 
 pub returns-clause-numbered : goal.returns-clause-numbered
 returns-clause-numbered g c =
     let own : c.args.primary.now.core.connections ≡ c.connections.result
-    = told c.args.primary.now c.requires c.connections.result (c.connections.ensures c.requires.history c.requires.has.has) in
+    = returned c.args.primary.now c.requires c.connections.result (c.connections.ensures c.requires.history c.requires.has.has) in
     omega (arith, own, c.number.ensures.number, c.if-number-connections.false)

@@ -12,14 +12,14 @@ use Rattle.activitylog.proofs.log.ActivityLog.begin.Goals as goal
 abbrev Front : ℕ → LruCache ℕ ℕ → LruCache ℕ ℕ → ℕ → Type 0
 Front k old new w = new ≡ lru_cache ((k, w + 1) ∷ remove_entry (nat_eq k) old.entries) old.cap
 
-abbrev Told : ℕ → LruCache ℕ ℕ → LruCache ℕ ℕ → Bool → Type 0
-Told k old new r = MatchOption (lookup (nat_eq k) old.entries) ((r ≡ false) × (new ≡ old)) (λ w. (r ≡ true) × Front k old new w)
+abbrev Returned : ℕ → LruCache ℕ ℕ → LruCache ℕ ℕ → Bool → Type 0
+Returned k old new r = MatchOption (lookup (nat_eq k) old.entries) ((r ≡ false) × (new ≡ old)) (λ w. (r ≡ true) × Front k old new w)
 
-known : (k : ℕ) (old new : LruCache ℕ ℕ) (r : Bool) → Told k old new r → r ≡ true → (w : ℕ) × (lookup (nat_eq k) old.entries ≡ Some w) × Front k old new w
-known k old new r told is = when_known (lookup (nat_eq k) old.entries) r (new ≡ old) (Front k old new) told is
+known : (k : ℕ) (old new : LruCache ℕ ℕ) (r : Bool) → Returned k old new r → r ≡ true → (w : ℕ) × (lookup (nat_eq k) old.entries ≡ Some w) × Front k old new w
+known k old new r returned is = when_known (lookup (nat_eq k) old.entries) r (new ≡ old) (Front k old new) returned is
 
-unknown : (k : ℕ) (old new : LruCache ℕ ℕ) (r : Bool) → Told k old new r → r ≡ false → (lookup (nat_eq k) old.entries ≡ None) × (new ≡ old)
-unknown k old new r told is = when_unknown (lookup (nat_eq k) old.entries) r (new ≡ old) (Front k old new) told is
+unknown : (k : ℕ) (old new : LruCache ℕ ℕ) (r : Bool) → Returned k old new r → r ≡ false → (lookup (nat_eq k) old.entries ≡ None) × (new ≡ old)
+unknown k old new r returned is = when_unknown (lookup (nat_eq k) old.entries) r (new ≡ old) (Front k old new) returned is
 
 few : (o : Option ℕ) → unwrap_or o 0 + 1 < 4294967296 → IfSome o (λ w. w + 1 < 4294967296)
 few None below = tt

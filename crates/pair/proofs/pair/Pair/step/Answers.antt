@@ -18,7 +18,7 @@ returns-in-Ok-outcome c = record {
     | in-Open w ↦ rw (w.self-is, w.in-Open.is) (ok-step (from_primary.replied reply.Ok) _ _ _ w.open-outcome.result c.in-Ok-outcome.done _ (sym w.outcome-is
         ∙ c.in-Ok-outcome.is) refl w.open-outcome.ensures.step)
     | in-Submit+in-Ok w ↦ rw (w.self-is, w.in-Submit.is)
-        (ok-step (from_primary.replied (λ (told : ℕ × Done). reply.Ok told.1)) _ _ _ w.submit.result (w.in-Ok.field-0-0, w.in-Ok.done) _ w.in-Ok.is
+        (ok-step (from_primary.replied (λ (returned : ℕ × Done). reply.Ok returned.1)) _ _ _ w.submit.result (w.in-Ok.field-0-0, w.in-Ok.done) _ w.in-Ok.is
         (ap reply.Ok (same-done _ _ (sym w.outcome-is ∙ c.in-Ok-outcome.is))) w.submit.ensures.step)
     | in-Submit+in-Err w ↦ absurd (other-way _ _ (sym w.outcome-is ∙ c.in-Ok-outcome.is))
     | in-Local w ↦ rw (w.self-is, w.in-Local.is) (ok-step (from_primary.replied reply.Ok) _ _ _ w.local-outcome.result c.in-Ok-outcome.done _ (sym w.outcome-is
@@ -67,7 +67,7 @@ returns-in-Err-outcome c = record {
         (sym w.outcome-is ∙ c.in-Err-outcome.is) w.open-outcome.ensures.step)
     | in-Submit+in-Ok w ↦ absurd (other-way _ _ (sym c.in-Err-outcome.is ∙ w.outcome-is))
     | in-Submit+in-Err w ↦ rw (w.self-is, w.in-Submit.is)
-        (err-step (from_primary.replied (λ (told : ℕ × Done). reply.Ok told.1)) _ _ _ w.submit.result c.in-Err-outcome.refusal refl (w.in-Err.is
+        (err-step (from_primary.replied (λ (returned : ℕ × Done). reply.Ok returned.1)) _ _ _ w.submit.result c.in-Err-outcome.refusal refl (w.in-Err.is
         ∙ ap Err (same-refusal _ _ (sym w.outcome-is ∙ c.in-Err-outcome.is))) w.submit.ensures.step)
     | in-Local w ↦ rw (w.self-is, w.in-Local.is) (err-step (from_primary.replied reply.Ok) _ _ _ w.local-outcome.result c.in-Err-outcome.refusal refl
         (sym w.outcome-is ∙ c.in-Err-outcome.is) w.local-outcome.ensures.step)

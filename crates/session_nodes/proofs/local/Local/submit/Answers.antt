@@ -13,17 +13,17 @@ use Rattle.session_nodes.proofs.local.Local.submit.Goals as goal
 
 abbrev step-over : (g : _) (c : goal.After-submit g)
     → PrimarySteps (Submits c.args.first (whole_blocks c.args.bytes.now) (is_out_of_memory c.submit.result)) c.self.inside.node
-    (replied (λ told. reply.Ok told.1) c.submit.result) c.submit.new.self
+    (replied (λ returned. reply.Ok returned.1) c.submit.result) c.submit.new.self
 step-over g c =
     steps-over (Submits c.args.first (whole_blocks c.args.bytes.now) (is_out_of_memory c.submit.result)) tt
     (primary_step (Submits c.args.first (whole_blocks c.args.bytes.now) (is_out_of_memory c.submit.result))) (λ h. refl) c.self.inside.node c.submit.new.self
-    (replied (λ told. reply.Ok told.1) c.submit.result)
+    (replied (λ returned. reply.Ok returned.1) c.submit.result)
     (ends-of (ap (λ (v : PrimaryView). v.outgoing) c.submit.ensures.rest)
     (ap (λ (v : PrimaryView). v.incoming) c.submit.ensures.rest)) c.submit.ensures.step.replies c.submit.ensures.step.after
 
 pub invariant_of-self : goal.invariant_of-self
 invariant_of-self g c = had-over (primary_step (Submits c.args.first (whole_blocks c.args.bytes.now) (is_out_of_memory c.submit.result))) c.self.inside.node
-    c.submit.new.self (replied (λ told. reply.Ok told.1) c.submit.result) c.self.invariant (step-over g c)
+    c.submit.new.self (replied (λ returned. reply.Ok returned.1) c.submit.result) c.self.invariant (step-over g c)
 
 pub returns : goal.returns
 returns g c = rw (← c.self.view_is) (record { step = step-over g c })

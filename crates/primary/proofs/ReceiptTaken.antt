@@ -41,17 +41,17 @@ module _ (v : PrimaryView) (before : IsNode v) (number : ℕ) (got : Result Jour
         (node-receipted (node v) number got core is)
 
     -- there is none to take
-    pub receipt-refused : (e : Refusal) (told : Result Receipt Refusal) → got ≡ Err e → told ≡ Err e
-        → IsStep (take_receipt number) (node v) told (node (record v { core = core }))
-    receipt-refused e told was said = node-receipt (node v) number got core is told (λ x at. said
+    pub receipt-refused : (e : Refusal) (returned : Result Receipt Refusal) → got ≡ Err e → returned ≡ Err e
+        → IsStep (take_receipt number) (node v) returned (node (record v { core = core }))
+    receipt-refused e returned was said = node-receipt (node v) number got core is returned (λ x at. said
         ∙ ap Err (let same : Err e ≡ Err x = sym was ∙ at in let equal : e ≡ x = cc in equal)) (λ entry kind home at fate. let no : Err e ≡ Ok entry = sym was
         ∙ at in absurd (cc))
 
     -- it is told as the entry has it
-    pub receipt-given : (entry : JournalEntry) (told : Result Receipt Refusal) → got ≡ Ok entry → told ≡ ok_or (receipt_in number entry) NotCompleted
-        → IsStep (take_receipt number) (node v) told (node (record v { core = core }))
-    receipt-given entry told was said =
-        node-receipt (node v) number got core is told (λ x at. let no : Ok entry ≡ Err x = sym was ∙ at in absurd (cc))
+    pub receipt-given : (entry : JournalEntry) (returned : Result Receipt Refusal) → got ≡ Ok entry → returned ≡ ok_or (receipt_in number entry) NotCompleted
+        → IsStep (take_receipt number) (node v) returned (node (record v { core = core }))
+    receipt-given entry returned was said =
+        node-receipt (node v) number got core is returned (λ x at. let no : Ok entry ≡ Err x = sym was ∙ at in absurd (cc))
         (λ other kind home at fate.
         let both : Ok entry ≡ Ok other = sym was ∙ at in
         let same : entry ≡ other = cc in

@@ -15,16 +15,16 @@ const EMPTY_LINE: &str = "\r\x1b[K";
 
 /// The progress of a run's threads.
 #[derive(Drop)]
-pub(crate) struct Course {
+pub(crate) struct Progress {
     completed: AtomicU64,
     is_over: Mutex<bool>,
     over: Condvar,
 }
 
-impl Course {
+impl Progress {
     /// Creates the progress of a run that has written nothing yet.
-    pub(crate) fn new() -> Course {
-        Course {
+    pub(crate) fn new() -> Progress {
+        Progress {
             completed: AtomicU64::new(0),
             is_over: Mutex::new(false),
             over: Condvar::new(),
@@ -55,43 +55,43 @@ impl Course {
     }
 }
 
-/// Reports what the options ask for, until the end. A failed write to `err` is no fault of the run.
-pub(crate) fn tell<R: Wait + Clock, E: Write>(
+/// Prints what the options ask for, until the end. A failed write to `err` is no fault of the run.
+pub(crate) fn report<R: Wait + Clock, E: Write>(
     rt: &R,
     device: &impl Device,
     options: &RunOptions,
-    course: &Course,
+    progress: &Progress,
     err: &mut E,
 ) {
     let mut has_line = false;
     for _ in rt.forever() {
-        if course.wait(rt) {
+        if progress.wait(rt) {
             break;
         }
-        let _ = tell_once(device, options, course, err);
-        has_line = options.telling.progress;
+        let _ = print_progress(device, options, progress, err);
+        has_line = options.live.progress;
     }
     if has_line {
         let _ = write!(err, "{EMPTY_LINE}");
     }
 }
 
-fn tell_once<E: Write>(
+fn print_progress<E: Write>(
     device: &impl Device,
     options: &RunOptions,
-    course: &Course,
+    progress: &Progress,
     err: &mut E,
 ) -> io::Result<()> {
-    if options.telling.progress {
+    if options.live.progress {
         write!(err, "{EMPTY_LINE}")?;
     }
-    if options.telling.status {
+    if options.live.status {
         if let Ok(lines) = device.status() {
-            tell_status(&lines, err)?;
+            print_status(&lines, err)?;
         }
     }
-    if options.telling.progress {
-        let completed = course.completed.load(Ordering::SeqCst);
+    if options.live.progress {
+        let completed = progress.completed.load(Ordering::SeqCst);
         let all = options.all_writes();
         let marks = device.marks();
         write!(
@@ -103,7 +103,7 @@ fn tell_once<E: Write>(
 }
 
 /// Writes the status lines of both nodes, each with a newline.
-pub fn tell_status<E: Write>(lines: &(String, String), err: &mut E) -> io::Result<()> {
+pub fn print_status<E: Write>(lines: &(String, String), err: &mut E) -> io::Result<()> {
     writeln!(err, "{}", lines.0)?;
     writeln!(err, "{}", lines.1)
 }

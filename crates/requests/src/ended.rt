@@ -1,0 +1,25 @@
+//! A request that has ended, but for what stable storage owes it.
+use nbd::{Errno, Request};
+use std::marker::Model;
+
+/// A request that has ended, and its result if the images keep what was written to them. `Requests::store` syncs them where the
+/// request asks for that, and gives the result. Invariant: a READ that succeeded has as many bytes as it asks for.
+#[derive(Debug, Drop)]
+pub struct Ended {
+    pub(crate) request: Request,
+    pub(crate) result: Result<Vec<u8>, Errno>,
+    // The last round of syncing that had begun when what it waits for was in the images' files, or was answered.
+    pub(crate) round: u64,
+}
+
+impl Model for Ended {
+    ghost use Rattle.std.specs.Prelude.{◌≡◌, ◌*◌, vec_len, is_ok, IfOk};
+    ghost use Rattle.nbd.specs.declared.command.Command.TheVariants as command;
+    ghost use Rattle.requests.specs.Ended.{EndedState};
+
+    ghost Value = { EndedState };
+
+    ghost view = { λ e. record { request = e.request; is_done = is_ok e.result } };
+
+    ghost invariant = { λ e. e.request.command ≡ command.Read → IfOk e.result (λ read. vec_len read ≡ e.request.block_count * 4096) };
+}
