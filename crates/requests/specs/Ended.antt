@@ -1,6 +1,16 @@
 -- A request that has ended.
-use Rattle.std.specs.Prelude.{Bool}
+use Rattle.std.specs.Prelude.{Bool, ℕ, ◌*◌}
+use Rattle.nbd.specs.declared.command.Command.{Command}
+use Rattle.nbd.specs.declared.command.Command.TheVariants.{Read, Write, Disconnect, Flush, WriteZeroes}
 use Rattle.nbd.specs.declared.request.Request.{Request}
+
+-- how many bytes follow the reply to a command for so many blocks, if it is done (NBD protocol, "Simple reply message")
+abbrev pub data_bytes : Command → ℕ → ℕ
+data_bytes Read block_count = block_count * 4096
+data_bytes Write block_count = 0
+data_bytes Disconnect block_count = 0
+data_bytes Flush block_count = 0
+data_bytes WriteZeroes block_count = 0
 
 -- the request, and whether it was done
 pub record EndedState : Type 0 where

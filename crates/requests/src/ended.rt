@@ -3,7 +3,8 @@ use nbd::{Errno, Request};
 use std::marker::Model;
 
 /// A request that has ended, and its result if the images keep what was written to them. `Requests::store` syncs them where the
-/// request asks for that, and gives the result. Invariant: a READ that succeeded has as many bytes as it asks for.
+/// request asks for that, and gives the result. Invariant: a READ that is done has as many bytes as it asks for, and any other
+/// request none.
 #[derive(Debug, Drop)]
 pub struct Ended {
     pub(crate) request: Request,
@@ -13,13 +14,12 @@ pub struct Ended {
 }
 
 impl Model for Ended {
-    ghost use Rattle.std.specs.Prelude.{◌≡◌, ◌*◌, vec_len, is_ok, IfOk};
-    ghost use Rattle.nbd.specs.declared.command.Command.TheVariants as command;
-    ghost use Rattle.requests.specs.Ended.{EndedState};
+    ghost use Rattle.std.specs.Prelude.{◌≡◌, vec_len, is_ok, IfOk};
+    ghost use Rattle.requests.specs.Ended.{EndedState, data_bytes};
 
     ghost Value = { EndedState };
 
     ghost view = { λ e. record { request = e.request; is_done = is_ok e.result } };
 
-    ghost invariant = { λ e. e.request.command ≡ command.Read → IfOk e.result (λ read. vec_len read ≡ e.request.block_count * 4096) };
+    ghost invariant = { λ e. IfOk e.result (λ bytes. vec_len bytes ≡ data_bytes e.request.command e.request.block_count) };
 }

@@ -1,7 +1,8 @@
 //! Requests over a device.
-ghost use Rattle.std.specs.Prelude.{◌≡◌, ◌*◌, [], true, vec_len, IfOk, OnOk};
+ghost use Rattle.std.specs.Prelude.{◌≡◌, ◌≢◌, [], true, false, vec_len, is_ok, IfOk, OnOk};
 ghost use Rattle.nbd.specs.Pieces.{pieces};
 ghost use Rattle.nbd.specs.declared.command.Command.TheVariants as command;
+ghost use Rattle.requests.specs.Ended.{data_bytes};
 ghost use Rattle.requests.specs.Receipts.{HasBegun, HasMore, range_of};
 
 use crate::complete::complete_all;
@@ -133,7 +134,8 @@ impl Requests {
     ) -> (Request, Result<Vec<u8>, Errno>)
         ensures request { result.0 ≡ ended.request }
         ensures done { OnOk result.1 (ended.is_done ≡ true) }
-        ensures read { ended.request.command ≡ command.Read → IfOk result.1 (λ read. vec_len read ≡ ended.request.block_count * 4096) }
+        ensures unsynced { ended.request.fua ≡ false → ended.request.command ≢ command.Flush → is_ok result.1 ≡ ended.is_done }
+        ensures data { IfOk result.1 (λ bytes. vec_len bytes ≡ data_bytes ended.request.command ended.request.block_count) }
     {
         let Ended {
             request,
@@ -180,7 +182,7 @@ impl Requests {
 
     // Returns the data of a READ, and no bytes for any other command. `Invalid` for DISC.
     fn read_data(&self, device: &impl Device, request: &Request) -> Result<Vec<u8>, Errno>
-        ensures { request.now.command ≡ command.Read → IfOk result (λ read. vec_len read ≡ request.now.block_count * 4096) }
+        ensures { IfOk result (λ bytes. vec_len bytes ≡ data_bytes request.now.command request.now.block_count) }
     {
         match request.command {
             Command::Read => {
