@@ -3,17 +3,20 @@ use crate::client::Client;
 use crate::places::places_of;
 use crate::request::Job;
 use crate::service::Service;
-use crate::storing::Unstored;
+use crate::sync_queue::Unsynced;
 use halves::Device;
-use nbd::Command;
 use primary::Receipt;
-use requests::UnderWay;
+use requests::{Answer, UnderWay, asks_for_sync};
 use std::alloc::{AllocError, Global};
 use std::sync::{Arc, Wait};
 use std::time::Clock;
 
 /// The most requests that a thread does together.
 const TOGETHER: usize = 16;
+
+/// The most blocks of a request that is done together with others: 2 MiB of data. A longer one is done by itself. A WRITE_ZEROES
+/// of 1 GiB begins 8,192 ranges, and shorter requests that began with it would wait for seconds until all of them have.
+const SHORT_BLOCKS: u32 = 512;
 
 /// A request that was begun, and the client that waits for its reply.
 #[derive(Drop)]
@@ -31,9 +34,11 @@ struct Batch {
     quick: Vec<Pending>,
     // Those that do, and those of them that have ended.
     syncing: Vec<Pending>,
-    unstored: Vec<Unstored>,
+    unsynced: Vec<Unsynced>,
     // The clients whose replies are held.
     answered: Vec<Arc<Client, Global>>,
+    // The long request that is done next, by itself.
+    long: Option<Job>,
 }
 
 impl Batch {
@@ -42,8 +47,9 @@ impl Batch {
         Ok(Batch {
             quick: Vec::with_capacity(alloc, TOGETHER)?,
             syncing: Vec::with_capacity(alloc, TOGETHER)?,
-            unstored: Vec::with_capacity(alloc, TOGETHER)?,
+            unsynced: Vec::with_capacity(alloc, TOGETHER)?,
             answered: Vec::with_capacity(alloc, TOGETHER)?,
+            long: None,
         })
     }
 
@@ -59,8 +65,8 @@ impl Batch {
 }
 
 /// Does a request and those that already wait behind it: begins all of them, then ends one after another, and sends their
-/// replies. Those that wait for stable storage come last, or are left to a thread that has others stored. Appends the receipts of
-/// their writes.
+/// replies. Those that wait for stable storage come last, or are left to a thread that syncs for others. A long request is
+/// done by itself: if one waits, those before it are answered first. Appends the receipts of their writes.
 pub(crate) fn answer<R: Wait + Clock>(
     rt: &R,
     service: &Service,
@@ -68,13 +74,36 @@ pub(crate) fn answer<R: Wait + Clock>(
     job: Job,
     receipts: &mut Vec<Receipt>,
 ) {
+    if let Some(long) = answer_batch(rt, service, device, job, receipts) {
+        // It takes no further requests, so none is left.
+        let _ = answer_batch(rt, service, device, long, receipts);
+    }
+}
+
+// Does a request and, if it is short, the short ones that already wait behind it. Returns the long one at which it stopped.
+fn answer_batch<R: Wait + Clock>(
+    rt: &R,
+    service: &Service,
+    device: &impl Device,
+    job: Job,
+    receipts: &mut Vec<Receipt>,
+) -> Option<Job> {
+    let takes_more = !is_long(&job);
     let first = begin(service, device, job);
     let Ok(mut batch) = Batch::new(service.alloc) else {
         let ended = end(service, device, first, receipts);
-        store(rt, service, device, ended).send_held(rt);
-        return;
+        finish(rt, service, device, ended).send_held(rt);
+        return None;
     };
     batch.put(first);
+    if takes_more {
+        fill(rt, service, device, &mut batch);
+    }
+    end_all(rt, service, device, batch, receipts)
+}
+
+// Begins the short requests that already wait, until the batch is full or a long one comes.
+fn fill<R: Wait>(rt: &R, service: &Service, device: &impl Device, batch: &mut Batch) {
     for _ in 1..TOGETHER {
         // The other threads may have ended the session meanwhile: then its room is kept for what is begun.
         if service.is_session_over() {
@@ -83,66 +112,93 @@ pub(crate) fn answer<R: Wait + Clock>(
         let Ok(job) = service.queue.try_recv(rt) else {
             break;
         };
+        if is_long(&job) {
+            batch.long = Some(job);
+            break;
+        }
         batch.put(begin(service, device, job));
     }
-    end_all(rt, service, device, batch, receipts);
+}
+
+// Returns whether a request is done by itself.
+fn is_long(job: &Job) -> bool {
+    job.request.block_count > SHORT_BLOCKS
 }
 
 // Ends the requests of a batch, and sends their replies. Those that wait for stable storage have all ended before the first of
-// them is stored, so that one sync does for them.
+// them is finished, so that one sync does for them. Returns the long request that is done next.
 fn end_all<R: Wait + Clock>(
     rt: &R,
     service: &Service,
     device: &impl Device,
     batch: Batch,
     receipts: &mut Vec<Receipt>,
-) {
+) -> Option<Job> {
     let Batch {
         quick,
         syncing,
-        mut unstored,
+        mut unsynced,
         mut answered,
+        long,
     } = batch;
     for pending in quick {
         let ended = end(service, device, pending, receipts);
-        let _ = answered.push(store(rt, service, device, ended));
+        let _ = answered.push(finish(rt, service, device, ended));
     }
     send_all(rt, &mut answered);
     for pending in syncing {
-        let _ = unstored.push(end(service, device, pending, receipts));
+        let _ = unsynced.push(end(service, device, pending, receipts));
     }
-    if unstored.is_empty() {
-        return;
+    if !unsynced.is_empty() {
+        sync_for(rt, service, device, unsynced, long.is_some());
     }
-    if service.storing.put(rt, &mut unstored).is_ok() {
-        store_waiting(rt, service, device);
-    } else {
-        store_all(rt, service, device, unstored);
-    }
+    long
 }
 
-// Has the requests of all threads stored that wait for it, unless another thread does.
-fn store_waiting<R: Wait + Clock>(rt: &R, service: &Service, device: &impl Device) {
-    for _ in rt.forever() {
-        let Some(waiting) = service.storing.begin(rt) else {
-            break;
-        };
-        store_all(rt, service, device, waiting);
-        service.storing.end(rt);
-    }
-}
-
-// Has requests stored, and sends their replies. They had all ended before, so the sync of the first does for the others.
-fn store_all<R: Wait + Clock>(
+// Has requests finished that wait for stable storage: by the thread that syncs now, or else by this one, which then syncs for
+// all threads. If a long request is next, it syncs for these alone: further ones may come without end, and it would wait for them.
+fn sync_for<R: Wait + Clock>(
     rt: &R,
     service: &Service,
     device: &impl Device,
-    unstored: Vec<Unstored>,
+    unsynced: Vec<Unsynced>,
+    is_long_next: bool,
+) {
+    let mut unsynced = unsynced;
+    let is_left = if is_long_next {
+        service.syncs.leave(rt, &mut unsynced)
+    } else {
+        service.syncs.put(rt, &mut unsynced).is_ok()
+    };
+    if !is_left {
+        finish_all(rt, service, device, unsynced);
+    } else if !is_long_next {
+        finish_waiting(rt, service, device);
+    }
+}
+
+// Finishes the requests of all threads that wait for stable storage, unless another thread does.
+fn finish_waiting<R: Wait + Clock>(rt: &R, service: &Service, device: &impl Device) {
+    for _ in rt.forever() {
+        let Some(waiting) = service.syncs.begin(rt) else {
+            break;
+        };
+        finish_all(rt, service, device, waiting);
+        service.syncs.end(rt);
+    }
+}
+
+// Finishes requests, and sends their replies. They had all ended before, so the sync of the first does for the others.
+fn finish_all<R: Wait + Clock>(
+    rt: &R,
+    service: &Service,
+    device: &impl Device,
+    unsynced: Vec<Unsynced>,
 ) {
     let mut answered = Vec::new(service.alloc);
-    let is_room = answered.try_reserve(unstored.len()).is_ok();
-    for ended in unstored {
-        let client = store(rt, service, device, ended);
+    let is_room = answered.try_reserve(unsynced.len()).is_ok();
+    for ended in unsynced {
+        let client = finish(rt, service, device, ended);
         if is_room {
             let _ = answered.push(client);
         } else {
@@ -155,7 +211,7 @@ fn store_all<R: Wait + Clock>(
 // Begins a request.
 fn begin(service: &Service, device: &impl Device, job: Job) -> Pending {
     let Job { request, client } = job;
-    let syncs = request.fua || request.command == Command::Flush;
+    let syncs = asks_for_sync(&request);
     Pending {
         under_way: service.requests.begin(device, request),
         client,
@@ -169,35 +225,29 @@ fn end(
     device: &impl Device,
     pending: Pending,
     receipts: &mut Vec<Receipt>,
-) -> Unstored {
+) -> Unsynced {
     let Pending {
         under_way,
         client,
         ..
     } = pending;
-    Unstored {
+    Unsynced {
         ended: service.requests.end(device, under_way, receipts),
         client,
     }
 }
 
-// Has a request stored that asks for it, and holds its reply at its client's connection.
-fn store<R: Wait + Clock>(
+// Finishes a request, and holds its reply at its client's connection.
+fn finish<R: Wait + Clock>(
     rt: &R,
     service: &Service,
     device: &impl Device,
-    unstored: Unstored,
+    unsynced: Unsynced,
 ) -> Arc<Client, Global> {
-    let Unstored { ended, client } = unstored;
-    let (request, done) = service.requests.store(rt, device, ended);
-    let places = places_of(&request);
-    match done {
-        Ok(data) => client.reply(rt, &request.reply(None), data, places),
-        Err(errno) => {
-            let header = request.reply(Some(errno));
-            client.reply(rt, &header, Vec::new(service.alloc), places);
-        }
-    }
+    let Unsynced { ended, client } = unsynced;
+    let places = places_of(ended.request());
+    let Answer { reply, data } = service.requests.finish(rt, device, ended);
+    client.reply(rt, &reply, data, places);
     client
 }
 

@@ -15,8 +15,9 @@ const LOOK_MS: u64 = 20;
 /// Looks in a second.
 const LOOKS_A_SECOND: u64 = 50;
 
-/// Reconnects the link whenever it is down, cuts it every `cut_every` seconds if that is set and when no marked block is
-/// copied, so that a resync begins, and gives reports when they are asked for, until the session is over.
+/// Reconnects the link whenever it is down, and gives reports when they are asked for, until the session is over. If
+/// `cut_every` is set, cuts the link each time that this many seconds have passed. Also cuts it when blocks are marked and none
+/// is copied for some time, so that a resync begins with the next connection.
 pub(crate) fn keep<R: Wait + Clock>(
     rt: &R,
     service: &Service,
@@ -41,6 +42,7 @@ pub(crate) fn keep<R: Wait + Clock>(
         // While an end is open, or a disk has items to do, this is refused and changes nothing.
         if device.reconnect(words.0, words.1).is_ok() {
             words = service.words();
+            standstill.restart();
         }
         let marks = device.marks();
         if standstill.look(marks) {

@@ -16,7 +16,7 @@ mod reports;
 mod request;
 mod service;
 mod standstill;
-mod storing;
+mod sync_queue;
 mod threads;
 mod timed_writer;
 mod waiter;

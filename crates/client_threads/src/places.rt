@@ -1,5 +1,6 @@
 //! The limit on a client's requests under way.
-ghost use Rattle.std.specs.Prelude.{◌≡◌, ◌+◌, ◌/◌, min, max};
+ghost use Rattle.std.specs.Prelude.{◌≡◌};
+ghost use Rattle.client_threads.specs.Places.{places_for, places_of};
 
 use nbd::{Command, Request};
 use std::sync::{Condvar, Mutex, Wait};
@@ -59,7 +60,9 @@ impl Places {
 }
 
 /// Returns how many places a request has: one for each 2 MiB begun of the data that it reads or writes, at least one.
-pub(crate) fn places_of(request: &Request) -> u32 {
+pub(crate) fn places_of(request: &Request) -> u32
+    ensures { result ≡ places_of request.now }
+{
     match request.command {
         Command::Read | Command::Write => places_for(request.block_count),
         Command::WriteZeroes | Command::Flush | Command::Disconnect => 1,
@@ -68,7 +71,7 @@ pub(crate) fn places_of(request: &Request) -> u32 {
 
 // Returns how many places a request has that reads or writes this many blocks.
 fn places_for(block_count: u32) -> u32
-    ensures { result ≡ max 1 (min ((block_count + 511) / 512) 16) }
+    ensures { result ≡ places_for block_count }
 {
     block_count.div_ceil(BLOCKS_A_PLACE).min(PLACES).max(1)
 }

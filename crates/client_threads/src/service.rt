@@ -1,7 +1,7 @@
 //! The state that all threads of a server share.
 use crate::reports::Reports;
 use crate::request::Job;
-use crate::storing::Storing;
+use crate::sync_queue::SyncQueue;
 use blocks::{Protocol, Refusal};
 use crossbeam_channel::{Receiver, Sender, bounded};
 use requests::Requests;
@@ -12,8 +12,8 @@ use std::sync::atomic::{AtomicBool, AtomicU32, AtomicU64, Ordering};
 const QUEUE: usize = 256;
 
 /// The writes after which a session ends, and the next one begins. A session has room for 1,048,576, and each of the four
-/// threads may be in a request when the count gets there. Together these have at most 32,768 writes, since a WRITE_ZEROES
-/// over the largest device has 8,192 ranges.
+/// threads may begin one more request when the count gets there, which it had taken before. Together these have at most 32,768
+/// writes, since a WRITE_ZEROES over the largest device has 8,192 ranges.
 const SESSION_WRITES: u64 = 1_000_000;
 
 /// The first word that is given to a connection: it is no identifier of a disk at the start.
@@ -31,7 +31,7 @@ pub struct Service {
     pub(crate) jobs: Sender<Job>,
     pub(crate) queue: Receiver<Job>,
     pub(crate) reports: Reports,
-    pub(crate) storing: Storing,
+    pub(crate) syncs: SyncQueue,
     /// Does what clients ask of the device.
     pub requests: Requests,
     stop: AtomicBool,
@@ -56,7 +56,7 @@ impl Service {
             jobs,
             queue,
             reports,
-            storing: Storing::new(alloc),
+            syncs: SyncQueue::new(alloc),
             requests,
             stop: AtomicBool::new(false),
             clients: AtomicU32::new(0),

@@ -1,4 +1,5 @@
 //! When the link is cut because no marked block is copied.
+ghost use Rattle.std.specs.Prelude.{◌≡◌};
 
 /// Looks without fewer marked blocks after which the link is cut for the first time: five seconds.
 const FIRST_LOOKS: u32 = 250;
@@ -25,6 +26,13 @@ impl Standstill {
             looks: 0,
             limit: FIRST_LOOKS,
         }
+    }
+
+    /// Counts looks from none again, after a connection: its resync has only begun. The limit stays.
+    pub(crate) fn restart(&mut self)
+        ensures { (self.new.looks ≡ 0) × ((self.new.limit ≡ self.old.limit) × (self.new.marks ≡ self.old.marks)) }
+    {
+        self.looks = 0;
     }
 
     /// Takes the number of marked blocks at a look. Returns whether the link is to be cut now.

@@ -16,11 +16,12 @@ const WORKERS: usize = 4;
 /// How long a thread waits for a request before it looks whether the session ends, in milliseconds.
 const LOOK_MS: u64 = 100;
 
-/// Looks without a block copied after which the link is cut: two seconds. The thread that keeps the link up then
+/// Looks without progress after which the link is cut, if blocks are marked: two seconds. The thread that keeps the link up then
 /// reconnects it, and the resync begins again.
 const LOOKS_TO_CUT: u32 = 20;
 
-/// Looks without a block copied after which a session ends with blocks still marked: ten seconds.
+/// Looks without progress after which a session ends, though blocks may be marked or the peer's disk may have items to do: ten
+/// seconds.
 const LOOKS_TO_LEAVE: u32 = 100;
 
 /// The most receipts of a session: one for each write that it has room for.
@@ -28,7 +29,7 @@ const MOST_RECEIPTS: usize = 1_048_576;
 
 /// Does the requests of clients over this device until the server ends or the session has accepted about a million
 /// writes, and returns the receipts of all their writes. When it returns, both disks are alike and the link has nothing
-/// more to do, or no block was copied for ten seconds.
+/// more to do, or for ten seconds no marked block was copied and the peer's disk did no item.
 pub fn work<R: Runtime>(
     rt: &R,
     service: &Service,
@@ -98,11 +99,13 @@ fn do_some<R: Wait + Clock>(
     receipts
 }
 
-// Waits until both disks are alike and the link has nothing more to do. Blocks that are not copied, as those of a write that
-// failed while the link was up, are tried again over a new connection. If that does not help, as with a disk that keeps
-// failing, they stay marked: the next session copies them.
+// Waits until both disks are alike and the link has nothing more to do, or there is no progress. Blocks that are not copied, as
+// those of a write that failed while the link was up, are tried again over a new connection. If that does not help, as with a
+// disk that keeps failing, they stay marked: the next session copies them. Where no block is marked, the peer's disk may only be
+// slow, and a new connection would not help it.
 fn rest<R: Wait + Clock>(rt: &R, device: &impl Device) {
     let mut marks = u32::MAX;
+    let mut applied = u32::MAX;
     let mut looks = 0u32;
     for _ in rt.forever() {
         // A closed link is quiet too. A close marks blocks before, so they are counted after.
@@ -111,12 +114,15 @@ fn rest<R: Wait + Clock>(rt: &R, device: &impl Device) {
         if is_quiet && left == 0 {
             break;
         }
-        if left < marks {
+        // It starts anew with a connection, which is no progress yet.
+        let done = device.applied();
+        if left < marks || done > applied {
             looks = 0;
         }
         marks = left;
+        applied = done;
         looks = looks.saturating_add(1);
-        if looks == LOOKS_TO_CUT {
+        if looks == LOOKS_TO_CUT && left > 0 {
             device.cut();
         }
         if looks == LOOKS_TO_LEAVE {

@@ -6,7 +6,8 @@ use std::fmt::Display;
 /// The commands of a script, a line each.
 const COMMANDS: &str = "\
 A script has one command a line; empty lines and lines that begin with # print
-nothing. The commands, each with what it may print:
+nothing. With no words drbdpair reads a script from standard input, to its end,
+and then runs it. The commands, each with what it may print:
   pair [KEY=VALUE ..]  makes two nodes with zeroed disks  pair ok
   connect S L          opens both ends, exchanges hellos  connect ok NoSync
   open S L             opens both ends, and no more       open ok
@@ -33,7 +34,8 @@ pair comes first, and once; no key stands twice. S and L are two fresh numbers,
 the identifiers of a resync and of a loss. N is at most 64, and HH two
 hexadecimal digits. A failed write or item has its first K blocks written. One
 space parts words: a line with a tab, a CR or two spaces in a row is no command.
-Such a line stops the script, and so does each one after a pair that is refused.
+Such a line stops the script. After a refused pair the next command stops the
+script.
 
 A place P is the number of an item in the stream of its connection, from 0: a
 write, a barrier or a block of a resync. An epoch is the writes between two
@@ -110,15 +112,17 @@ An image is a file of N * 4096 bytes, which the run reads at its start, and
 replaces at its end by what the disk holds then. A disk with no image is filled
 with zeros, and is not saved. If the disks differ at the start, the secondary
 counts as fresh, and every block is copied to it. Images are locked meanwhile:
-one that another run or a server uses is refused. A symbolic link stays, and the
-file that it names is replaced. A disk is first saved beside its image, in a new
-file IMAGE.local-new or IMAGE.peer-new: if one is there, the run is refused.
+if another run or a server uses one, the run fails with status 1. A symbolic
+link stays, and the file that it names is replaced. A disk is first saved beside
+its image, in a new file IMAGE.local-new or IMAGE.peer-new: if one is there, the
+run fails with status 1.
 
 With --cuts C, a further thread cuts the link and reconnects it, C times, while
 the writers go on: the blocks that they write meanwhile are marked, and copied
 at the next connection. A write of a lost connection is completed without the
 peer. A connection that the nodes refuse (32, after quick cuts) is given up:
-then marked blocks stay, on which the images may differ.
+then marked blocks stay, on which the images may differ, and the status is 0 all
+the same. --status shows them: oos is not 0 at the end.
 
   run --writers 4 --writes 50 --cuts 3
                     => completed 200
@@ -128,48 +132,63 @@ then marked blocks stay, on which the images may differ.
 --status shows the status lines of both nodes on standard error, once a second
 and at the end. On a terminal a run of more than a second shows how far it is.
 
-A refused start or write prints refused R on standard error, and none of the
-three lines; then no image is changed. R is one of these:
+A session that is refused prints refused R on standard error and none of the
+three lines, and changes no image. R is 7 if there was no memory or no thread.
+No other one is known to come; the calls of a run may return these:
 ";
 
 /// The exit statuses of a run.
 const RUN_STATUSES: &str = "
-Exit statuses: 0 done; 1 a file, a socket, the output or memory failed, an image
-is in use or of another length, or the disks differ without a mark; 2 wrong
-usage; 3 a refusal other than 7.
+Exit statuses: 0 done; 1 there was no memory or no thread (7), a socket or the
+output failed, the disks differ without a mark, or an image cannot be read or
+saved, is no regular file, is of another length, is in use, or has something
+beside it under the name IMAGE.local-new or IMAGE.peer-new; 2 wrong usage; 3 a
+refusal other than 7. Of several faults the first is told.
+";
+
+/// The exit statuses of a server.
+const SERVE_STATUSES: &str = "
+Exit statuses: 0 done; 1 an image cannot be opened, is no regular file, is of
+another length or is in use, an address cannot be listened at, or memory, a
+thread or the output failed; or, at the end, blocks were not copied or differ
+without a mark, a sync has failed, or an image was replaced or has another
+length; 2 wrong usage; 3 a session was refused by another number than 7. Of
+several faults the first is told.
 ";
 
 /// What a run over sockets does.
 const TCP: &str = "\
 This is run, but the frames of each direction go over a socket on 127.0.0.1, in
 this same process, and the link is not cut: see run --help for what is written,
-for the images, and for the three lines. If a socket fails, both ends of the
-link close, the writers go on without it, and the blocks that may differ are
-marked.
+for the images, for the three lines, and for refusals. If a socket fails, both
+ends of the link close, the writers go on without it, and the blocks that may
+differ are marked: the images may then differ, and the status is 0 all the same.
+If a socket fails in the hello, no image is changed, and the run fails with
+status 1: a socket failed, and the link was lost.
 
   tcp --writers 4 --writes 50
                     => completed 200
                     => settled 200
                     => unmarked 0
-
-A refused start or write prints refused R on standard error, and none of the
-three lines; then no image is changed. R is one of these:
 ";
 
 /// What a server does, and what it prints.
 const SERVE: &str = "\
+If the images differ at the start, every block of --local is copied over --peer.
+
 The server mirrors two image files of the same length, 4 KiB to 1 GiB in whole
 blocks of 4 KiB, and serves them as one export to clients of the network block
-device protocol: qemu, nbd-client, nbdcopy, fio. At most 256 clients may be
-connected at a time. Each write goes to both images, to the peer's over a link,
-and is answered once it is completed as the protocol says:
+device protocol, as qemu, nbdcopy and fio are, 256 of them at a time. It serves
+READ, WRITE, WRITE_ZEROES, FLUSH and FUA, of whole blocks of 4 KiB; others get
+EINVAL. Each write goes to both images, to the peer's over a link, and is
+answered once it is completed as the protocol says:
   A                    once it is in the local image and was sent
   B                    once it is in the local image and the peer has it
   C                    once it is in both images
-A flush has the system put both images on stable storage. If the images differ
-at the start, the peer's is made like the local one. Both lie in memory, too:
-the server takes twice the device's size, and some 110 MB. Both images are
-locked meanwhile: one that another server or a run uses is refused.
+A flush has the system put both images on stable storage. Both lie in memory,
+too: the server takes twice the device's size, some 110 MB, and up to 100 MB for
+each client with long requests under way. Both images are locked meanwhile: if
+another server or a run uses one, the server fails with status 1.
 
   drbdpair serve --local a.img --peer b.img
   nbdcopy disk.img nbd://127.0.0.1
@@ -182,9 +201,12 @@ puts both images on stable storage, and prints three lines:
   unmarked 0           blocks that differ and have no mark
 If blocks could not be copied, as with a disk that fails, a line on standard
 error says how many, and the status is 1; so it is if a flush or the end could
-not put an image on stable storage. The end of standard input does not end it.
-If it is killed, both images have each write that was answered under C while the
-link was up. In the background it reads its orders from a pipe:
+not put an image on stable storage. If an image was replaced or has another
+length, the three lines do not come. The end of standard input does not end it,
+and a signal kills it. A write is answered under C, while the link is up, once
+both files have taken it; that a killed server leaves it in both is neither
+proved nor tested. After a power failure only what was flushed is certain. In
+the background it reads its orders from a pipe:
 
   mkfifo orders
   drbdpair serve --local a.img --peer b.img <> orders &
@@ -198,7 +220,7 @@ drbdpair script --help explains them, and the same as JSON.
   curl http://127.0.0.1:PORT/
   curl http://127.0.0.1:PORT/status.json
 
-A refused start prints a line on standard error that says why.
+A start that fails prints a line on standard error that says why.
 ";
 
 /// The refusals in the order of their numbers.
@@ -237,6 +259,20 @@ const REFUSALS: [Refusal; 32] = [
     Refusal::NotDrained,
 ];
 
+/// The refusals that the calls of a run may return, in the order of their numbers. Those are left out that its options, its
+/// disks in memory and its writes of a block inside the device rule out.
+const RUN_REFUSALS: [Refusal; 9] = [
+    Refusal::NoMemory,
+    Refusal::NotConnected,
+    Refusal::UnknownJob,
+    Refusal::StrangeReceipt,
+    Refusal::PrimaryStale,
+    Refusal::SplitBrain,
+    Refusal::Unrelated,
+    Refusal::UsedIdentifier,
+    Refusal::NotDrained,
+];
+
 /// The text below the usage of the program and of `script`.
 pub(crate) struct ScriptHelp;
 
@@ -267,7 +303,9 @@ impl Display for ScriptHelp {
 impl Display for RunHelp {
     fn fmt<W: fmt::Write>(&self, f: &mut fmt::Formatter<W>) -> fmt::Result {
         f.write_str(RUN)?;
-        write_refusals(f)?;
+        for refusal in RUN_REFUSALS {
+            writeln!(f, "  {:>2}  {refusal}", refusal.number())?;
+        }
         f.write_str(RUN_STATUSES)
     }
 }
@@ -275,7 +313,6 @@ impl Display for RunHelp {
 impl Display for TcpHelp {
     fn fmt<W: fmt::Write>(&self, f: &mut fmt::Formatter<W>) -> fmt::Result {
         f.write_str(TCP)?;
-        write_refusals(f)?;
         f.write_str(RUN_STATUSES)
     }
 }
@@ -283,7 +320,7 @@ impl Display for TcpHelp {
 impl Display for ServeHelp {
     fn fmt<W: fmt::Write>(&self, f: &mut fmt::Formatter<W>) -> fmt::Result {
         f.write_str(SERVE)?;
-        f.write_str(RUN_STATUSES)
+        f.write_str(SERVE_STATUSES)
     }
 }
 
@@ -292,7 +329,8 @@ impl Display for ServeHelp {
 fn is_met_by_scripts(refusal: &Refusal) -> bool {
     !matches!(
         refusal,
-        Refusal::NotCompleted
+        Refusal::LocalFault
+            | Refusal::NotCompleted
             | Refusal::StrangeReceipt
             | Refusal::BadMagic
             | Refusal::BadCommand
@@ -303,12 +341,4 @@ fn is_met_by_scripts(refusal: &Refusal) -> bool {
             | Refusal::OtherProtocol
             | Refusal::OtherSize
     )
-}
-
-// Writes a line for each refusal.
-fn write_refusals<W: fmt::Write>(f: &mut fmt::Formatter<W>) -> fmt::Result {
-    for refusal in REFUSALS {
-        writeln!(f, "  {:>2}  {refusal}", refusal.number())?;
-    }
-    Ok(())
 }

@@ -8,7 +8,7 @@ use std::alloc::{AllocError, Global};
 use std::convert::AsStr;
 
 const ABOUT: &str =
-    "Runs a pair of mirrored disks, after DRBD 8.4, from a script or by threads: without words, the script of standard input.";
+    "Mirrors two disks after DRBD 8.4: serves them to NBD clients (serve), tests them (run, tcp), or steps them by a script (the default).";
 
 /// What the program is to do.
 #[derive(Clone, Copy, Debug, PartialEq, Eq)]

@@ -1,5 +1,5 @@
-//! `drbdpair` runs a pair of mirrored disks: from a script, and prints what each of its commands did, or by threads,
-//! and prints the outcome of their session.
+//! `drbdpair` mirrors two disks after DRBD 8.4: serves them to clients of the network block device protocol (`serve`), tests
+//! them (`run`, `tcp`), or steps them by a script (the default).
 #![tactic(auto)]
 
 mod program;

@@ -7,7 +7,7 @@ ghost use Rattle.ruled_link.specs.Outward.{sending};
 use blocks::{BLOCK_BYTES, MemStore, Refusal, Settings, Tuple};
 use bytes::Bytes;
 use ruled_link::{PieceIn, PieceOut, RuledIn, RuledOut, row};
-use session_nodes::{Local, Peer};
+use session_nodes::{Local, Peer, Unknown};
 use std::alloc::Global;
 use std::sync::Wait;
 
@@ -32,10 +32,10 @@ const OWN: Tuple = Tuple {
 };
 
 /// A primary at the ends of two rows.
-pub(crate) type RowLocal<R> = Local<RuledOut<R>, RuledIn<R>, MemStore>;
+pub(crate) type RowLocal<R> = Local<Unknown, RuledOut<R>, RuledIn<R>, MemStore>;
 
 /// A secondary at the ends of two rows.
-pub(crate) type RowPeer<R> = Peer<RuledOut<R>, RuledIn<R>, MemStore>;
+pub(crate) type RowPeer<R> = Peer<Unknown, RuledOut<R>, RuledIn<R>, MemStore>;
 
 /// The other ends of a node's two rows.
 #[derive(Drop)]

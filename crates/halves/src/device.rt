@@ -1,5 +1,6 @@
 //! A mirrored device, as its callers see it.
-ghost use Rattle.std.specs.Prelude.{◌≡◌, ◌*◌, length, IfOk};
+ghost use Rattle.std.specs.Prelude.{◌≡◌, ◌⊎◌, ◌*◌, length, vec_len, IfErr, IfOk};
+ghost use Rattle.blocks.specs.declared.refusal.Refusal.TheVariants.{BadRange, NoMemory, ReadFault};
 
 use crate::Begun;
 use blocks::Refusal;
@@ -23,21 +24,25 @@ pub trait Device {
     ///
     /// It tries again on `Conflict` (2), `LogFull` (3) and `ActivityFull` (4), and returns every other refusal of
     /// `Primary::submit`: `BadRange` (1), `JournalFull` (5), `StreamFull` (6), `NoMemory` (7), `NotConnected` (12).
-    fn begin(&self, first: u64, bytes: &Bytes) -> Result<Begun, Refusal>
-        ensures range { IfOk result (λ begun. (begun.first ≡ first) × (begun.count * 4096 ≡ length bytes.now)) };
+    fn begin(&self, first: u64, bytes: Bytes) -> Result<Begun, Refusal>
+        ensures range { IfOk result (λ begun. (begun.first ≡ first) × (begun.count * 4096 ≡ length bytes)) }
+        ensures contents { IfOk result (λ begun. begun.contents ≡ bytes) };
 
     /// Waits until a write that was begun is completed as the protocol says, and returns its receipt.
     ///
     /// It returns the refusals of `Primary::take_completed` except `NotCompleted` (9): `LocalFault` (8), and
     /// `UnknownJob` (16) for a write of another session. A receipt of another range would be `UnknownJob` (16), too.
     fn complete(&self, begun: Begun) -> Result<Receipt, Refusal>
+        ensures number { IfOk result (λ receipt. receipt.number ≡ begun.number) }
         ensures own { IfOk result (λ receipt. (receipt.first ≡ begun.first) × (receipt.count ≡ begun.count)) };
 
     /// Reads blocks of the local disk, 1 to 32 inside the device and inside one extent.
     ///
     /// `BadRange` (1) if they are not, else `NoMemory` (7) if there is no memory for their bytes, else `ReadFault` (14)
     /// if the disk fails.
-    fn read(&self, first: u64, count: u64) -> Result<Vec<u8>, Refusal>;
+    fn read(&self, first: u64, count: u64) -> Result<Vec<u8>, Refusal>
+        ensures length { IfOk result (λ bytes. vec_len bytes ≡ count * 4096) }
+        ensures refused { IfErr result (λ e. (e ≡ BadRange) ⊎ ((e ≡ NoMemory) ⊎ (e ≡ ReadFault))) };
 
     /// Closes both ends of the link. Writers go on without it; writes under way are completed by the close.
     fn cut(&self);
@@ -66,7 +71,10 @@ pub trait Device {
     /// Returns how many writes were accepted, which is the number of the last one.
     fn accepted(&self) -> u64;
 
-    /// Returns whether each write up to this number is released: the local disk has done it, and the peer's disk has
-    /// its whole epoch, unless the write has no connection.
-    fn is_released(&self, number: u64) -> bool;
+    /// Returns the number up to which each write is released: the local disk has done it, and the peer's disk has its
+    /// whole epoch, unless the write has no connection.
+    fn released(&self) -> u64;
+
+    /// Returns how many items of its last connection the peer's disk has done. It starts anew with a connection.
+    fn applied(&self) -> u32;
 }

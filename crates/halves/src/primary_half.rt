@@ -1,4 +1,7 @@
 //! The primary's half.
+ghost use Rattle.std.specs.Prelude.{◌≡◌, ◌⊎◌, ◌*◌, vec_len, IfErr, IfOk};
+ghost use Rattle.blocks.specs.declared.refusal.Refusal.TheVariants.{BadRange, NoMemory, ReadFault};
+
 use bell::Bell;
 use blocks::{Done, Refusal};
 use bytes::Bytes;
@@ -13,10 +16,13 @@ pub trait PrimaryHalf {
     fn submit(&self, first: u64, bytes: &Bytes) -> Result<u64, Refusal>;
 
     /// Returns the receipt of a write, once.
-    fn take_completed(&self, number: u64) -> Result<Receipt, Refusal>;
+    fn take_completed(&self, number: u64) -> Result<Receipt, Refusal>
+        ensures number { IfOk result (λ receipt. receipt.number ≡ number) };
 
     /// Reads blocks of the local disk.
-    fn read(&self, first: u64, count: u64) -> Result<Vec<u8>, Refusal>;
+    fn read(&self, first: u64, count: u64) -> Result<Vec<u8>, Refusal>
+        ensures length { IfOk result (λ bytes. vec_len bytes ≡ count * 4096) }
+        ensures refused { IfErr result (λ e. (e ≡ BadRange) ⊎ ((e ≡ NoMemory) ⊎ (e ≡ ReadFault))) };
 
     /// Sends the next frame.
     fn send(&self) -> Result<Done, Refusal>;
@@ -46,8 +52,8 @@ pub trait PrimaryHalf {
     /// Returns how many writes were accepted, which is the number of the last one.
     fn accepted(&self) -> u64;
 
-    /// Returns whether each write up to this number is released.
-    fn is_released(&self, number: u64) -> bool;
+    /// Returns the number up to which each write is released.
+    fn released(&self) -> u64;
 
     /// Returns how many blocks are marked.
     fn marks(&self) -> u32;

@@ -31,6 +31,9 @@ pub trait SecondaryHalf {
     /// Returns whether the disk has an item to do.
     fn has_unfinished(&self) -> bool;
 
+    /// Returns how many items of the last connection the disk has done.
+    fn applied(&self) -> u32;
+
     /// Returns the node's status line, without a newline. `NoMemory` (7) if there is no memory for it.
     fn status_line(&self, alloc: Global) -> Result<String, Refusal>;
 

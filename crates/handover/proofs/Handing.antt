@@ -10,7 +10,8 @@ use Rattle.blocks.specs.SettingsRange.{IsInRange}
 use Rattle.blocks.specs.declared.settings.Settings.{Settings}
 use Rattle.blocks.specs.declared.tuple.Tuple.{Tuple}
 use Rattle.handover.specs.Left.{left_by}
-use Rattle.handover.specs.Next.{IsLeft, opening_of}
+use Rattle.halves.specs.Opening.{opening_of}
+use Rattle.handover.specs.Next.{IsLeft}
 use Rattle.handover.proofs.Leaving.{leaves_an_opening}
 use Rattle.model.specs.Contents.{IsDisk}
 use Rattle.model.specs.Headline.{IsJoined, IsGrounded, Cover, is_marked}
@@ -64,6 +65,10 @@ marks-left p marks blocks size is block = ap (λ (l : List Bool). unwrap_or (sli
       ap (λ (v : Option Bool). unwrap_or v false) (slice_get_past (map (is_marked p) (below blocks)) block few)
       ∙ sym (ap (λ (b : Bool). b && p.marks block) (le-ltb block p.settings.blocks (subst (λ (n : ℕ). n ≤ block) size past)))
 ]
+
+-- one mark for each block of the device
+pub length-left : (p : PrimaryHistory) (marks : List Bool) (blocks : ℕ) → marks ≡ map (is_marked p) (below blocks) → length marks ≡ blocks
+length-left p marks blocks is = ap (λ (l : List Bool). length l) is ∙ length-marks blocks (is_marked p)
 
 -- The parts that are left over the disks as they are: the same opening, over settings that both nodes have.
 pub parts-sound : (parts : Parts) (p : PrimaryHistory) (s : SecondaryHistory) → IsLeft parts p s → p.settings ≡ s.settings

@@ -1,25 +1,11 @@
--- What a session starts from, as an opening.
-use Rattle.std.specs.Prelude.{ℕ, ◌≡◌, Bool, false, ◌&&◌, if◌then◌else◌, is_ok, slice_get, unwrap_or}
+-- What the next session starts from.
+use Rattle.std.specs.Prelude.{ℕ, ◌≡◌, Bool, false, ◌&&◌, if◌then◌else◌, is_ok, length, slice_get, unwrap_or}
 use Rattle.blocks.specs.Identifiers.{decision}
 use Rattle.blocks.specs.declared.tuple.Tuple.{Tuple}
-use Rattle.model.specs.Contents.{BlockMap}
 use Rattle.model.specs.Headline.{is_marked}
 use Rattle.model.specs.Primary.{PrimaryHistory}
 use Rattle.model.specs.Secondary.{SecondaryHistory}
-use Rattle.model.specs.Theorems.{Opening}
 use Rattle.halves.specs.declared.parts.Parts.{Parts}
-
--- the opening of a session of these parts over these two disks
-abbrev pub opening_of : Parts → BlockMap → BlockMap → Opening
-opening_of parts local peer = record {
-  settings = parts.settings;
-  peer_settings = parts.settings;
-  local = local;
-  peer = peer;
-  own = parts.own;
-  peer_tuple = parts.peer;
-  marks = λ block. unwrap_or (slice_get parts.marks.items block) false;
-}
 
 -- the identifiers of an unknown disk
 abbrev pub unknown : Tuple
@@ -29,9 +15,11 @@ unknown = record { current = 0; bitmap = 0; first_historical = 0; second_histori
 abbrev pub identifiers_of : Bool → Tuple → Tuple → Tuple
 identifiers_of consistent peer own = if consistent && is_ok (decision own peer) then peer else unknown
 
--- The parts that two nodes leave: the primary's settings, identifiers and marks; and what the peer's disk is known by.
+-- The parts that two nodes leave: the primary's settings, identifiers and marks, one for each block; and what the peer's
+-- disk is known by.
 pub record IsLeft (parts : Parts) (p : PrimaryHistory) (s : SecondaryHistory) : Type 0 where
   pub settings : parts.settings ≡ p.settings
   pub own : parts.own ≡ p.tuple
   pub peer : parts.peer ≡ identifiers_of s.consistent s.tuple p.tuple
   pub marks : (block : ℕ) → unwrap_or (slice_get parts.marks.items block) false ≡ is_marked p block
+  pub length : length parts.marks.items ≡ parts.settings.blocks

@@ -2,7 +2,8 @@
 ghost use Rattle.std.specs.Prelude.{◌≡◌, ◌⊎◌, ◌↔◌, false, map, Err, IfErr, IfOk};
 ghost use Rattle.blocks.specs.Ranges.{below};
 ghost use Rattle.blocks.specs.declared.refusal.Refusal.TheVariants.{BadSetting, NoMemory, NotDrained};
-ghost use Rattle.handover.specs.Next.{IsLeft, identifiers_of, opening_of};
+ghost use Rattle.halves.specs.Opening.{opening_of};
+ghost use Rattle.handover.specs.Next.{IsLeft, identifiers_of};
 ghost use Rattle.model.specs.Headline.{IsGrounded, IsJoined, is_marked};
 ghost use Rattle.model.specs.Primary.{PrimaryHistory, local_map};
 ghost use Rattle.model.specs.Secondary.{SecondaryHistory, secondary_map};
@@ -59,6 +60,8 @@ pub fn parts_after<
         → IsJoined p s → WereHonest p s → IsGrounded p s → IsSoundOpening (opening_of parts (local_map p) (secondary_map s))) }
     ensures rest { (p : PrimaryHistory) (s : SecondaryHistory) → PrimaryHas (primary_node primary.now) p → SecondaryHas (secondary_node secondary.now) s
         → (result ≡ Err NotDrained) ↔ (is_at_rest p s ≡ false) }
+    ensures same { IfOk result (λ _. (p : PrimaryHistory) (s : SecondaryHistory) → PrimaryHas (primary_node primary.now) p → SecondaryHas (secondary_node secondary.now) s
+        → p.settings ≡ s.settings) }
     ensures settings { (p : PrimaryHistory) (s : SecondaryHistory) → PrimaryHas (primary_node primary.now) p → SecondaryHas (secondary_node secondary.now) s
         → result ≡ Err BadSetting → p.settings ≡ s.settings → ⊥ }
     ensures refused { IfErr result (λ e. (e ≡ NotDrained) ⊎ ((e ≡ BadSetting) ⊎ (e ≡ NoMemory))) }

@@ -18,6 +18,7 @@ pub struct ImageStore<F> {
     file: F,
     memory: MemStore,
     faults: GhostCount,
+    is_torn: bool,
 }
 
 impl<F> Model for ImageStore<F> {
@@ -42,7 +43,15 @@ impl<F: FileExt> ImageStore<F> {
             file,
             memory,
             faults: GhostCount::new(),
+            is_torn: false,
         }
+    }
+
+    /// Returns whether the file may have kept a part of a write that it refused: the store could not write back what
+    /// memory has there, nor read it from the file. Memory, from which all reads are served, has nothing of that write. A
+    /// later write to the same place does not change the answer.
+    pub fn is_torn(&self) -> bool {
+        self.is_torn
     }
 }
 
@@ -104,7 +113,8 @@ impl<F: FileExt> Store for ImageStore<F> {
             .write_all_at(bytes, position(range.first))
             .is_err()
         {
-            put_back(&self.file, &mut self.memory, range);
+            let is_whole = put_back(&self.file, &mut self.memory, range);
+            self.is_torn = self.is_torn || !is_whole;
             self.faults = self.faults.more();
             return Err(StoreFault);
         }
@@ -131,17 +141,27 @@ fn position(block: Block) -> u64
 }
 
 /// Writes the blocks of the range back to the file as memory has them, each by itself, so that the file has those that
-/// it accepts.
-fn put_back<F: FileExt>(file: &F, memory: &mut MemStore, range: Range)
+/// it accepts. Returns whether the file has them all.
+fn put_back<F: FileExt>(file: &F, memory: &mut MemStore, range: Range) -> bool
     requires inside { range.first.0 + range.count ≤ length memory.old }
     requires few { length memory.old ≤ 262144 }
     ensures { memory.new ≡ memory.old }
 {
     let mut bytes = [0u8; BLOCK_BYTES];
+    let mut is_whole = true;
     for place in 0..range.count {
         let block = Block(range.first.0 + place);
         if memory.read(block, &mut bytes).is_ok() {
-            let _ = file.write_all_at(&bytes, position(block));
+            is_whole = put_block(file, &bytes, position(block)) && is_whole;
         }
     }
+    is_whole
+}
+
+/// Writes a block to the file. Returns whether the file has it, also if the write failed: one that is refused, for lack of
+/// room for example, may have changed nothing.
+fn put_block<F: FileExt>(file: &F, bytes: &[u8; BLOCK_BYTES], position: u64) -> bool {
+    let mut found = [0u8; BLOCK_BYTES];
+    file.write_all_at(bytes, position).is_ok()
+        || (file.read_exact_at(&mut found, position).is_ok() && found == *bytes)
 }

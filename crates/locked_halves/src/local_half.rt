@@ -1,5 +1,8 @@
 //! The primary under its lock.
+ghost use Rattle.std.specs.Prelude.{◌≡◌, false, slice_get, unwrap_or, IfSome};
 ghost use Rattle.endpoint.specs.Calls.{IsNewIn, IsNewOut};
+ghost use Rattle.model.specs.Primary.{primary_opening};
+ghost use Rattle.model.specs.Theorems.{primary_at};
 ghost use Rattle.session_nodes.specs.Primaries.{PrimaryIsHad};
 
 use bell::Bell;
@@ -9,22 +12,34 @@ use halves::PrimaryHalf;
 use link::{FrameIn, FrameOut};
 use node_lines::primary_line;
 use primary::{Primary, Receipt};
-use session_nodes::Local;
+use session_nodes::{Beginning, Local};
 use std::alloc::Global;
 use std::sync::{Mutex, Wait};
 use turns::{LocalRole, Turn};
 
 /// The primary under its lock.
 #[derive(Drop)]
-pub struct LocalHalf<R: Wait + Drop, O: FrameOut + Drop, I: FrameIn + Drop, S: Store + Drop> {
+pub struct LocalHalf<
+    R: Wait + Drop,
+    B: Beginning,
+    O: FrameOut + Drop,
+    I: FrameIn + Drop,
+    S: Store + Drop,
+> {
     rt: R,
-    node: Mutex<Local<O, I, S>>,
+    node: Mutex<Local<B, O, I, S>>,
     work: Bell,
     writers: Bell,
     sent: Bell,
 }
 
-impl<R: Wait + Drop, O: FrameOut + Drop, I: FrameIn + Drop, S: Store + Drop> LocalHalf<R, O, I, S> {
+impl<
+    R: Wait + Drop,
+    B: Beginning,
+    O: FrameOut + Drop,
+    I: FrameIn + Drop,
+    S: Store + Drop,
+> LocalHalf<R, B, O, I, S> {
     /// Creates the half of a primary over this disk, opened over unused ends of a link under two words. The refusals
     /// are those of `Local::open`.
     pub fn open(
@@ -36,9 +51,11 @@ impl<R: Wait + Drop, O: FrameOut + Drop, I: FrameIn + Drop, S: Store + Drop> Loc
         marks: Vec<bool>,
         link: (O, I),
         words: (u64, u64),
-    ) -> Result<LocalHalf<R, O, I, S>, Refusal>
+    ) -> Result<LocalHalf<R, B, O, I, S>, Refusal>
         requires outward { IsNewOut (O.state link.0) }
         requires inward { IsNewIn (I.state link.1) }
+        requires began { IfSome B.opening (λ opening. primary_opening settings (slice_get (S.contents store)) tuple (λ block. unwrap_or (slice_get marks.items block) false)
+            ≡ primary_at opening) }
     {
         match Local::open(alloc, settings, store, tuple, marks, link, words) {
             Ok(node) => Ok(LocalHalf {
@@ -52,16 +69,21 @@ impl<R: Wait + Drop, O: FrameOut + Drop, I: FrameIn + Drop, S: Store + Drop> Loc
         }
     }
 
-    /// Takes the node out of its lock. It has a history whose connections all used its ends.
+    /// Takes the node out of its lock. It has a history that began as the half did, and whose connections all used its ends.
     pub fn into_node(self) -> Primary<O, I, S>
-        ensures { PrimaryIsHad result }
+        ensures { PrimaryIsHad B.opening result }
     {
         self.node.into_inner().into_node()
     }
 }
 
-impl<R: Wait + Drop, O: FrameOut + Drop, I: FrameIn + Drop, S: Store + Drop> PrimaryHalf
-    for LocalHalf<R, O, I, S> {
+impl<
+    R: Wait + Drop,
+    B: Beginning,
+    O: FrameOut + Drop,
+    I: FrameIn + Drop,
+    S: Store + Drop,
+> PrimaryHalf for LocalHalf<R, B, O, I, S> {
     fn submit(&self, first: u64, bytes: &Bytes) -> Result<u64, Refusal> {
         let (number, _) = self.node.lock(&self.rt).submit(first, bytes)?;
         Ok(number)
@@ -97,11 +119,7 @@ impl<R: Wait + Drop, O: FrameOut + Drop, I: FrameIn + Drop, S: Store + Drop> Pri
     }
 
     fn close_lost(&self, connection: u32) {
-        let mut node = self.node.lock(&self.rt);
-        if node.node().connections() <= connection {
-            let _ = node.close();
-        }
-        drop(node);
+        self.node.lock(&self.rt).close_lost(connection);
         self.writers.ring_all(&self.rt);
     }
 
@@ -114,20 +132,15 @@ impl<R: Wait + Drop, O: FrameOut + Drop, I: FrameIn + Drop, S: Store + Drop> Pri
     }
 
     fn is_quiet(&self) -> bool {
-        let local = self.node.lock(&self.rt);
-        let node = local.node();
-        !node.is_open() || (node.is_established() && node.marks() == 0 && node.open_epochs() == 0)
+        self.node.lock(&self.rt).is_quiet()
     }
 
     fn accepted(&self) -> u64 {
         self.node.lock(&self.rt).node().accepted()
     }
 
-    fn is_released(&self, number: u64) -> bool {
-        match self.node.lock(&self.rt).node().first_unreleased() {
-            Some(first) => number < first,
-            None => true,
-        }
+    fn released(&self) -> u64 {
+        self.node.lock(&self.rt).released()
     }
 
     fn marks(&self) -> u32 {

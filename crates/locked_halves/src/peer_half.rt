@@ -1,5 +1,8 @@
 //! The secondary under its lock.
+ghost use Rattle.std.specs.Prelude.{◌≡◌, slice_get, IfSome};
 ghost use Rattle.endpoint.specs.Calls.{IsNewIn, IsNewOut};
+ghost use Rattle.model.specs.Secondary.{secondary_opening};
+ghost use Rattle.model.specs.Theorems.{secondary_at};
 ghost use Rattle.session_nodes.specs.Secondaries.{SecondaryIsHad};
 
 use bell::Bell;
@@ -8,21 +11,33 @@ use halves::SecondaryHalf;
 use link::{FrameIn, FrameOut};
 use node_lines::secondary_line;
 use secondary::Secondary;
-use session_nodes::Peer;
+use session_nodes::{Beginning, Peer};
 use std::alloc::Global;
 use std::sync::{Mutex, Wait};
 use turns::{PeerRole, Turn};
 
 /// The secondary under its lock.
 #[derive(Drop)]
-pub struct PeerHalf<R: Wait + Drop, O: FrameOut + Drop, I: FrameIn + Drop, S: Store + Drop> {
+pub struct PeerHalf<
+    R: Wait + Drop,
+    B: Beginning,
+    O: FrameOut + Drop,
+    I: FrameIn + Drop,
+    S: Store + Drop,
+> {
     rt: R,
-    node: Mutex<Peer<O, I, S>>,
+    node: Mutex<Peer<B, O, I, S>>,
     work: Bell,
     sent: Bell,
 }
 
-impl<R: Wait + Drop, O: FrameOut + Drop, I: FrameIn + Drop, S: Store + Drop> PeerHalf<R, O, I, S> {
+impl<R: Wait + Drop, B: Beginning, O: FrameOut + Drop, I: FrameIn + Drop, S: Store + Drop> PeerHalf<
+    R,
+    B,
+    O,
+    I,
+    S,
+> {
     /// Creates the half of a secondary over this disk, opened over unused ends of a link. The refusals are those of
     /// `Peer::open`.
     pub fn open(
@@ -32,9 +47,10 @@ impl<R: Wait + Drop, O: FrameOut + Drop, I: FrameIn + Drop, S: Store + Drop> Pee
         store: S,
         tuple: Tuple,
         link: (O, I),
-    ) -> Result<PeerHalf<R, O, I, S>, Refusal>
+    ) -> Result<PeerHalf<R, B, O, I, S>, Refusal>
         requires outward { IsNewOut (O.state link.0) }
         requires inward { IsNewIn (I.state link.1) }
+        requires began { IfSome B.opening (λ opening. secondary_opening settings (slice_get (S.contents store)) tuple ≡ secondary_at opening) }
     {
         match Peer::open(alloc, settings, store, tuple, link) {
             Ok(node) => Ok(PeerHalf {
@@ -47,16 +63,21 @@ impl<R: Wait + Drop, O: FrameOut + Drop, I: FrameIn + Drop, S: Store + Drop> Pee
         }
     }
 
-    /// Takes the node out of its lock. It has a history whose connections all used its ends.
+    /// Takes the node out of its lock. It has a history that began as the half did, and whose connections all used its ends.
     pub fn into_node(self) -> Secondary<O, I, S>
-        ensures { SecondaryIsHad result }
+        ensures { SecondaryIsHad B.opening result }
     {
         self.node.into_inner().into_node()
     }
 }
 
-impl<R: Wait + Drop, O: FrameOut + Drop, I: FrameIn + Drop, S: Store + Drop> SecondaryHalf
-    for PeerHalf<R, O, I, S> {
+impl<
+    R: Wait + Drop,
+    B: Beginning,
+    O: FrameOut + Drop,
+    I: FrameIn + Drop,
+    S: Store + Drop,
+> SecondaryHalf for PeerHalf<R, B, O, I, S> {
     fn receive(&self) -> Result<Done, Refusal> {
         self.node.lock(&self.rt).receive()
     }
@@ -74,10 +95,7 @@ impl<R: Wait + Drop, O: FrameOut + Drop, I: FrameIn + Drop, S: Store + Drop> Sec
     }
 
     fn close_lost(&self, connection: u32) {
-        let mut node = self.node.lock(&self.rt);
-        if node.node().number() <= connection {
-            let _ = node.close();
-        }
+        self.node.lock(&self.rt).close_lost(connection);
     }
 
     fn may_reopen(&self) -> Result<(), Refusal> {
@@ -90,6 +108,10 @@ impl<R: Wait + Drop, O: FrameOut + Drop, I: FrameIn + Drop, S: Store + Drop> Sec
 
     fn has_unfinished(&self) -> bool {
         self.node.lock(&self.rt).has_unfinished()
+    }
+
+    fn applied(&self) -> u32 {
+        self.node.lock(&self.rt).node().items_applied()
     }
 
     fn status_line(&self, alloc: Global) -> Result<String, Refusal> {

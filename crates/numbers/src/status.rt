@@ -10,7 +10,7 @@ use blocks::Refusal;
 pub enum Status {
     /// It did all that it was to do, though some of it may have been refused.
     Done,
-    /// A file or memory failed, or the script is not UTF-8.
+    /// A file, the output or memory failed, or the script is not UTF-8.
     Failed,
     /// The arguments were wrong, or a line stopped the script.
     Misused,

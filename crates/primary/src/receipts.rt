@@ -1,5 +1,5 @@
 //! Receipts of completed writes.
-ghost use Rattle.std.specs.Prelude.{◌≡◌};
+ghost use Rattle.std.specs.Prelude.{◌≡◌, IfOk};
 ghost use Rattle.primary_protocol.specs.Node.{IsStep, take_receipt};
 ghost use Rattle.primary.specs.Receipts.{kind_as, receipt_in};
 ghost use Rattle.primary.specs.State.{node};
@@ -108,6 +108,7 @@ impl<O: FrameOut + Drop, I: FrameIn + Drop, S: Store + Drop> Primary<O, I, S> {
     /// the write is open; `LocalFault` (8), once, if the disk failed it. It takes no memory, and constant time.
     pub fn take_completed(&mut self, number: u64) -> Result<Receipt, Refusal>
         ensures step { IsStep (take_receipt number) (node self.old) result (node self.new) }
+        ensures number { IfOk result (λ receipt. receipt.number ≡ number) }
         ensures rest { self.new ≡ record self.old { core = self.new.core } }
     {
         let entry = self.core.take_completed(number)?;

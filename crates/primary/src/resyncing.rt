@@ -44,7 +44,7 @@ impl<O: FrameOut + Drop, I: FrameIn + Drop, S: Store + Drop> Primary<O, I, S> {
 
 impl<O: FrameOut + Drop, I: FrameIn + Drop> Primary<O, I, FaultStore> {
     /// Has the disk fail the read of the block that the resync copies next, and does what `resync_next` does then:
-    /// it is refused, with `ReadFault` (14) at the last_writes. If that is the refusal, no read is armed on the disk
+    /// it is refused, with `ReadFault` (14) at the last. If that is the refusal, no read is armed on the disk
     /// afterwards.
     pub fn resync_fault(&mut self) -> Result<Done, Refusal>
         ensures step { NodeSteps (FailsResync (is_out_of_memory result)) (node self.old) (replied reply.Ok result) (node self.new) }

@@ -1,5 +1,5 @@
 -- A request that has ended.
-use Rattle.std.specs.Prelude.{Bool, ℕ, ◌*◌}
+use Rattle.std.specs.Prelude.{Bool, true, false, ℕ, ◌*◌}
 use Rattle.nbd.specs.declared.command.Command.{Command}
 use Rattle.nbd.specs.declared.command.Command.TheVariants.{Read, Write, Disconnect, Flush, WriteZeroes}
 use Rattle.nbd.specs.declared.request.Request.{Request}
@@ -11,6 +11,19 @@ data_bytes Write block_count = 0
 data_bytes Disconnect block_count = 0
 data_bytes Flush block_count = 0
 data_bytes WriteZeroes block_count = 0
+
+-- whether a command asks for stable storage, with FUA or without: FUA concerns only the data that the command writes (NBD
+-- protocol, "Command flags")
+abbrev pub command_syncs : Command → Bool → Bool
+command_syncs Read fua = false
+command_syncs Write fua = fua
+command_syncs Disconnect fua = false
+command_syncs Flush fua = true
+command_syncs WriteZeroes fua = fua
+
+-- whether the reply to a request waits for stable storage
+abbrev pub asks_for_sync : Request → Bool
+asks_for_sync request = command_syncs request.command request.fua
 
 -- the request, and whether it was done
 pub record EndedState : Type 0 where

@@ -1,8 +1,9 @@
 -- The receipts of what a request writes.
-use Rattle.std.specs.Prelude.{ℕ, ◌≡◌, List, ◌++◌, map}
+use Rattle.std.specs.Prelude.{true, ℕ, ◌≡◌, ◌*◌, List, [], ◌∷◌, ◌++◌, All, flat_map, length, map, replicate, Result, is_ok, OnOk}
 use Rattle.model.specs.Settlement.{Receipt}
 use Rattle.nbd.specs.Pieces.{pieces}
 use Rattle.nbd.specs.declared.command.Command.TheVariants as command
+use Rattle.nbd.specs.declared.errno.Errno.{Errno}
 use Rattle.nbd.specs.declared.request.Request.{Request}
 use Rattle.halves.specs.Begun.{BegunState}
 
@@ -14,13 +15,41 @@ range_of receipt = (receipt.first, receipt.count)
 abbrev pub span_of : BegunState → ℕ × ℕ
 span_of begun = (begun.first, begun.count)
 
+-- the bytes of writes that were begun, one after another
+abbrev pub begun_bytes : List BegunState → List ℕ
+begun_bytes begun = flat_map (λ b. b.contents) begun
+
+-- A write that was begun has the bytes of its blocks.
+abbrev pub IsWhole : BegunState → Type 0
+IsWhole begun = length begun.contents ≡ begun.count * 4096
+
+-- A write that was begun fills its blocks with zeros.
+abbrev pub IsZeros : BegunState → Type 0
+IsZeros begun = begun.contents ≡ replicate (begun.count * 4096) 0
+
+-- One write of this range and these bytes was appended, and nothing else.
+pub record BeginsOne (range : ℕ × ℕ) (bytes : List ℕ) (old new : List BegunState) : Type 0 where
+  pub begun : BegunState
+  pub appended : new ≡ old ++ begun ∷ []
+  pub span : span_of begun ≡ range
+  pub contents : begun.contents ≡ bytes
+
 -- One of each of these ranges was appended, in their order, and nothing else.
 pub record HasMore {A : Type 0} (range : A → ℕ × ℕ) (ranges : List (ℕ × ℕ)) (old new : List A) : Type 0 where
   pub more : List A
   pub appended : new ≡ old ++ more
   pub each : map range more ≡ ranges
 
--- What was begun is all that a WRITE or WRITE_ZEROES writes.
+-- What was begun is all that a WRITE or WRITE_ZEROES writes: each range has its part of the payload, one after another from
+-- its front, or zeros.
 pub record HasBegun (request : Request) (begun : List BegunState) : Type 0 where
   pub written : request.command ≡ command.Write → map span_of begun ≡ pieces request.first_block request.block_count
+  pub contents : request.command ≡ command.Write → (rest : List ℕ) × (begun_bytes begun ++ rest ≡ request.payload)
+  pub whole : request.command ≡ command.Write → All IsWhole begun
   pub zeroed : request.command ≡ command.WriteZeroes → map span_of begun ≡ pieces request.first_block request.block_count
+  pub zeros : request.command ≡ command.WriteZeroes → All IsZeros begun
+
+-- What was begun, and whether all was: a FLUSH begins nothing, and that is not refused.
+pub record Begins (request : Request) (begins : Result Unit Errno) (begun : List BegunState) : Type 0 where
+  pub all : OnOk begins (HasBegun request begun)
+  pub flush : request.command ≡ command.Flush → (is_ok begins ≡ true) × (begun ≡ [])

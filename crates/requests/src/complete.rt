@@ -1,5 +1,6 @@
 //! Waiting for the writes of a request.
-ghost use Rattle.std.specs.Prelude.{◌∷◌, [], map, OnOk};
+ghost use Rattle.std.specs.Prelude.{◌≡◌, List, ◌∷◌, ◌++◌, [], true, map, is_ok, OnOk};
+ghost use Rattle.model.specs.Settlement.{Receipt as Denoted};
 ghost use Rattle.requests.specs.Receipts.{HasMore, range_of, span_of};
 
 use crate::perform::errno_of;
@@ -8,13 +9,15 @@ use nbd::Errno;
 use primary::Receipt;
 
 /// Waits for all writes that were begun, one after another, and keeps their receipts. If any fails, waits for the
-/// others too.
+/// others too. The receipts of earlier writes stay.
 pub(crate) fn complete_all(
     device: &impl Device,
     begun: Vec<Begun>,
     receipts: &mut Vec<Receipt>,
 ) -> Result<(), Errno>
-    ensures { OnOk result (HasMore range_of (map span_of begun.items) receipts.old.items receipts.new.items) }
+    ensures all { OnOk result (HasMore range_of (map span_of begun.items) receipts.old.items receipts.new.items) }
+    ensures kept { (more : List Denoted) × (receipts.new.items ≡ receipts.old.items ++ more) }
+    ensures none { begun.items ≡ [] → is_ok result ≡ true }
 {
     let mut all = Ok(());
     for write in begun {
@@ -27,7 +30,8 @@ pub(crate) fn complete_all(
 
 // Waits for a write, and keeps its receipt.
 fn complete(device: &impl Device, write: Begun, receipts: &mut Vec<Receipt>) -> Result<(), Errno>
-    ensures { OnOk result (HasMore range_of (span_of write ∷ []) receipts.old.items receipts.new.items) }
+    ensures one { OnOk result (HasMore range_of (span_of write ∷ []) receipts.old.items receipts.new.items) }
+    ensures kept { (more : List Denoted) × (receipts.new.items ≡ receipts.old.items ++ more) }
 {
     let receipt = match device.complete(write) {
         Ok(receipt) => receipt,

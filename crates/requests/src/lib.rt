@@ -2,6 +2,7 @@
 //! for its replies.
 #![tactic(auto)]
 
+mod answer;
 mod complete;
 mod ended;
 mod medium;
@@ -10,9 +11,13 @@ mod payload;
 mod perform;
 mod release;
 mod requests;
+mod syncs;
 mod under_way;
+mod zeros;
 
+pub use answer::Answer;
 pub use ended::Ended;
 pub use pace::time_left;
 pub use requests::Requests;
+pub use syncs::asks_for_sync;
 pub use under_way::UnderWay;

@@ -1,17 +1,19 @@
 //! Reading ranges of a device, and beginning to write them, one after another.
-ghost use Rattle.std.specs.Prelude.{◌≡◌, ◌*◌, ◌<◌, ◌^◌, ◌∷◌, [], length, vec_len, IfOk, OnOk};
+ghost use Rattle.std.specs.Prelude.{◌≡◌, ◌*◌, ◌<◌, ◌^◌, ◌++◌, All, List, ℕ, length, vec_len, IfOk, OnOk};
 ghost use Rattle.nbd.specs.Pieces.{pair_of};
-ghost use Rattle.requests.specs.Receipts.{HasMore, span_of};
+ghost use Rattle.requests.specs.Receipts.{BeginsOne, HasMore, IsWhole, IsZeros, begun_bytes, span_of};
 
-use crate::payload::{front, zeros};
+use crate::payload::front;
 use crate::requests::Requests;
+use crate::zeros::Zeros;
 use blocks::{BLOCK_BYTES, Range, Refusal};
 use bytes::Bytes;
 use halves::{Begun, Device};
 use nbd::{Errno, Ranges};
 use std::alloc::Global;
 
-/// Reads these ranges, which have `count` blocks together.
+/// Reads these ranges, which have `count` blocks together. `NoMemory` if there is no memory for all of them, before any is
+/// read.
 pub(crate) fn read(
     alloc: Global,
     device: &impl Device,
@@ -21,7 +23,9 @@ pub(crate) fn read(
     requires { count * 4096 < 2 ^ 64 }
     ensures { IfOk result (λ read. vec_len read ≡ count * 4096) }
 {
-    let mut data = Vec::new(alloc);
+    let Ok(mut data) = Vec::with_capacity(alloc, count as usize * BLOCK_BYTES) else {
+        return Err(Errno::NoMemory);
+    };
     for range in ranges {
         let mut bytes = device.read(range.first.0, range.count).map_err(errno_of)?;
         data.append(&mut bytes).map_err(|_| Errno::NoMemory)?;
@@ -41,42 +45,47 @@ pub(crate) fn begin_write(
     payload: Bytes,
     begun: &mut Vec<Begun>,
 ) -> Result<(), Errno>
-    ensures { OnOk result (HasMore span_of ranges begun.old.items begun.new.items) }
+    ensures ranges { OnOk result (HasMore span_of ranges begun.old.items begun.new.items) }
+    ensures contents { OnOk result ((rest : List ℕ) × (begun_bytes begun.new.items ++ rest ≡ begun_bytes begun.old.items ++ payload)) }
+    ensures whole { OnOk result (All IsWhole begun.old.items → All IsWhole begun.new.items) }
 {
     let mut payload = payload;
     for range in ranges {
         let bytes = front(&mut payload, range.count)?;
-        begin_range(requests, device, range, &bytes, begun)?;
+        begin_range(requests, device, range, bytes, begun)?;
     }
     Ok(())
 }
 
-/// Begins to write zeros to these ranges.
+/// Begins to write zeros to these ranges, which have `count` blocks together.
 pub(crate) fn begin_zeroes(
     requests: &Requests,
     device: &impl Device,
     ranges: Ranges,
+    count: u64,
     begun: &mut Vec<Begun>,
 ) -> Result<(), Errno>
-    ensures { OnOk result (HasMore span_of ranges begun.old.items begun.new.items) }
+    ensures ranges { OnOk result (HasMore span_of ranges begun.old.items begun.new.items) }
+    ensures zeros { OnOk result (All IsZeros begun.old.items → All IsZeros begun.new.items) }
 {
+    let zeros = Zeros::new(requests.alloc, count)?;
     for range in ranges {
-        let bytes = zeros(requests.alloc, range.count)?;
-        begin_range(requests, device, range, &bytes, begun)?;
+        let bytes = zeros.front(range.count)?;
+        begin_range(requests, device, range, bytes, begun)?;
     }
     Ok(())
 }
 
-// Begins to write one range.
+// Begins to write these bytes to one range.
 fn begin_range(
     requests: &Requests,
     device: &impl Device,
     range: Range,
-    bytes: &Bytes,
+    bytes: Bytes,
     begun: &mut Vec<Begun>,
 ) -> Result<(), Errno>
-    requires { length bytes.now ≡ range.count * 4096 }
-    ensures { OnOk result (HasMore span_of (pair_of range ∷ []) begun.old.items begun.new.items) }
+    requires { length bytes ≡ range.count * 4096 }
+    ensures { OnOk result (BeginsOne (pair_of range) bytes begun.old.items begun.new.items) }
 {
     requests.count_write();
     if begun.try_reserve(1).is_err() {

@@ -12,7 +12,7 @@ const PAUSE_MS: u64 = 1;
 pub(crate) fn wait_for_release<R: Wait + Clock>(rt: &R, device: &impl Device) {
     let last = device.accepted();
     for _ in rt.forever() {
-        if device.is_released(last) {
+        if device.released() >= last {
             break;
         }
         thread::sleep(rt, Duration::from_millis(PAUSE_MS));

@@ -1,15 +1,18 @@
 //! Requests over a device.
-ghost use Rattle.std.specs.Prelude.{◌≡◌, ◌≢◌, [], true, false, vec_len, is_ok, IfOk, OnOk};
+ghost use Rattle.std.specs.Prelude.{◌≡◌, List, ◌++◌, [], true, false, None, vec_len, is_ok, IfOk, OnOk};
+ghost use Rattle.model.specs.Settlement.{Receipt as Denoted};
 ghost use Rattle.nbd.specs.Pieces.{pieces};
 ghost use Rattle.nbd.specs.declared.command.Command.TheVariants as command;
-ghost use Rattle.requests.specs.Ended.{data_bytes};
-ghost use Rattle.requests.specs.Receipts.{HasBegun, HasMore, range_of};
+ghost use Rattle.requests.specs.Ended.{asks_for_sync, data_bytes};
+ghost use Rattle.requests.specs.Receipts.{Begins, HasMore, range_of};
 
+use crate::answer::Answer;
 use crate::complete::complete_all;
 use crate::ended::Ended;
 use crate::medium::Medium;
 use crate::perform::{begin_write, begin_zeroes, read};
 use crate::release::wait_for_release;
+use crate::syncs::asks_for_sync;
 use crate::under_way::UnderWay;
 use blocks::Protocol;
 use halves::{Begun, Device};
@@ -78,9 +81,9 @@ impl Requests {
         }
     }
 
-    /// Waits until a request is done, but for what it asks of stable storage: a WRITE or WRITE_ZEROES once each of its ranges
-    /// has its receipt, which is appended, and a READ once it has its bytes. A caller with many requests that ask for stable
-    /// storage ends them all, and then stores one after another: they share a sync.
+    /// Waits until the reads and writes of a request are done: those of a WRITE or WRITE_ZEROES once each of its ranges has its
+    /// receipt, which is appended to the earlier ones, and those of a READ once it has its bytes. It does not sync. A caller with
+    /// many requests that ask for stable storage ends them all, and then finishes one after another: they share a sync.
     ///
     /// It fails with `Invalid` (EINVAL) for a range that the device refuses and for DISC, which has no reply; `NoMemory`
     /// (ENOMEM) if there is no memory; `InputOutput` (EIO) if a disk or a file failed, or the session has no room left. Then
@@ -96,6 +99,8 @@ impl Requests {
             → HasMore range_of (pieces under_way.first_block under_way.block_count) receipts.old.items receipts.new.items }
         ensures zeroed { under_way.command ≡ command.WriteZeroes → result.is_done ≡ true
             → HasMore range_of (pieces under_way.first_block under_way.block_count) receipts.old.items receipts.new.items }
+        ensures kept { (more : List Denoted) × (receipts.new.items ≡ receipts.old.items ++ more) }
+        ensures flush { under_way.command ≡ command.Flush → result.is_done ≡ true }
     {
         let UnderWay {
             request,
@@ -108,8 +113,8 @@ impl Requests {
             (Ok(()), Ok(())) => self.read_data(device, &request),
             (Err(errno), _) | (_, Err(errno)) => Err(errno),
         };
-        // A FLUSH owes stable storage to what was answered before it began. The writes of any other request are in the files
-        // only now, so a round has to begin from now on.
+        // A FLUSH is for what was answered before it began, so any round that begins after that does. The writes of any other
+        // request are in the files only now, so its round has to begin from now on.
         let round = match request.command {
             Command::Flush => round,
             _ => self.medium.last_round(),
@@ -121,34 +126,36 @@ impl Requests {
         }
     }
 
-    /// Returns a request that has ended, with the data of a READ, and no bytes for any other command. For a FLUSH, and with
-    /// FUA, both images are then on stable storage, and the peer's has each write that was answered before, unless that has
-    /// no connection: its blocks are marked. One sync does for all requests that had ended when it began.
+    /// Returns the answer to a request that has ended: with the data of a READ, and no bytes for any other command. If it asks for
+    /// stable storage (`asks_for_sync`), both images are then on stable storage, and the peer's has each write that was answered
+    /// before, unless that has no connection: its blocks are marked. One sync does for all requests that had ended when it began.
     ///
-    /// It fails as the request did, and with `InputOutput` (EIO) if a sync fails.
-    pub fn store<R: Wait + Clock>(
-        &self,
-        rt: &R,
-        device: &impl Device,
-        ended: Ended,
-    ) -> (Request, Result<Vec<u8>, Errno>)
-        ensures request { result.0 ≡ ended.request }
-        ensures done { OnOk result.1 (ended.is_done ≡ true) }
-        ensures unsynced { ended.request.fua ≡ false → ended.request.command ≢ command.Flush → is_ok result.1 ≡ ended.is_done }
-        ensures data { IfOk result.1 (λ bytes. vec_len bytes ≡ data_bytes ended.request.command ended.request.block_count) }
+    /// The answer has the error with which the request failed, or `InputOutput` (EIO) if a sync fails.
+    pub fn finish<R: Wait + Clock>(&self, rt: &R, device: &impl Device, ended: Ended) -> Answer
+        ensures cookie { result.reply.cookie ≡ ended.request.cookie }
+        ensures done { result.reply.error ≡ None → ended.is_done ≡ true }
+        ensures unsynced { asks_for_sync ended.request ≡ false → ended.is_done ≡ true → result.reply.error ≡ None }
+        ensures data { result.reply.error ≡ None → vec_len result.data ≡ data_bytes ended.request.command ended.request.block_count }
+        ensures alone { (result.reply.error ≡ None → ⊥) → vec_len result.data ≡ 0 }
     {
         let Ended {
             request,
             result,
             round,
         } = ended;
-        let asks = request.fua || request.command == Command::Flush;
-        if !asks || result.is_err() {
-            return (request, result);
-        }
-        match self.sync(rt, device, round) {
-            Ok(()) => (request, result),
-            Err(errno) => (request, Err(errno)),
+        let synced = match &result {
+            Ok(_) => self.sync_if_asked(rt, device, &request, round),
+            Err(_) => Ok(()),
+        };
+        match (result, synced) {
+            (Ok(data), Ok(())) => Answer {
+                reply: request.reply(None),
+                data,
+            },
+            (Err(errno), _) | (_, Err(errno)) => Answer {
+                reply: request.reply(Some(errno)),
+                data: Vec::new(self.alloc),
+            },
         }
     }
 
@@ -167,7 +174,7 @@ impl Requests {
         begun: &mut Vec<Begun>,
     ) -> Result<(), Errno>
         requires { begun.now.items ≡ [] }
-        ensures { OnOk result (HasBegun request.now begun.new.items) }
+        ensures { Begins request.now result begun.new.items }
     {
         match request.command {
             Command::Write => {
@@ -175,14 +182,18 @@ impl Requests {
                 let payload = request.payload.clone().map_err(|_| Errno::NoMemory)?;
                 begin_write(self, device, ranges, payload, begun)
             }
-            Command::WriteZeroes => begin_zeroes(self, device, ranges_of(request)?, begun),
+            Command::WriteZeroes => {
+                let count = u64::from(request.block_count);
+                begin_zeroes(self, device, ranges_of(request)?, count, begun)
+            }
             Command::Read | Command::Flush | Command::Disconnect => Ok(()),
         }
     }
 
     // Returns the data of a READ, and no bytes for any other command. `Invalid` for DISC.
     fn read_data(&self, device: &impl Device, request: &Request) -> Result<Vec<u8>, Errno>
-        ensures { IfOk result (λ bytes. vec_len bytes ≡ data_bytes request.now.command request.now.block_count) }
+        ensures data { IfOk result (λ bytes. vec_len bytes ≡ data_bytes request.now.command request.now.block_count) }
+        ensures flush { request.now.command ≡ command.Flush → is_ok result ≡ true }
     {
         match request.command {
             Command::Read => {
@@ -191,6 +202,23 @@ impl Requests {
             }
             Command::Disconnect => Err(Errno::Invalid),
             Command::Flush | Command::Write | Command::WriteZeroes => Ok(Vec::new(self.alloc)),
+        }
+    }
+
+    // Syncs both images to stable storage if a request that is done asks for it, in a round that begins after the round `last`.
+    fn sync_if_asked<R: Wait + Clock>(
+        &self,
+        rt: &R,
+        device: &impl Device,
+        request: &Request,
+        last: u64,
+    ) -> Result<(), Errno>
+        ensures { asks_for_sync request.now ≡ false → is_ok result ≡ true }
+    {
+        if asks_for_sync(request) {
+            self.sync(rt, device, last)
+        } else {
+            Ok(())
         }
     }
 

@@ -3,7 +3,8 @@ use halves::Begun;
 use nbd::{Errno, Request};
 use std::marker::Model;
 
-/// A request whose writes were begun. Invariant: if none was refused, the begun writes are all that it writes.
+/// A request whose writes were begun. Invariant: if none was refused, the begun writes are all that it writes. A FLUSH writes
+/// nothing, so none of its writes is refused.
 #[derive(Debug, Drop)]
 pub struct UnderWay {
     pub(crate) request: Request,
@@ -14,13 +15,12 @@ pub struct UnderWay {
 }
 
 impl Model for UnderWay {
-    ghost use Rattle.std.specs.Prelude.{OnOk};
     ghost use Rattle.nbd.specs.declared.request.Request.{Request};
-    ghost use Rattle.requests.specs.Receipts.{HasBegun};
+    ghost use Rattle.requests.specs.Receipts.{Begins};
 
     ghost Value = { Request };
 
     ghost view = { λ u. u.request };
 
-    ghost invariant = { λ u. OnOk u.begins (HasBegun u.request u.begun.items) };
+    ghost invariant = { λ u. Begins u.request u.begins u.begun.items };
 }

@@ -1,6 +1,7 @@
 //! The threads of a run: those that write, the one that cuts the link, and the one that reports.
 ghost use Rattle.std.specs.Prelude.{◌≡◌, ◌*◌, ◌<◌, vec_len, IfOk};
 ghost use Rattle.std.specs.Thread.{IsSend, IsSync};
+ghost use Rattle.run_threads.specs.Plan.{AreOfPlan};
 
 use crate::progress::{Progress, report};
 use blocks::{BLOCK_BYTES, Refusal};
@@ -117,7 +118,7 @@ fn write_all<R: Threads + Wait + Clock + Copy + Drop + Send + Sync + 'static>(
     Ok(all)
 }
 
-// Makes the writes of one writer, one after another.
+// Makes the writes of one writer, one after another. Returns their receipts in this order.
 fn write_turns(
     alloc: Global,
     device: &impl Device,
@@ -126,7 +127,8 @@ fn write_turns(
     progress: &Progress,
 ) -> Result<Vec<Receipt>, Refusal>
     requires { 0 < options.now.blocks }
-    ensures { IfOk result (λ receipts. vec_len receipts ≡ options.now.writes) }
+    ensures count { IfOk result (λ receipts. vec_len receipts ≡ options.now.writes) }
+    ensures plan { IfOk result (λ receipts. AreOfPlan options.now writer receipts.items) }
 {
     let mut receipts = Vec::with_capacity(alloc, options.writes as usize)?;
     for turn in 0..options.writes {

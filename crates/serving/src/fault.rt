@@ -24,6 +24,8 @@ pub(crate) enum Fault<'a> {
     Marked(u32),
     /// The image was replaced, or its length changed, while it was served.
     Changed(&'a str),
+    /// A write to the image failed, and a part of it may still be there.
+    Torn(&'a str),
     /// A sync of an image has failed, now or at a flush.
     Unsynced,
     /// The output could not be written.
@@ -59,6 +61,10 @@ impl fmt::Display for Fault<'_> {
             Fault::Changed(file) => write!(
                 f,
                 "{file} was replaced, or its length changed, while it was served"
+            ),
+            Fault::Torn(file) => write!(
+                f,
+                "{file} may have kept parts of a write that failed: it may differ from what was served"
             ),
             Fault::Unsynced => f.write_str(
                 "an image could not be put on stable storage: it may lack what was written to it",

@@ -23,11 +23,21 @@ use volume::{Host, Runtime};
 /// An opened image, and the handle by which it is synced.
 type Opened = (ImageStore<File>, SyncHandle<File>);
 
+/// How the sessions of a server ended, and its images.
+#[derive(Clone, Copy, Debug, PartialEq, Eq)]
+struct End<'a> {
+    totals: Totals,
+    /// The image that may have kept parts of a write that failed, the local one first.
+    torn: Option<&'a str>,
+    /// Whether no sync of an image has failed.
+    is_synced: bool,
+}
+
 /// Serves both images to block clients until `input` has a line `quit`, and prints `completed X`, `settled X` and
 /// `unmarked 0`, X being the number of ranges that clients wrote. Locks both images meanwhile. Returns how it ended:
 /// `Done` if all is done, and both images are on stable storage; `Failed` if a file, a sync, an address, the output, memory
-/// or a thread failed, an image is in use or was changed by others, the disks differ without a mark, or blocks are still
-/// marked; `Refused` for any other refusal. For the last two a line on `err` says why. The end of `input` is no order to end.
+/// or a thread failed, an image is in use, was changed by others or may have kept parts of a write that failed, the disks
+/// differ without a mark, or blocks are still marked; `Refused` for any other refusal. For the last two a line on `err` says why. The end of `input` is no order to end.
 pub fn serve<
     H: Host + Files<File = File> + Net<Listener = TcpListener, Stream = TcpStream> + RandomSource,
     I: Read + Drop + Send + 'static,
@@ -35,7 +45,7 @@ pub fn serve<
     E: Write,
 >(rt: &H, options: &ServeOptions<'_>, input: I, out: &mut W, err: &mut E) -> SessionStatus {
     let served = match serve_images(rt, options, input, err) {
-        Ok(totals) => print(&totals, out),
+        Ok(end) => print(&end, out),
         Err(fault) => Err(fault),
     };
     match served {
@@ -47,13 +57,13 @@ pub fn serve<
     }
 }
 
-// Serves both images under their locks. Returns the results of the sessions.
+// Serves both images under their locks. Returns how this ended.
 fn serve_images<
     'a,
     H: Host + Files<File = File> + Net<Listener = TcpListener, Stream = TcpStream> + RandomSource,
     I: Read + Drop + Send + 'static,
     E: Write,
->(rt: &H, options: &ServeOptions<'a>, input: I, err: &mut E) -> Result<Totals, Fault<'a>> {
+>(rt: &H, options: &ServeOptions<'a>, input: I, err: &mut E) -> Result<End<'a>, Fault<'a>> {
     let (local, peer) = lock_both(rt, options)?;
     let served = serve_locked(rt, options, (&local, &peer), input, err);
     drop(local);
@@ -61,7 +71,7 @@ fn serve_images<
     served
 }
 
-// Serves both images. Returns the results of the sessions, if the images are still the files that were locked.
+// Serves both images. Returns how this ended, if the images are still the files that were locked.
 fn serve_locked<
     'a,
     H: Host + Files<File = File> + Net<Listener = TcpListener, Stream = TcpStream> + RandomSource,
@@ -73,7 +83,7 @@ fn serve_locked<
     locks: (&ImageLock, &ImageLock),
     input: I,
     err: &mut E,
-) -> Result<Totals, Fault<'a>> {
+) -> Result<End<'a>, Fault<'a>> {
     let blocks = blocks_of(rt, options)?;
     let doors = Doors::open(rt, options.listen, options.status)?;
     match open_both(rt, options, blocks) {
@@ -88,10 +98,10 @@ fn serve_locked<
                 err,
             ) {
                 Ok(service) => {
-                    let totals = finish(rt, &service, options, (local, peer))?;
+                    let end = finish(rt, &service, options, (local, peer))?;
                     check_kept(rt, locks.0, options.local, blocks)?;
                     check_kept(rt, locks.1, options.peer, blocks)?;
-                    Ok(totals)
+                    Ok(end)
                 }
                 Err(fault) => Err(fault),
             }
@@ -133,16 +143,28 @@ fn finish<'a, H: Runtime>(
     service: &Service,
     options: &ServeOptions<'a>,
     disks: Disks,
-) -> Result<Totals, Fault<'a>> {
+) -> Result<End<'a>, Fault<'a>> {
     let ran = run_sessions(*rt, service, options.cut_every, disks);
     let synced = service.requests.sync_images(rt);
     match ran {
-        Ok(rest) => Ok(Totals {
+        Ok(rest) => Ok(End {
+            totals: rest.totals,
+            torn: torn_image(options, &rest.disks),
             is_synced: synced.is_ok(),
-            ..rest.totals
         }),
         Err(refusal) => Err(Fault::Refused(refusal)),
     }
+}
+
+// Returns the image that may have kept parts of a write that failed, the local one first.
+fn torn_image<'a>(options: &ServeOptions<'a>, disks: &Disks) -> Option<&'a str> {
+    if disks.0.is_torn() {
+        return Some(options.local);
+    }
+    if disks.1.is_torn() {
+        return Some(options.peer);
+    }
+    None
 }
 
 // Returns the device's size in blocks: as many as are asked for, else those of the local image.
@@ -241,14 +263,23 @@ fn shared(service: Service) -> Result<Arc<Service, Global>, Refusal> {
 }
 
 // Prints the three lines. They are printed also if the disks may differ, which is a fault.
-fn print<'a, W: Write>(totals: &Totals, out: &mut W) -> Result<(), Fault<'a>> {
-    match print_lines(totals, out) {
-        Ok(()) if totals.unmarked > 0 => Err(Fault::Unmarked(totals.unmarked)),
-        Ok(()) if totals.marked > 0 => Err(Fault::Marked(totals.marked)),
-        Ok(()) if !totals.is_synced => Err(Fault::Unsynced),
-        Ok(()) => Ok(()),
-        Err(error) => Err(Fault::Unwritten(error)),
+fn print<'a, W: Write>(end: &End<'a>, out: &mut W) -> Result<(), Fault<'a>> {
+    if let Err(error) = print_lines(&end.totals, out) {
+        return Err(Fault::Unwritten(error));
     }
+    if end.totals.unmarked > 0 {
+        return Err(Fault::Unmarked(end.totals.unmarked));
+    }
+    if end.totals.marked > 0 {
+        return Err(Fault::Marked(end.totals.marked));
+    }
+    if let Some(file) = end.torn {
+        return Err(Fault::Torn(file));
+    }
+    if !end.is_synced {
+        return Err(Fault::Unsynced);
+    }
+    Ok(())
 }
 
 fn print_lines<W: Write>(totals: &Totals, out: &mut W) -> io::Result<()> {

@@ -1,4 +1,6 @@
 //! The parts that a session leaves for the next one.
+ghost use Rattle.std.specs.Prelude.{◌≡◌, IfOk};
+
 use blocks::{Refusal, Store};
 use client_threads::Service;
 use handover::parts_after;
@@ -24,8 +26,6 @@ pub(crate) struct Totals {
     pub(crate) unmarked: u32,
     /// Blocks that were marked after the last session: the peer's image may not have them.
     pub(crate) marked: u32,
-    /// Whether no sync of an image has failed.
-    pub(crate) is_synced: bool,
 }
 
 impl Totals {
@@ -35,7 +35,6 @@ impl Totals {
         confirmed: 0,
         unmarked: 0,
         marked: 0,
-        is_synced: true,
     };
 
     /// Adds the results of one session, after which this many blocks are marked.
@@ -45,7 +44,6 @@ impl Totals {
             confirmed: self.confirmed.saturating_add(settled.confirmed),
             unmarked: settled.unmarked,
             marked,
-            is_synced: self.is_synced,
         }
     }
 }
@@ -59,25 +57,19 @@ pub(crate) struct Rest {
 }
 
 /// Settles two nodes at rest with the receipts that their session gave, if none of its writes was refused, and returns
-/// what the next session starts from. The refusals are that of a write, and those of `settle` and `parts_after`.
+/// what the next session starts from, over the disks of these nodes. The refusals are that of a write, and those of `settle`
+/// and `parts_after`.
 pub(crate) fn bring_together(
     service: &Service,
     totals: Totals,
     primary: Primary<impl FrameOut + Drop, impl FrameIn + Drop, ImageStore<File>>,
     secondary: Secondary<impl FrameOut + Drop, impl FrameIn + Drop, ImageStore<File>>,
     worked: Result<Vec<Receipt>, Refusal>,
-) -> Result<Rest, Refusal> {
+) -> Result<Rest, Refusal>
+    ensures disks { IfOk result (λ rest. (rest.disks.0.disk ≡ primary.disk) × (rest.disks.1.disk ≡ secondary.disk)) }
+{
     let (mut primary, mut secondary) = (primary, secondary);
-    let compared = match worked {
-        Ok(receipts) => compare(
-            service,
-            totals,
-            &mut primary,
-            &mut secondary,
-            receipts.as_slice(),
-        ),
-        Err(refusal) => Err(refusal),
-    };
+    let compared = compare(service, totals, &mut primary, &mut secondary, worked);
     let disks = (primary.into_store(), secondary.into_store());
     match compared {
         Ok((parts, totals)) => Ok(Rest {
@@ -89,15 +81,19 @@ pub(crate) fn bring_together(
     }
 }
 
-// Settles both nodes. Returns the parts of the next session, and the results of the sessions so far.
+// Settles both nodes, if no write was refused. Returns the parts of the next session, and the results of the sessions so
+// far.
 fn compare(
     service: &Service,
     totals: Totals,
     primary: &mut Primary<impl FrameOut + Drop, impl FrameIn + Drop, impl Store + Drop>,
     secondary: &mut Secondary<impl FrameOut + Drop, impl FrameIn + Drop, impl Store + Drop>,
-    receipts: &[Receipt],
-) -> Result<(Parts, Totals), Refusal> {
-    let settled = settle(primary, secondary, receipts)?;
+    worked: Result<Vec<Receipt>, Refusal>,
+) -> Result<(Parts, Totals), Refusal>
+    ensures disks { (primary.new.disk ≡ primary.old.disk) × (secondary.new.disk ≡ secondary.old.disk) }
+{
+    let receipts = worked?;
+    let settled = settle(primary, secondary, receipts.as_slice())?;
     let parts = parts_after(service.alloc, primary, secondary, service.words())?;
     let totals = totals.and(receipts.len(), settled, primary.marks());
     Ok((parts, totals))

@@ -1,8 +1,9 @@
 //! One session of a server, from its start to its settlement.
 ghost use Rattle.ruled_link.specs.Names as names;
 ghost use Rattle.serving.specs.Links.{IsNewDirection};
-ghost use Rattle.std.specs.Prelude.{IfOk};
+ghost use Rattle.std.specs.Prelude.{◌≡◌, slice_get, IfOk};
 ghost use Rattle.volume.specs.Links.{AreEndsOf};
+ghost use Rattle.volume.specs.Opening.{opening_of};
 
 use crate::rest::{Disks, Rest, Totals, bring_together};
 use blocks::{Refusal, Settings};
@@ -55,7 +56,7 @@ fn link<R: Wait + Copy>(
     Ok((there, back))
 }
 
-// Uses the session, from its start to its end, in one function over its link's name, which the caller picks.
+// Uses the session, from its start to its end, in one function over its name, which the caller picks.
 fn run_named<L: Linked + Send + Sync + 'static, R: Runtime>(
     rt: R,
     service: &Service,
@@ -68,6 +69,7 @@ fn run_named<L: Linked + Send + Sync + 'static, R: Runtime>(
 ) -> Result<Rest, Refusal>
     requires there { AreEndsOf L.link names.There there }
     requires back { AreEndsOf L.link names.Back back }
+    requires opening { L.opening ≡ opening_of parts (slice_get disks.0.disk) (slice_get disks.1.disk) }
 {
     let (local, peer) = disks;
     match Session::<R, L, ImageStore<File>, ImageStore<File>>::start(

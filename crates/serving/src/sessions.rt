@@ -1,4 +1,8 @@
 //! One session after another, over the same disks.
+ghost use Rattle.std.specs.Prelude.{◌≡◌, slice_get, IfOk, IsTrue};
+ghost use Rattle.settle.specs.Settled.{WasHonest};
+ghost use Rattle.volume.specs.Opening.{opening_of};
+
 use crate::rest::{Disks, Rest, Totals};
 use crate::session::run_session;
 use blocks::{BLOCK_BYTES, Block, Refusal, Settings, Store, Tuple};
@@ -25,8 +29,12 @@ pub(crate) fn run_sessions<R: Runtime>(
     Ok(rest)
 }
 
-// Returns what the first session starts from.
-fn first_rest(service: &Service, disks: Disks) -> Result<Rest, Refusal> {
+// Returns what the first session over these disks starts from: no block is marked, and if the disks differ, the peer's has
+// the identifiers of an unknown disk (0,0,0,0).
+fn first_rest(service: &Service, disks: Disks) -> Result<Rest, Refusal>
+    ensures honest { IfOk result (λ rest. WasHonest (opening_of rest.parts (slice_get rest.disks.0.disk) (slice_get rest.disks.1.disk))) }
+    ensures disks { IfOk result (λ rest. (rest.disks.0.disk ≡ disks.0.disk) × (rest.disks.1.disk ≡ disks.1.disk)) }
+{
     let mut disks = disks;
     let first = Tuple::new(1, 0, 0, 0);
     let unknown = Tuple::new(0, 0, 0, 0);
@@ -46,7 +54,9 @@ fn first_rest(service: &Service, disks: Disks) -> Result<Rest, Refusal> {
 }
 
 // Returns the parts of the first session, over disks with these identifiers.
-fn first_parts(service: &Service, own: Tuple, peer: Tuple) -> Result<Parts, Refusal> {
+fn first_parts(service: &Service, own: Tuple, peer: Tuple) -> Result<Parts, Refusal>
+    ensures { IfOk result (λ parts. (parts.own ≡ own) × (parts.peer ≡ peer)) }
+{
     let settings = Settings {
         protocol: service.protocol,
         blocks: service.blocks,
@@ -66,7 +76,10 @@ fn first_parts(service: &Service, own: Tuple, peer: Tuple) -> Result<Parts, Refu
 }
 
 // Returns whether both disks have the same blocks.
-fn are_alike(disks: &mut Disks) -> bool {
+fn are_alike(disks: &mut Disks) -> bool
+    ensures alike { IsTrue result → disks.old.0.disk ≡ disks.old.1.disk }
+    ensures same { (disks.new.0.disk ≡ disks.old.0.disk) × (disks.new.1.disk ≡ disks.old.1.disk) }
+{
     let blocks = disks.0.blocks();
     for number in 0..blocks {
         if !is_alike(&mut disks.0, &mut disks.1, Block(u64::from(number))) {
@@ -77,7 +90,10 @@ fn are_alike(disks: &mut Disks) -> bool {
 }
 
 // Returns whether both disks have this block, with the same bytes.
-fn is_alike<S: Store, T: Store>(local: &mut S, peer: &mut T, block: Block) -> bool {
+fn is_alike<S: Store, T: Store>(local: &mut S, peer: &mut T, block: Block) -> bool
+    ensures alike { IsTrue result → slice_get (S.contents local.old) block.0 ≡ slice_get (T.contents peer.old) block.0 }
+    ensures same { (S.contents local.new ≡ S.contents local.old) × (T.contents peer.new ≡ T.contents peer.old) }
+{
     if block.0 >= u64::from(local.blocks()) || block.0 >= u64::from(peer.blocks()) {
         return false;
     }

@@ -16,18 +16,21 @@ use std::time::Clock;
 /// How many writes a device has accepted before it is asked for the first time.
 const ACCEPTED: u64 = 3;
 
-/// The question that a device answers with yes first.
+/// The question from which on a device says that these are released.
 const RELEASED_AT: u64 = 4;
 
-/// A device whose writes are released late: it says so when it is asked for the `released_at`th time. At first `ACCEPTED` are
-/// accepted, and another one each time that it is asked how many are. Its blocks are zeros, and it takes no write.
+/// Further questions after which it says that another write is released.
+const QUESTIONS_A_WRITE: u64 = 2;
+
+/// A device whose writes are released late: the first `ACCEPTED` when it is asked for the `released_at`th time, and another one
+/// after each two questions more. At first `ACCEPTED` are accepted, and another one each time that it is asked how many are. Its
+/// blocks are zeros, and it takes no write.
 #[derive(Drop)]
 pub(crate) struct LateDevice {
     alloc: Global,
     accepted: AtomicU64,
     released_at: AtomicU64,
     questions: AtomicU64,
-    strays: AtomicU64,
 }
 
 impl LateDevice {
@@ -37,7 +40,6 @@ impl LateDevice {
             accepted: AtomicU64::new(ACCEPTED),
             released_at: AtomicU64::new(released_at),
             questions: AtomicU64::new(0),
-            strays: AtomicU64::new(0),
         }
     }
 
@@ -46,10 +48,9 @@ impl LateDevice {
         self.released_at.store(0, Ordering::SeqCst);
     }
 
-    // Returns how often it was asked whether writes are released, and how often of these for others than the first `ACCEPTED`.
-    fn asked(&self) -> (u64, u64) {
-        let questions = self.questions.load(Ordering::SeqCst);
-        (questions, self.strays.load(Ordering::SeqCst))
+    // Returns how often it was asked how many writes are released.
+    fn asked(&self) -> u64 {
+        self.questions.load(Ordering::SeqCst)
     }
 }
 
@@ -58,7 +59,7 @@ impl Device for LateDevice {
         Err(Refusal::NotConnected)
     }
 
-    fn begin(&self, _first: u64, _bytes: &Bytes) -> Result<Begun, Refusal> {
+    fn begin(&self, _first: u64, _bytes: Bytes) -> Result<Begun, Refusal> {
         Err(Refusal::NotConnected)
     }
 
@@ -66,8 +67,14 @@ impl Device for LateDevice {
         Err(Refusal::UnknownJob)
     }
 
-    fn read(&self, _first: u64, _count: u64) -> Result<Vec<u8>, Refusal> {
-        Ok(Vec::from_elem(self.alloc, 0u8, BLOCK_BYTES)?)
+    fn read(&self, _first: u64, count: u64) -> Result<Vec<u8>, Refusal> {
+        let Some(length) = (count as usize).checked_mul(BLOCK_BYTES) else {
+            return Err(Refusal::NoMemory);
+        };
+        match Vec::from_elem(self.alloc, 0u8, length) {
+            Ok(zeros) => Ok(zeros),
+            Err(_) => Err(Refusal::NoMemory),
+        }
     }
 
     fn cut(&self) {}
@@ -92,12 +99,18 @@ impl Device for LateDevice {
         self.accepted.fetch_add(1, Ordering::SeqCst)
     }
 
-    fn is_released(&self, number: u64) -> bool {
-        if number != ACCEPTED {
-            self.strays.fetch_add(1, Ordering::SeqCst);
-        }
+    fn released(&self) -> u64 {
         let before = self.questions.fetch_add(1, Ordering::SeqCst);
-        before.saturating_add(1) >= self.released_at.load(Ordering::SeqCst)
+        let question = before.saturating_add(1);
+        match self.released_at.load(Ordering::SeqCst) {
+            0 => u64::MAX,
+            at if question < at => 0,
+            at => ACCEPTED + question.saturating_sub(at) / QUESTIONS_A_WRITE,
+        }
+    }
+
+    fn applied(&self) -> u32 {
+        0
     }
 }
 
@@ -114,8 +127,8 @@ pub(crate) fn requests_under(
     Requests::new(rt.alloc(), protocol, local, peer)
 }
 
-// Begins a request `count` times over a device, ends one after another, and then stores one after another.
-fn store_together(
+// Begins a request `count` times over a device, ends one after another, and then finishes one after another.
+fn finish_together(
     rt: &(impl Abort + Wait + Clock + AllocGlobal),
     requests: &Requests,
     device: &LateDevice,
@@ -128,14 +141,14 @@ fn store_together(
         begun.push(under_way).expect(rt, "memory");
     }
     let mut receipts = Vec::new(rt.alloc());
-    let mut unstored = Vec::new(rt.alloc());
+    let mut unsynced = Vec::new(rt.alloc());
     for under_way in begun {
         let ended = requests.end(device, under_way, &mut receipts);
-        unstored.push(ended).expect(rt, "memory");
+        unsynced.push(ended).expect(rt, "memory");
     }
-    for ended in unstored {
-        let (_, result) = requests.store(rt, device, ended);
-        assert!(rt; result.is_ok());
+    for ended in unsynced {
+        let answer = requests.finish(rt, device, ended);
+        assert!(rt; answer.reply.error.is_none());
     }
 }
 
@@ -145,10 +158,10 @@ fn asked_for(
     protocol: Protocol,
     command: Command,
     fua: bool,
-) -> (u64, u64) {
+) -> u64 {
     let device = LateDevice::new(rt.alloc(), RELEASED_AT);
     let requests = requests_under(rt, protocol, "flushed_late");
-    store_together(rt, &requests, &device, (command, fua), 1);
+    finish_together(rt, &requests, &device, (command, fua), 1);
     device.asked()
 }
 
@@ -169,50 +182,52 @@ fn request(command: Command, fua: bool) -> Request {
 fn a_flush_waits_for_the_writes_before_it(rt: HostRuntime) {
     for protocol in [Protocol::A, Protocol::B] {
         let asked = asked_for(&rt, protocol, Command::Flush, false);
-        assert_eq!(rt; asked, (RELEASED_AT, 0));
+        assert_eq!(rt; asked, RELEASED_AT);
     }
 }
 
-// So does a request with FUA; without, it waits for nothing.
+// So does a WRITE_ZEROES with FUA; without, it waits for nothing, and so does a READ with FUA, which writes nothing.
 #[test]
 fn a_request_with_fua_waits_for_the_writes_before_it(rt: HostRuntime) {
     let asked = asked_for(&rt, Protocol::A, Command::WriteZeroes, true);
-    assert_eq!(rt; asked, (RELEASED_AT, 0));
+    assert_eq!(rt; asked, RELEASED_AT);
     let asked = asked_for(&rt, Protocol::A, Command::WriteZeroes, false);
-    assert_eq!(rt; asked, (0, 0));
+    assert_eq!(rt; asked, 0);
+    let asked = asked_for(&rt, Protocol::A, Command::Read, true);
+    assert_eq!(rt; asked, 0);
 }
 
 // Under C the peer's disk has each write that is completed, so a FLUSH asks for none.
 #[test]
 fn a_flush_under_c_waits_for_no_write(rt: HostRuntime) {
     let asked = asked_for(&rt, Protocol::C, Command::Flush, false);
-    assert_eq!(rt; asked, (0, 0));
+    assert_eq!(rt; asked, 0);
 }
 
 // FLUSHes that begin before the first of them ends share its round, so the device is asked as for one. A later FLUSH
-// waits for the writes that were accepted meanwhile, and asks once more.
+// waits for the write that was accepted meanwhile, and asks until that is released.
 #[test]
 fn flushes_share_a_round(rt: HostRuntime) {
     for protocol in [Protocol::A, Protocol::B] {
         let device = LateDevice::new(rt.alloc(), RELEASED_AT);
         let requests = requests_under(&rt, protocol, "flushed_late");
-        store_together(&rt, &requests, &device, (Command::Flush, false), 3);
-        assert_eq!(rt; device.asked(), (RELEASED_AT, 0));
-        store_together(&rt, &requests, &device, (Command::Flush, false), 1);
-        assert_eq!(rt; device.asked(), (RELEASED_AT + 1, 1));
+        finish_together(&rt, &requests, &device, (Command::Flush, false), 3);
+        assert_eq!(rt; device.asked(), RELEASED_AT);
+        finish_together(&rt, &requests, &device, (Command::Flush, false), 1);
+        assert_eq!(rt; device.asked(), RELEASED_AT + QUESTIONS_A_WRITE);
     }
 }
 
-// Requests with FUA that have ended before the first of them is stored share its round. One that ends later takes no earlier
-// round, since its writes are completed only as it ends: it asks once more.
+// Requests with FUA that have ended before the first of them is finished share its round. One that ends later takes no earlier
+// round, since its writes are completed only as it ends: it waits for the write that was accepted meanwhile.
 #[test]
 fn requests_with_fua_share_a_round(rt: HostRuntime) {
     let device = LateDevice::new(rt.alloc(), RELEASED_AT);
     let requests = requests_under(&rt, Protocol::A, "flushed_late");
-    store_together(&rt, &requests, &device, (Command::WriteZeroes, true), 3);
-    assert_eq!(rt; device.asked(), (RELEASED_AT, 0));
-    store_together(&rt, &requests, &device, (Command::WriteZeroes, true), 1);
-    assert_eq!(rt; device.asked(), (RELEASED_AT + 1, 1));
+    finish_together(&rt, &requests, &device, (Command::WriteZeroes, true), 3);
+    assert_eq!(rt; device.asked(), RELEASED_AT);
+    finish_together(&rt, &requests, &device, (Command::WriteZeroes, true), 1);
+    assert_eq!(rt; device.asked(), RELEASED_AT + QUESTIONS_A_WRITE);
 }
 
 // A request that begins before a round and ends after it takes a later one.
@@ -221,11 +236,11 @@ fn a_request_with_fua_takes_no_earlier_round(rt: HostRuntime) {
     let device = LateDevice::new(rt.alloc(), RELEASED_AT);
     let requests = requests_under(&rt, Protocol::A, "flushed_late");
     let under_way = requests.begin(&device, request(Command::WriteZeroes, true));
-    store_together(&rt, &requests, &device, (Command::Flush, false), 1);
-    assert_eq!(rt; device.asked(), (RELEASED_AT, 0));
+    finish_together(&rt, &requests, &device, (Command::Flush, false), 1);
+    assert_eq!(rt; device.asked(), RELEASED_AT);
     let mut receipts = Vec::new(rt.alloc());
     let ended = requests.end(&device, under_way, &mut receipts);
-    let (_, result) = requests.store(&rt, &device, ended);
-    assert!(rt; result.is_ok());
-    assert_eq!(rt; device.asked(), (RELEASED_AT + 1, 1));
+    let answer = requests.finish(&rt, &device, ended);
+    assert!(rt; answer.reply.error.is_none());
+    assert_eq!(rt; device.asked(), RELEASED_AT + QUESTIONS_A_WRITE);
 }

@@ -276,8 +276,8 @@ fn has(rt: &(impl Abort + Files + AllocGlobal), path: &str, fills: &[u8], wanted
     assert_eq!(rt; found, wanted);
 }
 
-// Checks that a write that fails in the middle does not change memory, that the file has the old bytes or not, and that
-// the next write changes both.
+// Checks that a write that fails in the middle does not change memory, that the file has the old bytes or the store tells of
+// it, and that the next write changes both.
 fn fails_and_is_mended(
     rt: &(impl Abort + Files<File = File> + AllocGlobal),
     path: &str,
@@ -289,6 +289,7 @@ fn fails_and_is_mended(
     puts(rt, &mut store, (1, [170, 187]), Err(StoreFault));
     assert!(rt; is_held(&mut store, &[7, 8, 0, 0]));
     has(rt, path, &[7, 8, 0, 0], is_taken_back);
+    assert_eq!(rt; store.is_torn(), !is_taken_back);
     puts(rt, &mut store, (1, [170, 187]), Ok(()));
     assert!(rt; is_held(&mut store, &[7, 170, 187, 0]));
     has(rt, path, &[7, 170, 187, 0], true);

@@ -1,5 +1,5 @@
 //! Both nodes of a session, once one owner has them again.
-ghost use Rattle.std.specs.Prelude.{◌≡◌};
+ghost use Rattle.std.specs.Prelude.{◌≡◌, Some};
 ghost use Rattle.model.specs.Headline.{IsJoined};
 ghost use Rattle.model.specs.Primary.{PrimaryHistory};
 ghost use Rattle.model.specs.Secondary.{SecondaryHistory};
@@ -25,8 +25,8 @@ pub fn join_nodes<R: Wait + Drop, L: Linked, S: Store + Drop, T: Store + Drop>(
     primary: SessionPrimary<R, L, S>,
     secondary: SessionSecondary<R, L, T>,
 ) -> (SessionPrimary<R, L, S>, SessionSecondary<R, L, T>)
-    requires primary { PrimaryIsHad primary }
-    requires secondary { SecondaryIsHad secondary }
+    requires primary { PrimaryIsHad (Some L.opening) primary }
+    requires secondary { SecondaryIsHad (Some L.opening) secondary }
     ensures primary { result.0 ≡ primary }
     ensures secondary { result.1 ≡ secondary }
     ensures joined { (p : PrimaryHistory) (s : SecondaryHistory) → PrimaryHas primary p → SecondaryHas secondary s → IsJoined p s }

@@ -10,6 +10,6 @@ mod numbers;
 
 pub use direction::join_direction;
 pub use join::{SessionPrimary, SessionSecondary, join_nodes};
-pub use names::{Back, Linked, There};
+pub use names::{Back, Began, Linked, There};
 pub use naming::{LocalEnds, PeerEnds, named_ends};
 pub use numbers::check_numbers;

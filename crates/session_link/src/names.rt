@@ -1,21 +1,41 @@
-//! The name of a session's link.
+//! The name of a session: its link, and what its nodes start from.
 ghost use Rattle.ruled_link.specs.Names.{LinkName};
 
 use ruled_link::Named;
+use session_nodes::Beginning;
 use std::marker::{Brand, PhantomData};
 
-/// Which link a session has. It has no bytes: whoever calls a function with such a parameter picks it.
+/// Which link a session has, and what its nodes start from. It has no bytes: whoever calls a function with such a parameter
+/// picks both.
 pub trait Linked {
     ghost use Rattle.ruled_link.specs.Names.{LinkName};
+    ghost use Rattle.model.specs.Theorems.{Opening};
 
     /// The link: the rows of its two directions.
     ghost link: { LinkName };
+
+    /// What both nodes start from.
+    ghost opening: { Opening };
 }
 
 impl Linked for Brand {
     ghost use Rattle.ruled_link.specs.Names.{no_link};
+    ghost use Rattle.session_link.specs.Links.{no_opening};
 
     ghost link = { no_link };
+
+    ghost opening = { no_opening };
+}
+
+/// The beginning of a session over a link.
+pub struct Began<L: Linked> {
+    of: PhantomData<L>,
+}
+
+impl<L: Linked> Beginning for Began<L> {
+    ghost use Rattle.std.specs.Prelude.{Some};
+
+    ghost opening = { Some L.opening };
 }
 
 /// The direction from the primary to the secondary.

@@ -1,5 +1,5 @@
 //! The numbers of the connections of both nodes.
-ghost use Rattle.std.specs.Prelude.{◌<◌, ◌≤◌, ◌≡◌, OnErr, OnOk, IfErr};
+ghost use Rattle.std.specs.Prelude.{◌<◌, ◌≤◌, ◌≡◌, None, OnErr, OnOk, IfErr};
 ghost use Rattle.blocks.specs.declared.refusal.Refusal.TheVariants.{NotDrained};
 ghost use Rattle.session_nodes.specs.Primaries.{PrimaryIsHad};
 
@@ -18,7 +18,7 @@ pub fn check_numbers<
     J: FrameIn + Drop,
     T: Store + Drop,
 >(primary: &Primary<O, I, S>, secondary: &Secondary<P, J, T>) -> Result<(), Refusal>
-    requires { PrimaryIsHad primary.now }
+    requires { PrimaryIsHad None primary.now }
     ensures numbered { OnOk result (secondary.now.core.number ≤ primary.now.core.connections) }
     ensures above { OnErr result (primary.now.core.connections < secondary.now.core.number) }
     ensures refused { IfErr result (λ refusal. refusal ≡ NotDrained) }

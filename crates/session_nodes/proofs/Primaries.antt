@@ -1,7 +1,7 @@
 -- A primary's calls keep all its connections over one link.
 use Rattle.std.proofs.Common.{ℕ, zero, suc, ◌≡◌, ◌<◌, ◌≤◌, ◌-◌, inl, inr, Bool, true, false, not, List, [], ◌∷◌, ◌++◌, length, take, Option}
 use Rattle.std.proofs.Common.{Some, None, slice_get, Ok, refl, sym, ◌∙◌, ap, subst, arith}
-use Rattle.std.specs.Prelude.{unwrap_or, Result, Err, IfOk, OnErr, is_some}
+use Rattle.std.specs.Prelude.{unwrap_or, Result, Err, IfOk, IfSome, OnErr, is_some}
 use Rattle.std.proofs.lemmas.List.{length-append}
 use Rattle.std.proofs.lemmas.Bool.{cases_lt}
 use Rattle.std.proofs.lemmas.Option.{slice_get_within}
@@ -20,6 +20,7 @@ use Rattle.model.specs.Acknowledgements as step_in
 use Rattle.model.specs.Marks.{releasing}
 use Rattle.model.specs.LocalRuns.{PrimaryEvent, Opens, Submits, WritesLocally, FailsLocally, Sends, Takes, Resyncs, FailsResync, Closes, Receipts}
 use Rattle.model.specs.LocalRuns.{primary_after, primary_run}
+use Rattle.model.specs.Theorems.{Opening, primary_at}
 use Rattle.model.specs.Headline.{StaysClosed}
 use Rattle.link.specs.Ends.{InEnd, OutEnd}
 use Rattle.endpoint.specs.Calls.{IsNewIn, IsNewOut, is_out_of_memory}
@@ -40,7 +41,7 @@ use Rattle.primary_protocol.proofs.Node.Takes.{takes-keep}
 use Rattle.primary.specs.State.{IsRestarted, PrimaryView, node}
 use Rattle.session_nodes.specs.Traffic.{KnowTraffic}
 use Rattle.session_nodes.proofs.Ends.{NextTraffic, SameEnds, traffic-begins, traffic-first, traffic-stays}
-use Rattle.session_nodes.specs.Primaries.{sent, came, PrimaryHas, PrimaryIsHad, IsPrimaryStep, PrimarySteps, PrimaryRuns}
+use Rattle.session_nodes.specs.Primaries.{sent, came, PrimaryHas, PrimaryBegan, PrimaryIsHad, IsPrimaryStep, PrimarySteps, PrimaryRuns}
 use Rattle.laws.proofs.Rules.Memory.{may-open, ack-in-has}
 
 -- Events that open no end leave the number of connections.
@@ -215,11 +216,6 @@ steps-over event none step is v w returned same said after = record {
   after = λ h was. subst (PrimaryHas w) (sym (is h)) (has-step event none v w h was same (subst (NodeHas (node w)) (is h) (after h was.has)));
 }
 
-pub had-over : {Returned : Type 0} (step : PrimaryHistory → Returned × PrimaryHistory) (v w : PrimaryView) (returned : Returned) → PrimaryIsHad v
-    → IsPrimaryStep step v returned w
-    → PrimaryIsHad w
-had-over step v w returned had steps = record { history = (step had.history).1; has = steps.after had.history had.has }
-
 -- A step is a run of one event, and runs go on.
 pub runs-step : (event : PrimaryEvent) (v w : PrimaryView) (returned : Reply) → ((h : PrimaryHistory) → (primary_step event h).1 ≡ primary_after event h)
     → PrimarySteps event v returned w → PrimaryRuns v w
@@ -238,8 +234,36 @@ runs-on u v w first second h was =
     let two = second (primary_run one.0 h) one.1 in
     (one.0 ++ two.0, subst (PrimaryHas w) (run-both one.0 two.0 h) two.1)
 
-pub had-runs : (v w : PrimaryView) → PrimaryIsHad v → PrimaryRuns v w → PrimaryIsHad w
-had-runs v w had runs = record { history = _; has = (runs had.history had.has).1 }
+-- A run from an opening goes on.
+began-run : (o : Option Opening) (events : List PrimaryEvent) (h : PrimaryHistory) → PrimaryBegan o h → PrimaryBegan o (primary_run events h)
+began-run None events h began = tt
+began-run (Some opening) events h began =
+    (began.0 ++ events, ap (primary_run events) began.1 ∙ run-both began.0 events (primary_at opening))
+
+pub had-runs : {o : Option Opening} (v w : PrimaryView) → PrimaryIsHad o v → PrimaryRuns v w → PrimaryIsHad o w
+had-runs {o} v w had runs = record {
+  history = _;
+  has = (runs had.history had.has).1;
+  began = began-run o (runs had.history had.has).0 had.history had.began;
+}
+
+pub had-over : {Returned : Type 0} {o : Option Opening} (event : PrimaryEvent) (step : PrimaryHistory → Returned × PrimaryHistory) (v w : PrimaryView)
+    (returned : Returned) → ((h : PrimaryHistory) → (step h).1 ≡ primary_after event h) → PrimaryIsHad o v → IsPrimaryStep step v returned w → PrimaryIsHad o w
+had-over {o = o} event step v w returned is had steps = record {
+  history = (step had.history).1;
+  has = steps.after had.history had.has;
+  began = subst (PrimaryBegan o) (sym (is had.history)) (began-run o (event ∷ []) had.history had.began);
+}
+
+-- a node that runs from an opening, of which the caller may know nothing
+pub had-from : (o : Option Opening) (sync loss : ℕ) (v : PrimaryView) (h : PrimaryHistory) → IfSome o (λ opening. h ≡ primary_at opening)
+    → PrimaryHas v (primary_after (Opens sync loss false) h) → PrimaryIsHad o v
+had-from None sync loss v h is has = record { history = _; has = has; began = tt }
+had-from (Some opening) sync loss v h is has = record {
+  history = _;
+  has = has;
+  began = (Opens sync loss false ∷ [], ap (primary_after (Opens sync loss false)) is);
+}
 
 -- An opening: one connection more, over the ends that the node has.
 
@@ -326,20 +350,19 @@ reopens-over sync loss v w (Err e) s restarted counted unchanged = record {
 }
 
 -- both sides of the link are there
-pub is-there : (v : PrimaryView) → PrimaryIsHad v → (is_some v.outgoing ≡ true) × (is_some v.incoming ≡ true)
+pub is-there : {o : Option Opening} (v : PrimaryView) → PrimaryIsHad o v → (is_some v.outgoing ≡ true) × (is_some v.incoming ≡ true)
 is-there v had = (ap is_some had.has.over.traffic.out_there, ap is_some had.has.over.traffic.in_there)
 
 -- A new node that opens over unused ends.
 pub first-over : (sync loss : ℕ) (v w : PrimaryView) (h : PrimaryHistory) (o : OutEnd) (i : InEnd) → IsNewOut o → IsNewIn i → h.connections ≡ []
     → NodeHas (node v) h
-    → NodeSteps (Opens sync loss false) (node v) (plainly tt) (node w) → w.outgoing ≡ Some (outgoing o) → w.incoming ≡ Some (incoming i) → PrimaryIsHad w
-first-over sync loss v w h o i out inn none has steps out_there in_there = record {
-  history = later;
-  has = has-next w h later (steps.after h has) (opens-on sync loss h said (λ k c early at. absurd (omega (arith, ap length none)))) (omega (arith, one))
-      (traffic-first o i out inn out_there in_there one
-      (λ number. ap (λ (c : PrimaryConnection). take c.pushed (frames_due h.settings c)) (never-open number))
-      (λ number. ap (λ (c : PrimaryConnection). c.taken) (never-open number)));
-}
+    → NodeSteps (Opens sync loss false) (node v) (plainly tt) (node w) → w.outgoing ≡ Some (outgoing o) → w.incoming ≡ Some (incoming i)
+    → PrimaryHas w (primary_after (Opens sync loss false) h)
+first-over sync loss v w h o i out inn none has steps out_there in_there =
+    has-next w h later (steps.after h has) (opens-on sync loss h said (λ k c early at. absurd (omega (arith, ap length none)))) (omega (arith, one))
+    (traffic-first o i out inn out_there in_there one
+    (λ number. ap (λ (c : PrimaryConnection). take c.pushed (frames_due h.settings c)) (never-open number))
+    (λ number. ap (λ (c : PrimaryConnection). c.taken) (never-open number)))
   where
     later : PrimaryHistory
     later = primary_after (Opens sync loss false) h
@@ -353,3 +376,7 @@ first-over sync loss v w h o i out inn none has steps out_there in_there = recor
     never-open : (number : ℕ) → primary_connection_at h number ≡ no_primary_connection h.tuple
     never-open zero = refl
     never-open (suc k) = ap (λ (l : List PrimaryConnection). unwrap_or (slice_get l k) (no_primary_connection h.tuple)) none
+
+-- a node of whose beginning nothing is known
+pub forget : {o : Option Opening} (v : PrimaryView) → PrimaryIsHad o v → PrimaryIsHad None v
+forget v had = record { history = had.history; has = had.has; began = tt }

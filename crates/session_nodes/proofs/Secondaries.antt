@@ -1,7 +1,7 @@
 -- A secondary's calls keep all its connections over one link.
 use Rattle.std.proofs.Common.{ℕ, suc, ◌≡◌, ◌<◌, ◌≤◌, ◌-◌, ◌+◌, inl, inr, true, not, ◌&&◌, List, [], ◌∷◌, ◌++◌, length, take, Option}
 use Rattle.std.proofs.Common.{Some, None, slice_get, Ok, refl, sym, ◌∙◌, ap, subst, arith, ◌==◌}
-use Rattle.std.specs.Prelude.{Result, Err, OnOk, OnErr, find, unwrap_or, is_some}
+use Rattle.std.specs.Prelude.{Result, Err, IfSome, OnOk, OnErr, find, unwrap_or, is_some}
 use Rattle.std.proofs.lemmas.List.{length-append}
 use Rattle.std.proofs.lemmas.Bool.{cases_Bool, not-false, and_parts, cases_lt}
 use Rattle.std.proofs.lemmas.Option.{slice_get_cases, slice_get_within}
@@ -19,6 +19,7 @@ use Rattle.model.specs.SecondarySteps.{answering, applying, failing}
 use Rattle.model.specs.SecondarySteps as step
 use Rattle.model.specs.LocalRuns.{SecondaryEvent, OpensToo, Receives, Applies, FailsToApply, Acknowledges, ClosesToo, secondary_after, secondary_run}
 use Rattle.model.specs.Headline.{StaysClosedToo}
+use Rattle.model.specs.Theorems.{Opening, secondary_at}
 use Rattle.link.specs.Ends.{InEnd, OutEnd}
 use Rattle.endpoint.specs.Calls.{IsNewIn, IsNewOut}
 use Rattle.endpoint.specs.PacketReceiver.{incoming}
@@ -36,7 +37,7 @@ use Rattle.secondary_protocol.proofs.Node.Runs.{opens-to, refused-same}
 use Rattle.secondary.specs.State.{IsRestarted, SecondaryView, node}
 use Rattle.session_nodes.specs.Traffic.{KnowTraffic}
 use Rattle.session_nodes.proofs.Ends.{NextTraffic, SameEnds, traffic-begins, traffic-first, traffic-stays}
-use Rattle.session_nodes.specs.Secondaries.{sent, came, SecondaryHas, SecondaryIsHad, SecondarySteps, SecondaryRuns}
+use Rattle.session_nodes.specs.Secondaries.{sent, came, SecondaryHas, SecondaryBegan, SecondaryIsHad, SecondarySteps, SecondaryRuns}
 use Rattle.laws.proofs.Rules.RefusedFrames.{refused_end}
 
 -- Events that open no end leave the number of connections.
@@ -286,9 +287,6 @@ steps-over event none is v w returned same steps = record {
   after = λ h was. subst (SecondaryHas w) (sym (is h)) (has-step event none v w h was same (subst (NodeHas (node w)) (is h) (steps.after h was.has)));
 }
 
-pub had-over : (event : SecondaryEvent) (v w : SecondaryView) (returned : Reply) → SecondaryIsHad v → SecondarySteps event v returned w → SecondaryIsHad w
-had-over event v w returned had steps = record { history = (secondary_step event had.history).1; has = steps.after had.history had.has }
-
 -- where only the core and what came in are new
 pub outgoing-stays : (v w : SecondaryView) → w ≡ record v { core = w.core; incoming = w.incoming } → w.outgoing ≡ v.outgoing
 outgoing-stays v w rest = ap (λ (x : SecondaryView). x.outgoing) rest
@@ -312,8 +310,29 @@ runs-on u v w first second h was =
     let two = second (secondary_run one.0 h) one.1 in
     (one.0 ++ two.0, subst (SecondaryHas w) (run-both one.0 two.0 h) two.1)
 
-pub had-runs : (v w : SecondaryView) → SecondaryIsHad v → SecondaryRuns v w → SecondaryIsHad w
-had-runs v w had runs = record { history = _; has = (runs had.history had.has).1 }
+-- A run from an opening goes on.
+began-run : (o : Option Opening) (events : List SecondaryEvent) (h : SecondaryHistory) → SecondaryBegan o h → SecondaryBegan o (secondary_run events h)
+began-run None events h began = tt
+began-run (Some opening) events h began =
+    (began.0 ++ events, ap (secondary_run events) began.1 ∙ run-both began.0 events (secondary_at opening))
+
+pub had-runs : {o : Option Opening} (v w : SecondaryView) → SecondaryIsHad o v → SecondaryRuns v w → SecondaryIsHad o w
+had-runs {o} v w had runs = record {
+  history = _;
+  has = (runs had.history had.has).1;
+  began = began-run o (runs had.history had.has).0 had.history had.began;
+}
+
+pub had-over : {o : Option Opening} (event : SecondaryEvent) (v w : SecondaryView) (returned : Reply)
+    → ((h : SecondaryHistory) → (secondary_step event h).1 ≡ secondary_after event h) → SecondaryIsHad o v → SecondarySteps event v returned w
+    → SecondaryIsHad o w
+had-over {o} event v w returned is had steps = had-runs v w had (runs-step event v w returned is steps)
+
+-- a node that runs from an opening, of which the caller may know nothing
+pub had-from : (o : Option Opening) (v : SecondaryView) (h : SecondaryHistory) → IfSome o (λ opening. h ≡ secondary_at opening)
+    → SecondaryHas v (secondary_after (OpensToo 0) h) → SecondaryIsHad o v
+had-from None v h is has = record { history = _; has = has; began = tt }
+had-from (Some opening) v h is has = record { history = _; has = has; began = (OpensToo 0 ∷ [], ap (secondary_after (OpensToo 0)) is) }
 
 -- An opening: one connection more, over the ends that the node has.
 
@@ -407,19 +426,18 @@ reopens-over number v w (Err e) above s restarted unchanged = record {
 }
 
 -- both sides of the link are there
-pub is-there : (v : SecondaryView) → SecondaryIsHad v → (is_some v.outgoing ≡ true) × (is_some v.incoming ≡ true)
+pub is-there : {o : Option Opening} (v : SecondaryView) → SecondaryIsHad o v → (is_some v.outgoing ≡ true) × (is_some v.incoming ≡ true)
 is-there v had = (ap is_some had.has.over.traffic.out_there, ap is_some had.has.over.traffic.in_there)
 
 -- A new node that opens over unused ends.
 pub first-over : (v w : SecondaryView) (h : SecondaryHistory) (o : OutEnd) (i : InEnd) → IsNewOut o → IsNewIn i → h.connections ≡ [] → NodeHas (node v) h
-    → NodeSteps (OpensToo 0) (node v) (reply.Ok (plainly tt)) (node w) → w.outgoing ≡ Some (outgoing o) → w.incoming ≡ Some (incoming i) → SecondaryIsHad w
-first-over v w h o i out inn none has steps out_there in_there = record {
-  history = later;
-  has = has-next w h later has.reached (steps.after h has) (opens-on 0 h said (λ k d early at. absurd (omega (arith, ap length none)))) (omega (arith, one))
-      (traffic-first o i out inn out_there in_there first
-      (λ number. ap (λ (d : SecondaryConnection). take d.pushed (answers_due h.settings d)) (never-open number))
-      (λ number. ap (λ (d : SecondaryConnection). d.taken) (never-open number)));
-}
+    → NodeSteps (OpensToo 0) (node v) (reply.Ok (plainly tt)) (node w) → w.outgoing ≡ Some (outgoing o) → w.incoming ≡ Some (incoming i)
+    → SecondaryHas w (secondary_after (OpensToo 0) h)
+first-over v w h o i out inn none has steps out_there in_there =
+    has-next w h later has.reached (steps.after h has) (opens-on 0 h said (λ k d early at. absurd (omega (arith, ap length none)))) (omega (arith, one))
+    (traffic-first o i out inn out_there in_there first
+    (λ number. ap (λ (d : SecondaryConnection). take d.pushed (answers_due h.settings d)) (never-open number))
+    (λ number. ap (λ (d : SecondaryConnection). d.taken) (never-open number)))
   where
     later : SecondaryHistory
     later = secondary_after (OpensToo 0) h

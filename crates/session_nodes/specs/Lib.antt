@@ -1,3 +1,4 @@
 pub mod Primaries
+pub mod Queries
 pub mod Secondaries
 pub mod Traffic

@@ -1,8 +1,9 @@
 -- A primary whose connections all went over one link.
-use Rattle.std.specs.Prelude.{ℕ, suc, ◌≡◌, ◌<◌, List, take, Some, slice_get, length, true, ◌&&◌, Option, is_none, Result}
+use Rattle.std.specs.Prelude.{ℕ, suc, ◌≡◌, ◌<◌, List, take, Some, None, slice_get, length, true, ◌&&◌, Option, is_none, Result}
 use Rattle.model.specs.Primary.{PrimaryConnection, PrimaryHistory, primary_connection_at, frames_due}
 use Rattle.model.specs.Frames.{Packet, Received}
 use Rattle.model.specs.LocalRuns.{PrimaryEvent, Takes, primary_run}
+use Rattle.model.specs.Theorems.{Opening, primary_at}
 use Rattle.blocks.specs.declared.refusal.Refusal.{Refusal}
 use Rattle.blocks.specs.declared.outcome.Done.{Done}
 use Rattle.blocks.specs.declared.outcome.Reply.{Reply}
@@ -34,10 +35,16 @@ pub record PrimaryHas (v : PrimaryView) (h : PrimaryHistory) : Type 0 where
   pub has : NodeHas (node v) h
   pub over : PrimaryOver v h
 
--- Invariant of the locked primary: it refines some such history.
-pub record PrimaryIsHad (v : PrimaryView) : Type 0 where
+-- the history is that of a run from this opening, if the opening is known
+abbrev pub PrimaryBegan : Option Opening → PrimaryHistory → Type 0
+PrimaryBegan None h = Unit {0}
+PrimaryBegan (Some opening) h = (events : List PrimaryEvent) × (h ≡ primary_run events (primary_at opening))
+
+-- Invariant of the locked primary: it refines some such history, which began with this opening.
+pub record PrimaryIsHad (opening : Option Opening) (v : PrimaryView) : Type 0 where
   pub history : PrimaryHistory
   pub has : PrimaryHas v history
+  pub began : PrimaryBegan opening history
 
 -- The call was this step of the model, for every such history that the node refined.
 pub record IsPrimaryStep {Returned : Type 0} (step : PrimaryHistory → Returned × PrimaryHistory) (v : PrimaryView) (returned : Returned)

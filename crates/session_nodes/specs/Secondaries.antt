@@ -1,8 +1,9 @@
 -- A secondary whose connections all went over one link.
-use Rattle.std.specs.Prelude.{ℕ, suc, ◌≡◌, ◌<◌, ◌&&◌, List, take, Option, Some, Result, is_none, slice_get, length, true}
+use Rattle.std.specs.Prelude.{ℕ, suc, ◌≡◌, ◌<◌, ◌&&◌, List, take, Option, Some, None, Result, is_none, slice_get, length, true}
 use Rattle.model.specs.Secondary.{SecondaryConnection, SecondaryHistory, secondary_connection, secondary_connection_at, answers_due}
 use Rattle.model.specs.Frames.{Packet, Received}
 use Rattle.model.specs.LocalRuns.{SecondaryEvent, Receives, secondary_run}
+use Rattle.model.specs.Theorems.{Opening, secondary_at}
 use Rattle.blocks.specs.declared.refusal.Refusal.{Refusal}
 use Rattle.blocks.specs.declared.outcome.Done.{Done}
 use Rattle.blocks.specs.declared.outcome.Reply.{Reply}
@@ -33,10 +34,16 @@ pub record SecondaryHas (v : SecondaryView) (h : SecondaryHistory) : Type 0 wher
   pub has : NodeHas (node v) h
   pub over : SecondaryOver v h
 
--- Invariant of the locked secondary: it refines some such history.
-pub record SecondaryIsHad (v : SecondaryView) : Type 0 where
+-- the history is that of a run from this opening, if the opening is known
+abbrev pub SecondaryBegan : Option Opening → SecondaryHistory → Type 0
+SecondaryBegan None h = Unit {0}
+SecondaryBegan (Some opening) h = (events : List SecondaryEvent) × (h ≡ secondary_run events (secondary_at opening))
+
+-- Invariant of the locked secondary: it refines some such history, which began with this opening.
+pub record SecondaryIsHad (opening : Option Opening) (v : SecondaryView) : Type 0 where
   pub history : SecondaryHistory
   pub has : SecondaryHas v history
+  pub began : SecondaryBegan opening history
 
 -- The call was this step of the model, for every such history that the node refined.
 pub record IsSecondaryStep {Returned : Type 0} (step : SecondaryHistory → Returned × SecondaryHistory) (v : SecondaryView) (returned : Returned)

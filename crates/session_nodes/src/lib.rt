@@ -2,10 +2,12 @@
 //! do in a turn.
 #![tactic(auto)]
 
+mod beginning;
 mod local;
 mod local_turn;
 mod peer;
 mod peer_turn;
 
+pub use beginning::{Beginning, Unknown};
 pub use local::Local;
 pub use peer::Peer;

@@ -1,28 +1,39 @@
 //! The primary under its lock.
-ghost use Rattle.std.specs.Prelude.{◌≡◌, IfOk, OnOk, OnErr};
+ghost use Rattle.std.specs.Prelude.{◌≡◌, ◌<◌, ◌≤◌, ◌*◌, ◌⊎◌, false, None, Err, slice_get, unwrap_or, vec_len, IfOk, IfErr, IfSome, OnOk, OnErr};
+ghost use Rattle.blocks.specs.declared.outcome.Reply.{Reply};
 ghost use Rattle.blocks.specs.declared.outcome.Reply.TheVariants as reply;
+ghost use Rattle.blocks.specs.declared.outcome.What.TheVariants as what;
+ghost use Rattle.blocks.specs.declared.refusal.Refusal.TheVariants.{BadRange, NoMemory, NothingThere, ReadFault};
 ghost use Rattle.endpoint.specs.Calls.{IsNewIn, IsNewOut, has_room, is_out_of_memory};
-ghost use Rattle.model.specs.LocalRuns.{Closes, Opens, Sends, Submits};
+ghost use Rattle.model.specs.Contents.{IsRead};
+ghost use Rattle.model.specs.LocalRuns.{Closes, Opens, Sends, Submits, primary_after};
+ghost use Rattle.model.specs.Primary.{PrimaryHistory, local_map, next_local, primary_opening};
+ghost use Rattle.model.specs.Theorems.{primary_at};
+ghost use Rattle.primary.specs.Calls.{WritesOne};
 ghost use Rattle.primary_protocol.specs.Node.{take_receipt};
 ghost use Rattle.primary_protocol.specs.Steps.{plainly, replied};
 ghost use Rattle.primary_protocol.specs.Transitions.{whole_blocks};
-ghost use Rattle.session_nodes.specs.Primaries.{IsPrimaryStep, PrimaryIsHad, PrimaryRuns, PrimarySteps, PrimaryTakes};
+ghost use Rattle.session_nodes.specs.Primaries.{IsPrimaryStep, PrimaryHas, PrimaryIsHad, PrimaryRuns, PrimarySteps, PrimaryTakes};
+ghost use Rattle.session_nodes.specs.Queries.{is_quiet, released_to};
 
+use crate::Beginning;
 use blocks::{Done, Refusal, Settings, Store, Tuple};
 use bytes::Bytes;
 use link::{FrameIn, FrameOut};
 use primary::{Primary, Receipt};
 use std::alloc::Global;
-use std::marker::Model;
+use std::marker::{Model, PhantomData};
 
-/// The primary of a session, kept under a lock. Invariant: it was opened, and all of its connections used the link ends
-/// that it has (`PrimaryIsHad`).
+/// The primary of a session, kept under a lock. Invariant: it was opened as its beginning says, and all of its connections
+/// used the link ends that it has (`PrimaryIsHad`).
 #[derive(Drop)]
-pub struct Local<O: FrameOut + Drop, I: FrameIn + Drop, S: Store + Drop> {
+pub struct Local<B: Beginning, O: FrameOut + Drop, I: FrameIn + Drop, S: Store + Drop> {
     pub(crate) node: Primary<O, I, S>,
+    began: PhantomData<B>,
 }
 
-impl<O: FrameOut + Drop, I: FrameIn + Drop, S: Store + Drop> Model for Local<O, I, S> {
+impl<B: Beginning, O: FrameOut + Drop, I: FrameIn + Drop, S: Store + Drop> Model
+    for Local<B, O, I, S> {
     ghost use Rattle.primary.specs.State.{PrimaryView};
     ghost use Rattle.session_nodes.specs.Primaries.{PrimaryIsHad};
 
@@ -30,10 +41,10 @@ impl<O: FrameOut + Drop, I: FrameIn + Drop, S: Store + Drop> Model for Local<O, 
 
     ghost view = { λ n. n.node };
 
-    ghost invariant = { λ n. PrimaryIsHad n.node };
+    ghost invariant = { λ n. PrimaryIsHad B.opening n.node };
 }
 
-impl<O: FrameOut + Drop, I: FrameIn + Drop, S: Store + Drop> Local<O, I, S> {
+impl<B: Beginning, O: FrameOut + Drop, I: FrameIn + Drop, S: Store + Drop> Local<B, O, I, S> {
     /// Creates a primary over its disk, and opens it over unused ends of a link.
     ///
     /// `BadSetting` (15) and `NoMemory` (7) come as for `Primary::new`, `UsedIdentifier` (33) as for `Primary::open`.
@@ -45,14 +56,21 @@ impl<O: FrameOut + Drop, I: FrameIn + Drop, S: Store + Drop> Local<O, I, S> {
         marks: Vec<bool>,
         link: (O, I),
         words: (u64, u64),
-    ) -> Result<Local<O, I, S>, Refusal>
+    ) -> Result<Local<B, O, I, S>, Refusal>
         requires outward { IsNewOut (O.state link.0) }
         requires inward { IsNewIn (I.state link.1) }
+        requires began { IfSome B.opening (λ opening. primary_opening settings (slice_get (S.contents store)) tuple (λ block. unwrap_or (slice_get marks.items block) false)
+            ≡ primary_at opening) }
+        ensures opened { IfOk result (λ n. PrimaryHas n (primary_after (Opens words.0 words.1 false)
+            (primary_opening settings (slice_get (S.contents store)) tuple (λ block. unwrap_or (slice_get marks.items block) false)))) }
     {
         let mut node = Primary::new(alloc, settings, store, tuple, marks)?;
         let (outward, inward) = link;
         match node.open(outward, inward, words.0, words.1) {
-            Ok(()) => Ok(Local { node }),
+            Ok(()) => Ok(Local {
+                node,
+                began: PhantomData,
+            }),
             Err(refusal) => {
                 drop(node.into_store());
                 Err(refusal)
@@ -62,7 +80,8 @@ impl<O: FrameOut + Drop, I: FrameIn + Drop, S: Store + Drop> Local<O, I, S> {
 
     /// Accepts a write and returns its number. The refusals are those of `Primary::submit`.
     pub fn submit(&mut self, first: u64, bytes: &Bytes) -> Result<(u64, Done), Refusal>
-        ensures step { PrimarySteps (Submits first (whole_blocks bytes.now) (is_out_of_memory result)) self.old (replied (λ wakes_writers. reply.Ok wakes_writers.1) result) self.new }
+        ensures step { PrimarySteps (Submits first (whole_blocks bytes.now) (is_out_of_memory result)) self.old (replied (λ accepted. reply.Ok accepted.1) result) self.new }
+        ensures number { IfOk result (λ accepted. accepted.1.what ≡ what.Write accepted.0) }
     {
         self.node.submit(first, bytes)
     }
@@ -70,12 +89,18 @@ impl<O: FrameOut + Drop, I: FrameIn + Drop, S: Store + Drop> Local<O, I, S> {
     /// Returns the receipt of a write, once. The refusals are those of `Primary::take_completed`.
     pub fn take_completed(&mut self, number: u64) -> Result<Receipt, Refusal>
         ensures step { IsPrimaryStep (take_receipt number) self.old result self.new }
+        ensures number { IfOk result (λ receipt. receipt.number ≡ number) }
     {
         self.node.take_completed(number)
     }
 
     /// Reads blocks of the local disk. The refusals are those of `Primary::read`.
-    pub fn read(&mut self, first: u64, count: u64) -> Result<Vec<u8>, Refusal> {
+    pub fn read(&mut self, first: u64, count: u64) -> Result<Vec<u8>, Refusal>
+        ensures read { IfOk result (λ bytes. (h : PrimaryHistory) → PrimaryHas self.old h → IsRead (local_map h) first count bytes.items) }
+        ensures length { IfOk result (λ bytes. vec_len bytes ≡ count * 4096) }
+        ensures refused { IfErr result (λ e. (e ≡ BadRange) ⊎ ((e ≡ NoMemory) ⊎ (e ≡ ReadFault))) }
+        ensures kept { (h : PrimaryHistory) → PrimaryHas self.old h → PrimaryHas self.new h }
+    {
         self.node.read(first, count)
     }
 
@@ -98,6 +123,8 @@ impl<O: FrameOut + Drop, I: FrameIn + Drop, S: Store + Drop> Local<O, I, S> {
     /// Performs the next write on the disk. `NothingThere` (13) if there is none; then nothing changes.
     pub fn write_next(&mut self) -> Result<Done, Refusal>
         ensures runs { PrimaryRuns self.old self.new }
+        ensures writes { (h : PrimaryHistory) → PrimaryHas self.old h → IfSome (next_local h) (λ number. WritesOne number result self.old self.new) }
+        ensures nothing { (h : PrimaryHistory) → PrimaryHas self.old h → next_local h ≡ None → (result ≡ Err NothingThere) × (self.new ≡ self.old) }
     {
         match self.node.next_local() {
             Some(number) => self.write_at(number),
@@ -108,6 +135,7 @@ impl<O: FrameOut + Drop, I: FrameIn + Drop, S: Store + Drop> Local<O, I, S> {
     // Performs a write on the disk.
     fn write_at(&mut self, number: u64) -> Result<Done, Refusal>
         ensures runs { PrimaryRuns self.old self.new }
+        ensures writes { WritesOne number result self.old self.new }
     {
         self.node.local(number)
     }
@@ -127,11 +155,41 @@ impl<O: FrameOut + Drop, I: FrameIn + Drop, S: Store + Drop> Local<O, I, S> {
         self.node.close()
     }
 
+    /// Closes the end, if it is open and its connection is `connection` or an earlier one.
+    pub fn close_lost(&mut self, connection: u32)
+        ensures closes { self.old.core.connections ≤ connection → (reply : Reply) × PrimarySteps Closes self.old reply self.new }
+        ensures later { connection < self.old.core.connections → self.new ≡ self.old }
+    {
+        if self.node.connections() <= connection {
+            let _ = self.close();
+        }
+    }
+
     /// Opens the end again and returns the connection's number. The refusals are those of `Primary::reopen`.
     pub fn reopen(&mut self, sync: u64, loss: u64) -> Result<u32, Refusal>
         ensures step { PrimarySteps (Opens sync loss (is_out_of_memory result)) self.old (replied (λ number. plainly tt) result) self.new }
+        ensures number { IfOk result (λ number. number ≡ self.new.core.connections) }
     {
         self.node.reopen(sync, loss)
+    }
+
+    /// Returns whether the link has nothing more to do: the end is closed, or its connection is established, no block is
+    /// marked, and every epoch is acknowledged.
+    pub fn is_quiet(&self) -> bool
+        ensures { (h : PrimaryHistory) → PrimaryHas self.now h → result ≡ is_quiet h }
+    {
+        let node = &self.node;
+        !node.is_open() || (node.is_established() && node.marks() == 0 && node.open_epochs() == 0)
+    }
+
+    /// Returns the number up to which each write is released.
+    pub fn released(&self) -> u64
+        ensures { (h : PrimaryHistory) → PrimaryHas self.now h → result ≡ released_to h }
+    {
+        match self.node.first_unreleased() {
+            Some(first) => first.saturating_sub(1),
+            None => self.node.accepted(),
+        }
     }
 
     /// Returns the node for reading.
@@ -144,7 +202,7 @@ impl<O: FrameOut + Drop, I: FrameIn + Drop, S: Store + Drop> Local<O, I, S> {
     /// Returns the node alone.
     pub fn into_node(self) -> Primary<O, I, S>
         ensures node { result ≡ self }
-        ensures had { PrimaryIsHad result }
+        ensures had { PrimaryIsHad B.opening result }
     {
         self.node
     }

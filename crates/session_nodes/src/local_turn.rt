@@ -1,15 +1,19 @@
 //! The turns of the primary's threads.
-ghost use Rattle.session_nodes.specs.Primaries.{PrimaryRuns};
+ghost use Rattle.std.specs.Prelude.{◌≡◌, is_some};
+ghost use Rattle.model.specs.Primary.{PrimaryHistory, next_local};
+ghost use Rattle.session_nodes.specs.Primaries.{PrimaryHas, PrimaryRuns};
+ghost use Rattle.session_nodes.specs.Queries.{closed_since};
 
-use crate::Local;
+use crate::{Beginning, Local};
 use blocks::{Done, Store};
 use link::{FrameIn, FrameOut};
 use turns::{LocalRole, STEPS, Turn};
 
-impl<O: FrameOut + Drop, I: FrameIn + Drop, S: Store + Drop> Local<O, I, S> {
+impl<B: Beginning, O: FrameOut + Drop, I: FrameIn + Drop, S: Store + Drop> Local<B, O, I, S> {
     /// Does up to `STEPS` steps of the node: each is of the role or, if the role has none, of any other role.
     pub fn turn(&mut self, role: LocalRole) -> Turn
         ensures runs { PrimaryRuns self.old self.new }
+        ensures closed { (g h : PrimaryHistory) → PrimaryHas self.old g → PrimaryHas self.new h → result.closed ≡ closed_since g h }
     {
         let was_open = self.node.is_open();
         let mut turn = Turn::NOTHING;
@@ -27,39 +31,55 @@ impl<O: FrameOut + Drop, I: FrameIn + Drop, S: Store + Drop> Local<O, I, S> {
     }
 
     /// Returns whether the disk has a write to do.
-    pub fn has_unfinished(&self) -> bool {
+    pub fn has_unfinished(&self) -> bool
+        ensures { (h : PrimaryHistory) → PrimaryHas self.now h → result ≡ is_some (next_local h) }
+    {
         self.node.next_local().is_some()
     }
 
     // Does a step of the role or, if it has none, of another one. Returns whether there was one.
     fn advance(&mut self, role: LocalRole, turn: &mut Turn) -> bool
         ensures runs { PrimaryRuns self.old self.new }
+        ensures closed { turn.new.closed ≡ turn.old.closed }
     {
         if self.step(role, turn) {
             return true;
         }
-        self.help(turn)
+        self.help(role, turn)
     }
 
-    // Does a step of the first role that has one. Returns whether there was one.
-    fn help(&mut self, turn: &mut Turn) -> bool
+    // Does a step of the first role that has one, but for `role`, which has none. Returns whether there was one.
+    fn help(&mut self, role: LocalRole, turn: &mut Turn) -> bool
         ensures runs { PrimaryRuns self.old self.new }
+        ensures closed { turn.new.closed ≡ turn.old.closed }
     {
-        if self.step(LocalRole::Sender, turn) {
+        if self.step_of_other(LocalRole::Sender, role, turn) {
             return true;
         }
-        if self.step(LocalRole::Receiver, turn) {
+        if self.step_of_other(LocalRole::Receiver, role, turn) {
             return true;
         }
-        if self.step(LocalRole::Disk, turn) {
+        if self.step_of_other(LocalRole::Disk, role, turn) {
             return true;
         }
-        self.step(LocalRole::Resync, turn)
+        self.step_of_other(LocalRole::Resync, role, turn)
+    }
+
+    // Does a step of a role, unless it is `tried`. Returns whether there was one.
+    fn step_of_other(&mut self, role: LocalRole, tried: LocalRole, turn: &mut Turn) -> bool
+        ensures runs { PrimaryRuns self.old self.new }
+        ensures closed { turn.new.closed ≡ turn.old.closed }
+    {
+        if role == tried {
+            return false;
+        }
+        self.step(role, turn)
     }
 
     // Does a step of a role. Returns whether there was one.
     fn step(&mut self, role: LocalRole, turn: &mut Turn) -> bool
         ensures runs { PrimaryRuns self.old self.new }
+        ensures closed { turn.new.closed ≡ turn.old.closed }
     {
         match role {
             LocalRole::Sender => match self.send() {

@@ -1,28 +1,34 @@
 //! The secondary under its lock.
-ghost use Rattle.std.specs.Prelude.{◌≡◌, ◌-◌, ◌+◌, ◌<◌, ◌≤◌, ◌&&◌, true, false, Err, IfErr, OnErr, OnOk};
-ghost use Rattle.blocks.specs.declared.refusal.Refusal.TheVariants.{NotDrained};
+ghost use Rattle.std.specs.Prelude.{◌≡◌, ◌-◌, ◌+◌, ◌<◌, ◌≤◌, ◌&&◌, true, false, None, Err, slice_get, IfErr, IfOk, IfSome, OnErr, OnOk};
+ghost use Rattle.blocks.specs.declared.outcome.Reply.{Reply};
+ghost use Rattle.blocks.specs.declared.refusal.Refusal.TheVariants.{NotDrained, NothingThere};
 ghost use Rattle.endpoint.specs.Calls.{IsNewIn, IsNewOut, has_room, is_out_of_memory};
-ghost use Rattle.model.specs.LocalRuns.{Acknowledges, ClosesToo, OpensToo};
-ghost use Rattle.model.specs.Secondary.{SecondaryHistory, secondary_connection, is_drained};
+ghost use Rattle.model.specs.LocalRuns.{Acknowledges, ClosesToo, OpensToo, secondary_after};
+ghost use Rattle.model.specs.Secondary.{SecondaryHistory, secondary_connection, secondary_opening, is_drained, next_pending};
+ghost use Rattle.model.specs.Theorems.{secondary_at};
+ghost use Rattle.secondary.specs.Calls.{AppliesOne};
 ghost use Rattle.secondary.specs.State.{node};
 ghost use Rattle.secondary_protocol.specs.Node.{NodeHas};
 ghost use Rattle.secondary_protocol.specs.Steps.{plainly, replied};
-ghost use Rattle.session_nodes.specs.Secondaries.{SecondaryIsHad, SecondaryReceives, SecondaryRuns, SecondarySteps};
+ghost use Rattle.session_nodes.specs.Secondaries.{SecondaryHas, SecondaryIsHad, SecondaryReceives, SecondaryRuns, SecondarySteps};
 
+use crate::Beginning;
 use blocks::{Done, Refusal, Settings, Store, Tuple};
 use link::{FrameIn, FrameOut};
 use secondary::Secondary;
 use std::alloc::Global;
-use std::marker::Model;
+use std::marker::{Model, PhantomData};
 
-/// The secondary of a session, kept under a lock. Invariant: it was opened, and all of its connections used the link
-/// ends that it has (`SecondaryIsHad`).
+/// The secondary of a session, kept under a lock. Invariant: it was opened as its beginning says, and all of its
+/// connections used the link ends that it has (`SecondaryIsHad`).
 #[derive(Drop)]
-pub struct Peer<O: FrameOut + Drop, I: FrameIn + Drop, S: Store + Drop> {
+pub struct Peer<B: Beginning, O: FrameOut + Drop, I: FrameIn + Drop, S: Store + Drop> {
     pub(crate) node: Secondary<O, I, S>,
+    began: PhantomData<B>,
 }
 
-impl<O: FrameOut + Drop, I: FrameIn + Drop, S: Store + Drop> Model for Peer<O, I, S> {
+impl<B: Beginning, O: FrameOut + Drop, I: FrameIn + Drop, S: Store + Drop> Model
+    for Peer<B, O, I, S> {
     ghost use Rattle.secondary.specs.State.{SecondaryView};
     ghost use Rattle.session_nodes.specs.Secondaries.{SecondaryIsHad};
 
@@ -30,10 +36,10 @@ impl<O: FrameOut + Drop, I: FrameIn + Drop, S: Store + Drop> Model for Peer<O, I
 
     ghost view = { λ n. n.node };
 
-    ghost invariant = { λ n. SecondaryIsHad n.node };
+    ghost invariant = { λ n. SecondaryIsHad B.opening n.node };
 }
 
-impl<O: FrameOut + Drop, I: FrameIn + Drop, S: Store + Drop> Peer<O, I, S> {
+impl<B: Beginning, O: FrameOut + Drop, I: FrameIn + Drop, S: Store + Drop> Peer<B, O, I, S> {
     /// Creates a secondary over its disk, and opens it over unused ends of a link.
     ///
     /// `BadSetting` (15) and `NoMemory` (7) come as for `Secondary::new`.
@@ -43,14 +49,19 @@ impl<O: FrameOut + Drop, I: FrameIn + Drop, S: Store + Drop> Peer<O, I, S> {
         store: S,
         tuple: Tuple,
         link: (O, I),
-    ) -> Result<Peer<O, I, S>, Refusal>
+    ) -> Result<Peer<B, O, I, S>, Refusal>
         requires outward { IsNewOut (O.state link.0) }
         requires inward { IsNewIn (I.state link.1) }
+        requires began { IfSome B.opening (λ opening. secondary_opening settings (slice_get (S.contents store)) tuple ≡ secondary_at opening) }
+        ensures opened { IfOk result (λ n. SecondaryHas n (secondary_after (OpensToo 0) (secondary_opening settings (slice_get (S.contents store)) tuple))) }
     {
         let mut node = Secondary::new(alloc, settings, store, tuple)?;
         let (outward, inward) = link;
         match node.open(outward, inward) {
-            Ok(()) => Ok(Peer { node }),
+            Ok(()) => Ok(Peer {
+                node,
+                began: PhantomData,
+            }),
             Err(refusal) => {
                 drop(node.into_store());
                 Err(refusal)
@@ -77,6 +88,8 @@ impl<O: FrameOut + Drop, I: FrameIn + Drop, S: Store + Drop> Peer<O, I, S> {
     /// Performs the next item on the disk. `NothingThere` (13) if there is none; then nothing changes.
     pub fn apply_next(&mut self) -> Result<Done, Refusal>
         ensures runs { SecondaryRuns self.old self.new }
+        ensures applies { (h : SecondaryHistory) → SecondaryHas self.old h → IfSome (next_pending h) (λ place. AppliesOne place result self.old self.new) }
+        ensures nothing { (h : SecondaryHistory) → SecondaryHas self.old h → next_pending h ≡ None → (result ≡ Err NothingThere) × (self.new ≡ self.old) }
     {
         match self.node.next() {
             Ok(place) => self.apply_at(place),
@@ -87,6 +100,7 @@ impl<O: FrameOut + Drop, I: FrameIn + Drop, S: Store + Drop> Peer<O, I, S> {
     // Performs an item on the disk.
     fn apply_at(&mut self, place: u32) -> Result<Done, Refusal>
         ensures runs { SecondaryRuns self.old self.new }
+        ensures applies { AppliesOne place result self.old self.new }
     {
         self.node.peer(place)
     }
@@ -96,6 +110,16 @@ impl<O: FrameOut + Drop, I: FrameIn + Drop, S: Store + Drop> Peer<O, I, S> {
         ensures step { SecondarySteps ClosesToo self.old (replied plainly result) self.new }
     {
         self.node.close()
+    }
+
+    /// Closes the end, if it is open and its connection is `connection` or an earlier one.
+    pub fn close_lost(&mut self, connection: u32)
+        ensures closes { self.old.core.number ≤ connection → (reply : Reply) × SecondarySteps ClosesToo self.old reply self.new }
+        ensures later { connection < self.old.core.number → self.new ≡ self.old }
+    {
+        if self.node.number() <= connection {
+            let _ = self.close();
+        }
     }
 
     /// Checks that the end may open again: it is closed, and nothing is pending. `NotDrained` (36) if not.
@@ -143,7 +167,7 @@ impl<O: FrameOut + Drop, I: FrameIn + Drop, S: Store + Drop> Peer<O, I, S> {
     /// Returns the node alone.
     pub fn into_node(self) -> Secondary<O, I, S>
         ensures node { result ≡ self }
-        ensures had { SecondaryIsHad result }
+        ensures had { SecondaryIsHad B.opening result }
     {
         self.node
     }

@@ -1,15 +1,19 @@
 //! The turns of the secondary's threads.
-ghost use Rattle.session_nodes.specs.Secondaries.{SecondaryRuns};
+ghost use Rattle.std.specs.Prelude.{◌≡◌, not};
+ghost use Rattle.model.specs.Secondary.{SecondaryHistory, is_drained};
+ghost use Rattle.session_nodes.specs.Queries.{closed_since_too};
+ghost use Rattle.session_nodes.specs.Secondaries.{SecondaryHas, SecondaryRuns};
 
-use crate::Peer;
+use crate::{Beginning, Peer};
 use blocks::Store;
 use link::{FrameIn, FrameOut};
 use turns::{PeerRole, STEPS, Turn};
 
-impl<O: FrameOut + Drop, I: FrameIn + Drop, S: Store + Drop> Peer<O, I, S> {
+impl<B: Beginning, O: FrameOut + Drop, I: FrameIn + Drop, S: Store + Drop> Peer<B, O, I, S> {
     /// Does up to `STEPS` steps of the node: each is of the role or, if the role has none, of any other role.
     pub fn turn(&mut self, role: PeerRole) -> Turn
         ensures runs { SecondaryRuns self.old self.new }
+        ensures closed { (g h : SecondaryHistory) → SecondaryHas self.old g → SecondaryHas self.new h → result.closed ≡ closed_since_too g h }
     {
         let was_open = self.node.is_open();
         let mut turn = Turn::NOTHING;
@@ -26,36 +30,52 @@ impl<O: FrameOut + Drop, I: FrameIn + Drop, S: Store + Drop> Peer<O, I, S> {
     }
 
     /// Returns whether the disk has an item to do.
-    pub fn has_unfinished(&self) -> bool {
+    pub fn has_unfinished(&self) -> bool
+        ensures { (h : SecondaryHistory) → SecondaryHas self.now h → result ≡ not (is_drained h) }
+    {
         !self.node.is_drained()
     }
 
     // Does a step of the role or, if it has none, of another one. Returns whether there was one.
     fn advance(&mut self, role: PeerRole, turn: &mut Turn) -> bool
         ensures runs { SecondaryRuns self.old self.new }
+        ensures closed { turn.new.closed ≡ turn.old.closed }
     {
         if self.step(role, turn) {
             return true;
         }
-        self.help(turn)
+        self.help(role, turn)
     }
 
-    // Does a step of the first role that has one. Returns whether there was one.
-    fn help(&mut self, turn: &mut Turn) -> bool
+    // Does a step of the first role that has one, but for `role`, which has none. Returns whether there was one.
+    fn help(&mut self, role: PeerRole, turn: &mut Turn) -> bool
         ensures runs { SecondaryRuns self.old self.new }
+        ensures closed { turn.new.closed ≡ turn.old.closed }
     {
-        if self.step(PeerRole::Sender, turn) {
+        if self.step_of_other(PeerRole::Sender, role, turn) {
             return true;
         }
-        if self.step(PeerRole::Receiver, turn) {
+        if self.step_of_other(PeerRole::Receiver, role, turn) {
             return true;
         }
-        self.step(PeerRole::Disk, turn)
+        self.step_of_other(PeerRole::Disk, role, turn)
+    }
+
+    // Does a step of a role, unless it is `tried`. Returns whether there was one.
+    fn step_of_other(&mut self, role: PeerRole, tried: PeerRole, turn: &mut Turn) -> bool
+        ensures runs { SecondaryRuns self.old self.new }
+        ensures closed { turn.new.closed ≡ turn.old.closed }
+    {
+        if role == tried {
+            return false;
+        }
+        self.step(role, turn)
     }
 
     // Does a step of a role. Returns whether there was one.
     fn step(&mut self, role: PeerRole, turn: &mut Turn) -> bool
         ensures runs { SecondaryRuns self.old self.new }
+        ensures closed { turn.new.closed ≡ turn.old.closed }
     {
         match role {
             PeerRole::Receiver => self.receive().is_ok(),

@@ -1,6 +1,9 @@
 //! The parts from which the session of a run starts.
-ghost use Rattle.std.specs.Prelude.{◌≡◌, ◌<◌, IfOk};
+ghost use Rattle.std.specs.Prelude.{◌≡◌, ◌<◌, slice_get, IfOk};
+ghost use Rattle.blocks.specs.Contents.{blocks_of};
 ghost use Rattle.blocks.specs.SettingsRange.{standard};
+ghost use Rattle.settle.specs.Settled.{WasHonest};
+ghost use Rattle.volume.specs.Opening.{opening_of};
 
 use blocks::{MemStore, Refusal, Tuple};
 use options::RunOptions;
@@ -21,6 +24,8 @@ pub(crate) fn parts(
 ) -> Result<(Parts, Disks), Refusal>
     ensures settings { IfOk result (λ made. made.0.settings ≡ record standard { protocol = options.now.protocol; blocks = options.now.blocks }) }
     ensures some_blocks { IfOk result (λ _. 0 < options.now.blocks) }
+    ensures honest { IfOk result (λ made. WasHonest (opening_of made.0 (slice_get made.1.0) (slice_get made.1.1))) }
+    ensures disks { IfOk result (λ made. (made.1.0 ≡ blocks_of 4096 images.0.items) × (made.1.1 ≡ blocks_of 4096 images.1.items)) }
 {
     let settings = options.settings();
     settings.check()?;

@@ -122,14 +122,31 @@ fn write_disk<H: Files<File = File> + AllocGlobal>(
 }
 
 // Gives the file the owner, the group and the permissions of the image, the permissions last: a change of the owner takes
-// some of them away. A run that may not give the file away keeps it: its result is not to be lost for that.
+// some of them away.
 fn give_rights(file: &File, image: &Metadata) -> io::Result<()> {
-    let made = file.metadata()?;
-    if (made.uid(), made.gid()) != (image.uid(), image.gid()) {
-        match fchown(file, Some(image.uid()), Some(image.gid())) {
-            Err(error) if error.kind() != ErrorKind::PermissionDenied => return Err(error),
-            _ => {}
-        }
-    }
+    give_owner(file, image)?;
     file.set_permissions(image.permissions())
+}
+
+// Gives the file the owner and the group of the image. A run that may not give the file away gives it the group alone, and
+// keeps both if it may not do that either: its result is not to be lost for that.
+fn give_owner(file: &File, image: &Metadata) -> io::Result<()> {
+    let made = file.metadata()?;
+    if (made.uid(), made.gid()) == (image.uid(), image.gid()) {
+        return Ok(());
+    }
+    if give(file, Some(image.uid()), image.gid())? {
+        return Ok(());
+    }
+    give(file, None, image.gid())?;
+    Ok(())
+}
+
+// Gives the file this owner, if there is one, and this group. Returns whether the run may do that.
+fn give(file: &File, owner: Option<u32>, group: u32) -> io::Result<bool> {
+    match fchown(file, owner, Some(group)) {
+        Ok(()) => Ok(true),
+        Err(error) if error.kind() == ErrorKind::PermissionDenied => Ok(false),
+        Err(error) => Err(error),
+    }
 }

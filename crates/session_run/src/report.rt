@@ -1,5 +1,6 @@
 //! The outcome of a session.
-ghost use Rattle.std.specs.Prelude.{◌≡◌, ◌*◌, ◌↔◌, length, vec_len, IfOk, IsOk};
+ghost use Rattle.std.specs.Prelude.{◌≡◌, ◌≤◌, ◌*◌, ◌↔◌, vec_len, IfOk, IsOk};
+ghost use Rattle.session_run.specs.Outcome.{HasSettled, IsNumber};
 
 use crate::fault::Fault;
 use blocks::{MemStore, Refusal};
@@ -53,16 +54,20 @@ pub(crate) fn conclude<
     ended: Result<(Primary<O, I, MemStore>, Secondary<P, J, MemStore>), Refusal>,
 ) -> Result<Report, Refusal>
     requires { IfOk worked (λ receipts. vec_len receipts ≡ options.now.writers * options.now.writes) }
-    ensures { IfOk result (λ report. report.completed ≡ options.now.writers * options.now.writes) }
+    ensures done { IfOk result (λ _. IsOk worked × IsOk ended) }
+    ensures completed { IfOk result (λ report. report.completed ≡ options.now.writers * options.now.writes) }
+    ensures count { IfOk result (λ report. IfOk worked (λ receipts. report.completed ≡ vec_len receipts)) }
+    ensures confirmed { IfOk result (λ report. IfOk worked (λ receipts. IfOk ended (λ nodes. IsNumber (λ n. n.confirmed) nodes.0 nodes.1 receipts.items report.confirmed))) }
+    ensures unmarked { IfOk result (λ report. IfOk worked (λ receipts. IfOk ended (λ nodes. IsNumber (λ n. n.unmarked) nodes.0 nodes.1 receipts.items report.unmarked))) }
+    ensures settles { IfOk result (λ report. IfOk worked (λ receipts. IfOk ended (λ nodes. nodes.1.core.number ≤ nodes.0.core.connections
+        → HasSettled nodes.0 nodes.1 receipts.items report.confirmed report.unmarked))) }
+    ensures disks { IfOk result (λ report. IfOk ended (λ nodes. (report.local ≡ nodes.0.disk) × (report.peer ≡ nodes.1.disk))) }
 {
     let (mut primary, mut secondary) = match ended {
         Ok(nodes) => nodes,
         Err(refusal) => return Err(worked.err().unwrap_or(refusal)),
     };
-    let settled = match worked {
-        Ok(receipts) => settled_by(&mut primary, &mut secondary, receipts.as_slice()),
-        Err(refusal) => Err(refusal),
-    };
+    let settled = settled_by(&mut primary, &mut secondary, worked);
     let status = status(alloc, options, &primary, &secondary);
     let (local, peer) = (primary.into_store(), secondary.into_store());
     let (completed, settled) = settled?;
@@ -76,15 +81,22 @@ pub(crate) fn conclude<
     })
 }
 
-// Settles with the receipts. Returns how many there are, and the settlement.
+// Settles with the receipts, if no write was refused. Returns how many there are, and the settlement.
 fn settled_by<O: FrameOut + Drop, I: FrameIn + Drop, P: FrameOut + Drop, J: FrameIn + Drop>(
     primary: &mut Primary<O, I, MemStore>,
     secondary: &mut Secondary<P, J, MemStore>,
-    receipts: &[Receipt],
+    worked: Result<Vec<Receipt>, Refusal>,
 ) -> Result<(u64, Settled), Refusal>
-    ensures { IfOk result (λ settled. settled.0 ≡ length receipts.now) }
+    ensures count { IfOk result (λ settled. IfOk worked (λ receipts. settled.0 ≡ vec_len receipts)) }
+    ensures confirmed { IfOk result (λ settled. IfOk worked (λ receipts. IsNumber (λ n. n.confirmed) primary.old secondary.old receipts.items settled.1.confirmed)) }
+    ensures unmarked { IfOk result (λ settled. IfOk worked (λ receipts. IsNumber (λ n. n.unmarked) primary.old secondary.old receipts.items settled.1.unmarked)) }
+    ensures settles { IfOk result (λ settled. IfOk worked (λ receipts. secondary.old.core.number ≤ primary.old.core.connections
+        → HasSettled primary.old secondary.old receipts.items settled.1.confirmed settled.1.unmarked)) }
+    ensures worked { IfOk result (λ _. IsOk worked) }
+    ensures disks { (primary.new.disk ≡ primary.old.disk) × (secondary.new.disk ≡ secondary.old.disk) }
 {
-    let settled = settle(primary, secondary, receipts)?;
+    let receipts = worked?;
+    let settled = settle(primary, secondary, receipts.as_slice())?;
     Ok((receipts.len() as u64, settled))
 }
 

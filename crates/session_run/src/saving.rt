@@ -1,24 +1,35 @@
 //! Saving both disks.
+ghost use Rattle.std.specs.Prelude.{◌≡◌};
+
 use crate::fault::Fault;
 use crate::locked_image::LockedImage;
 use crate::place::Place;
+use crate::report::Report;
 use blocks::MemStore;
 use std::fs::File;
 use std::rt::Files;
 
-/// Saves the disks that have images, the local one first in `images`. Both are written beside their images before either
+/// Saves the disks of a report that have images, the local one first in `images`. Both are written beside their images before either
 /// takes its place, so a failed write changes no image; what was written is then removed. If the peer's image cannot
 /// be replaced once the local one is, its new contents stay beside it. Once both are replaced, their folders are put on
 /// stable storage. Frees the images at its end.
 pub(crate) fn save<'a, H: Files<File = File> + AllocGlobal>(
     rt: &H,
     images: (Option<LockedImage<'a>>, Option<LockedImage<'a>>),
-    local: &mut MemStore,
-    peer: &mut MemStore,
-) -> Result<(), Fault<'a>> {
+    report: &mut Report,
+) -> Result<(), Fault<'a>>
+    requires { report.old.unmarked ≡ 0 }
+    ensures { report.new ≡ record report.old { local = report.new.local; peer = report.new.peer } }
+{
     let local_place = Place::of(images.0);
     let peer_place = Place::of(images.1);
-    write_both(rt, &local_place, local, &peer_place, peer)?;
+    write_both(
+        rt,
+        &local_place,
+        &mut report.local,
+        &peer_place,
+        &mut report.peer,
+    )?;
     replace_both(rt, &local_place, peer_place)
 }
 

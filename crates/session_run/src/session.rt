@@ -1,7 +1,12 @@
 //! A session over a link in this process, from its start to its settlement.
-ghost use Rattle.std.specs.Prelude.{◌≡◌, ◌*◌, ◌<◌, IfOk};
+ghost use Rattle.std.specs.Prelude.{◌≡◌, ◌*◌, ◌<◌, slice_get, IfOk};
+ghost use Rattle.blocks.specs.SettingsRange.{standard};
+ghost use Rattle.model.specs.Theorems.{Opening};
 ghost use Rattle.ruled_link.specs.Names as names;
+ghost use Rattle.session_run.specs.Outcome.{IsOpening, IsOutcome};
+ghost use Rattle.settle.specs.Settled.{WasHonest};
 ghost use Rattle.volume.specs.Links.{AreEndsOf};
+ghost use Rattle.volume.specs.Opening.{opening_of};
 
 use crate::parts::{Disks, parts};
 use crate::report::{Report, conclude};
@@ -26,7 +31,9 @@ pub(crate) fn run_session<R: Runtime, E: Write + Send>(
     images: (Vec<u8>, Vec<u8>),
     err: &mut E,
 ) -> Result<Report, Refusal>
-    ensures { IfOk result (λ report. report.completed ≡ options.now.writers * options.now.writes) }
+    ensures completed { IfOk result (λ report. report.completed ≡ options.now.writers * options.now.writes) }
+    ensures outcome { IfOk result (λ report. (opening : Opening)
+        × (IsOpening (record standard { protocol = options.now.protocol; blocks = options.now.blocks }) images.0.items images.1.items opening × IsOutcome opening report)) }
 {
     let (parts, disks) = parts(alloc, options, images)?;
     let there = ruled(rt, alloc, parts.settings.link)?;
@@ -34,7 +41,7 @@ pub(crate) fn run_session<R: Runtime, E: Write + Send>(
     run_named::<Brand, R, E>(rt, alloc, options, there, back, disks, parts, err)
 }
 
-// Uses the session, from its start to its end, in one function over its link's name, which the caller picks.
+// Uses the session, from its start to its end, in one function over its name, which the caller picks.
 fn run_named<L: Linked + Send + Sync + 'static, R: Runtime, E: Write + Send>(
     rt: R,
     alloc: Global,
@@ -48,7 +55,10 @@ fn run_named<L: Linked + Send + Sync + 'static, R: Runtime, E: Write + Send>(
     requires blocks { 0 < options.now.blocks }
     requires there { AreEndsOf L.link names.There there }
     requires back { AreEndsOf L.link names.Back back }
-    ensures { IfOk result (λ report. report.completed ≡ options.now.writers * options.now.writes) }
+    requires opening { L.opening ≡ opening_of parts (slice_get disks.0) (slice_get disks.1) }
+    requires honest { WasHonest L.opening }
+    ensures completed { IfOk result (λ report. report.completed ≡ options.now.writers * options.now.writes) }
+    ensures outcome { IfOk result (λ report. IsOutcome L.opening report) }
 {
     let (local, peer) = disks;
     match Session::<R, L, MemStore, MemStore>::start(rt, alloc, there, back, local, peer, parts) {

@@ -63,12 +63,7 @@ fn run_images<
         let _ = print_status(lines, err);
     }
     report.check_marks()?;
-    save(
-        rt,
-        (local_image, peer_image),
-        &mut report.local,
-        &mut report.peer,
-    )?;
+    save(rt, (local_image, peer_image), &mut report)?;
     match print(&report, out) {
         Ok(()) => Ok(()),
         Err(error) => Err(Fault::Unwritten(error)),

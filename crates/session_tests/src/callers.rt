@@ -238,10 +238,10 @@ fn gate<R: Abort + Runtime>(
 // Lets the peer's disk end the first write. Returns whether the device has released neither write before that, and both
 // after it, although both have their receipts.
 fn is_released_by_the_peer(mirror: &impl Device, signals: &Signals) -> bool {
-    let is_held = mirror.accepted() == 2 && !mirror.is_released(1);
+    let is_held = mirror.accepted() == 2 && mirror.released() == 0;
     signals.may_end.store(true, Ordering::SeqCst);
     for _ in 0..LOOKS {
-        if mirror.is_released(2) {
+        if mirror.released() == 2 {
             return is_held;
         }
         thread::yield_now();

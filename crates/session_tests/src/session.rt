@@ -1,7 +1,8 @@
 //! Runs a session over two disks, from its start to its settlement.
-ghost use Rattle.std.specs.Prelude.{◌<◌, IfOk};
+ghost use Rattle.std.specs.Prelude.{◌≡◌, ◌<◌, slice_get, IfOk};
 ghost use Rattle.ruled_link.specs.Names as names;
 ghost use Rattle.volume.specs.Links.{AreEndsOf};
+ghost use Rattle.volume.specs.Opening.{opening_of};
 
 use crate::callers::{Work, carry_out};
 use crate::disks::Signals;
@@ -100,7 +101,7 @@ pub(crate) fn run<
     run_named::<Brand, _, _, _>(rt, alloc, case.work, there, back, disks, parts, signals)
 }
 
-// Runs it in one function over its link's name, which the caller picks.
+// Runs it in one function over its name, which the caller picks.
 fn run_named<
     L: Linked + Send + Sync + 'static,
     R: Abort + Runtime,
@@ -118,6 +119,7 @@ fn run_named<
 ) -> Result<Outcome, Refusal>
     requires there { AreEndsOf L.link names.There there }
     requires back { AreEndsOf L.link names.Back back }
+    requires opening { L.opening ≡ opening_of parts (slice_get (S.contents disks.0)) (slice_get (T.contents disks.1)) }
 {
     let (local, peer) = disks;
     match Session::<R, L, S, T>::start(rt, alloc, there, back, local, peer, parts) {

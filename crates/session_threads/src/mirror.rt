@@ -1,4 +1,6 @@
 //! A running session as a device.
+ghost use Rattle.std.specs.Prelude.{◌≡◌, IfOk};
+
 use crate::shared::{Path, Shared};
 use blocks::{BLOCK_BYTES, Refusal};
 use bytes::Bytes;
@@ -18,15 +20,15 @@ pub struct Mirror<R: Wait, A: PrimaryHalf, B: SecondaryHalf> {
 
 impl<R: Wait + Clock, A: PrimaryHalf, B: SecondaryHalf> Device for Mirror<R, A, B> {
     fn write(&self, first: u64, bytes: &Bytes) -> Result<Receipt, Refusal> {
-        let begun = self.begin(first, bytes)?;
+        let begun = self.begin(first, bytes.clone()?)?;
         self.complete(begun)
     }
 
-    fn begin(&self, first: u64, bytes: &Bytes) -> Result<Begun, Refusal> {
+    fn begin(&self, first: u64, bytes: Bytes) -> Result<Begun, Refusal> {
         if bytes.len() % BLOCK_BYTES != 0 {
             return Err(Refusal::BadRange);
         }
-        let number = self.submit(first, bytes)?;
+        let number = self.submit(first, &bytes)?;
         self.shared.send_next();
         Ok(Begun::new(number, first, bytes))
     }
@@ -78,8 +80,12 @@ impl<R: Wait + Clock, A: PrimaryHalf, B: SecondaryHalf> Device for Mirror<R, A, 
         self.shared.local.accepted()
     }
 
-    fn is_released(&self, number: u64) -> bool {
-        self.shared.local.is_released(number)
+    fn released(&self) -> u64 {
+        self.shared.local.released()
+    }
+
+    fn applied(&self) -> u32 {
+        self.shared.peer.applied()
     }
 }
 
@@ -106,7 +112,9 @@ impl<R: Wait + Clock, A: PrimaryHalf, B: SecondaryHalf> Mirror<R, A, B> {
 
     // Waits until a write is completed or failed. A thread that was woken does a turn first: it may have been woken for
     // that.
-    fn completed(&self, number: u64) -> Result<Receipt, Refusal> {
+    fn completed(&self, number: u64) -> Result<Receipt, Refusal>
+        ensures { IfOk result (λ receipt. receipt.number ≡ number) }
+    {
         let shared = &self.shared;
         let taken = shared.local.take_completed(number);
         if !matches!(taken, Err(Refusal::NotCompleted)) {

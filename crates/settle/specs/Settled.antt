@@ -6,6 +6,7 @@ use Rattle.model.specs.Primary.{PrimaryHistory}
 use Rattle.model.specs.Secondary.{SecondaryHistory, secondary_connection}
 use Rattle.model.specs.Headline.{IsHonest, opening_marked}
 use Rattle.model.specs.Settlement.{Settlement}
+use Rattle.model.specs.Theorems.{Opening, marks_at}
 use Rattle.settle.specs.declared.settlement.Settled.{Settled}
 
 -- the numbers of a settlement
@@ -26,6 +27,10 @@ is_read_fault _ = false
 -- primary's current or bitmap identifier, the disks differed only in marked blocks.
 abbrev pub WereHonest : PrimaryHistory → SecondaryHistory → Type 0
 WereHonest p s = IsHonest p.opening_tuple s.opening_tuple (opening_marked p) p.opening_map s.opening_map
+
+-- the identifiers of this opening are honest
+abbrev pub WasHonest : Opening → Type 0
+WasHonest o = IsHonest o.own o.peer_tuple (marks_at o) o.local o.peer
 
 -- A secondary's history with its last connection alone, the only one whose numbers are kept.
 abbrev pub kept : SecondaryHistory → SecondaryHistory

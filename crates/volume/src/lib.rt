@@ -7,5 +7,5 @@ mod session;
 pub use halves::{Begun, Device, Host, Parts, Runtime};
 pub use locked_halves::{LocalHalf, PeerHalf};
 pub use session::{Session, SessionLocal, SessionMirror, SessionPeer};
-pub use session_link::{Back, Linked, SessionPrimary, SessionSecondary, There};
+pub use session_link::{Back, Began, Linked, SessionPrimary, SessionSecondary, There};
 pub use session_threads::Mirror;

@@ -1,5 +1,6 @@
 //! A session over a link in this process.
-ghost use Rattle.std.specs.Prelude.{◌≤◌, IfOk};
+ghost use Rattle.std.specs.Prelude.{◌≡◌, ◌≤◌, Some, slice_get, IfOk};
+ghost use Rattle.halves.specs.Opening.{opening_of};
 ghost use Rattle.model.specs.Headline.{IsJoined};
 ghost use Rattle.model.specs.Primary.{PrimaryHistory};
 ghost use Rattle.model.specs.Secondary.{SecondaryHistory};
@@ -13,7 +14,8 @@ use halves::Parts;
 use locked_halves::{LocalHalf, PeerHalf};
 use ruled_link::{NamedIn, NamedOut, RuledIn, RuledOut};
 use session_link::{
-    Back, Linked, SessionPrimary, SessionSecondary, There, check_numbers, join_nodes, named_ends,
+    Back, Began, Linked, SessionPrimary, SessionSecondary, There, check_numbers, join_nodes,
+    named_ends,
 };
 use session_threads::{Mirror, Running};
 use std::alloc::Global;
@@ -22,10 +24,22 @@ use std::thread::Threads;
 use std::time::Clock;
 
 /// The primary's half over a session's link.
-pub type SessionLocal<R, L, S> = LocalHalf<R, NamedOut<R, There<L>>, NamedIn<R, Back<L>>, S>;
+pub type SessionLocal<R, L, S> = LocalHalf<
+    R,
+    Began<L>,
+    NamedOut<R, There<L>>,
+    NamedIn<R, Back<L>>,
+    S,
+>;
 
 /// The secondary's half over a session's link.
-pub type SessionPeer<R, L, T> = PeerHalf<R, NamedOut<R, Back<L>>, NamedIn<R, There<L>>, T>;
+pub type SessionPeer<R, L, T> = PeerHalf<
+    R,
+    Began<L>,
+    NamedOut<R, Back<L>>,
+    NamedIn<R, There<L>>,
+    T,
+>;
 
 /// The mirror of a session over a link, which any number of threads may share.
 pub type SessionMirror<R, L, S, T> = Mirror<R, SessionLocal<R, L, S>, SessionPeer<R, L, T>>;
@@ -41,8 +55,8 @@ impl<
     S: Store + Drop + Send + 'static,
     T: Store + Drop + Send + 'static,
 > Session<R, L, S, T> {
-    /// Starts a session over two disks and the two directions of a link, whose rows are the session's: exchanges the
-    /// hellos, and starts the threads.
+    /// Starts a session over two disks and the two directions of a link, whose rows are the session's, as the parts are its
+    /// opening: exchanges the hellos, and starts the threads.
     ///
     /// `BadSetting` (15), `UsedIdentifier` (33) and the refusals of the hello (30 to 33) come as for the nodes;
     /// `NoMemory` (7) if there is no memory, and if a thread cannot be started. Then nothing runs, and all that was
@@ -58,6 +72,7 @@ impl<
     ) -> Result<Session<R, L, S, T>, Refusal>
         requires there { AreEndsOf L.link names.There there }
         requires back { AreEndsOf L.link names.Back back }
+        requires opening { L.opening ≡ opening_of parts (slice_get (S.contents local)) (slice_get (T.contents peer)) }
     {
         let (local_ends, peer_ends) = named_ends::<R, L>(there, back);
         let local = LocalHalf::open(
@@ -97,11 +112,12 @@ impl<R: Threads + Wait + Clock + Drop, L: Linked, S: Store + Drop, T: Store + Dr
     /// Ends the session: cuts the link, lets the disks finish all pending work, stops the threads, and returns both
     /// nodes. `NotDrained` (36) if a thread still shares a node.
     ///
-    /// Each node has a history whose connections all used the session's link. All such histories are joined: on each
+    /// Each node has a history that began with the session's opening, and whose connections all used its link. All such
+    /// histories are joined: on each
     /// connection, what one end took begins what the other pushed, both ways. No connection of the secondary has a
     /// number above the primary's last one; else 36 is returned, which no session brings about.
     pub fn finish(self) -> Result<(SessionPrimary<R, L, S>, SessionSecondary<R, L, T>), Refusal>
-        ensures had { IfOk result (λ nodes. PrimaryIsHad nodes.0 × SecondaryIsHad nodes.1) }
+        ensures had { IfOk result (λ nodes. PrimaryIsHad (Some L.opening) nodes.0 × SecondaryIsHad (Some L.opening) nodes.1) }
         ensures joined { IfOk result (λ nodes. (p : PrimaryHistory) (s : SecondaryHistory) → PrimaryHas nodes.0 p → SecondaryHas nodes.1 s → IsJoined p s) }
         ensures numbered { IfOk result (λ nodes. nodes.1.core.number ≤ nodes.0.core.connections) }
     {
@@ -123,7 +139,7 @@ fn into_nodes<R: Wait + Drop, L: Linked, S: Store + Drop, T: Store + Drop>(
     local: SessionLocal<R, L, S>,
     peer: SessionPeer<R, L, T>,
 ) -> (SessionPrimary<R, L, S>, SessionSecondary<R, L, T>)
-    ensures had { PrimaryIsHad result.0 × SecondaryIsHad result.1 }
+    ensures had { PrimaryIsHad (Some L.opening) result.0 × SecondaryIsHad (Some L.opening) result.1 }
     ensures joined { (p : PrimaryHistory) (s : SecondaryHistory) → PrimaryHas result.0 p → SecondaryHas result.1 s → IsJoined p s }
 {
     join_nodes(local.into_node(), peer.into_node())

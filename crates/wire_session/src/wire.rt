@@ -1,5 +1,5 @@
 //! A session whose frames go over streams of bytes, such as sockets.
-ghost use Rattle.std.specs.Prelude.{◌<◌, ◌≤◌, IfOk};
+ghost use Rattle.std.specs.Prelude.{◌<◌, ◌≤◌, None, IfOk};
 ghost use Rattle.session_nodes.specs.Primaries.{PrimaryIsHad};
 ghost use Rattle.session_nodes.specs.Secondaries.{SecondaryIsHad};
 
@@ -10,6 +10,7 @@ use primary::Primary;
 use ruled_link::{RuledIn, RuledOut};
 use secondary::Secondary;
 use session_link::check_numbers;
+use session_nodes::Unknown;
 use session_threads::{Mirror, PumpEnds, Running, Sink, Source, Way, half_rows};
 use std::alloc::Global;
 use std::sync::Wait;
@@ -17,10 +18,10 @@ use std::thread::Threads;
 use std::time::Clock;
 
 /// The primary's half of a session over streams.
-pub type WireLocal<R, S> = LocalHalf<R, RuledOut<R>, RuledIn<R>, S>;
+pub type WireLocal<R, S> = LocalHalf<R, Unknown, RuledOut<R>, RuledIn<R>, S>;
 
 /// The secondary's half of a session over streams.
-pub type WirePeer<R, T> = PeerHalf<R, RuledOut<R>, RuledIn<R>, T>;
+pub type WirePeer<R, T> = PeerHalf<R, Unknown, RuledOut<R>, RuledIn<R>, T>;
 
 /// The mirror of a session over streams, which any number of threads may share.
 pub type WireMirror<R, S, T> = Mirror<R, WireLocal<R, S>, WirePeer<R, T>>;
@@ -133,7 +134,7 @@ impl<R: Threads + Wait + Clock + Drop, S: Store + Drop, T: Store + Drop> WireSes
     /// pushed depends on the streams, and no contract can speak of them. No connection of the secondary has a number
     /// above the primary's last one; else 36 is returned, which no session brings about.
     pub fn finish(self) -> Result<(WirePrimary<R, S>, WireSecondary<R, T>), Refusal>
-        ensures had { IfOk result (λ nodes. PrimaryIsHad nodes.0 × SecondaryIsHad nodes.1) }
+        ensures had { IfOk result (λ nodes. PrimaryIsHad None nodes.0 × SecondaryIsHad None nodes.1) }
         ensures numbered { IfOk result (λ nodes. nodes.1.core.number ≤ nodes.0.core.connections) }
     {
         let WireSession { running } = self;

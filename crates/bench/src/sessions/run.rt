@@ -1,6 +1,8 @@
 //! A measured session, from its start to its end.
+ghost use Rattle.std.specs.Prelude.{◌≡◌, slice_get};
 ghost use Rattle.ruled_link.specs.Names as names;
 ghost use Rattle.volume.specs.Links.{AreEndsOf};
+ghost use Rattle.volume.specs.Opening.{opening_of};
 
 use crate::sessions::report::Report;
 use crate::sessions::writers::write_all;
@@ -91,7 +93,7 @@ fn run_linked<R: Runtime>(rt: R, alloc: Global, plan: Plan) -> Result<Report, Re
     run_named::<Brand, R>(rt, alloc, plan, there, back, disks, parts)
 }
 
-// Runs it in one function over the link's name, which the caller picks.
+// Runs it in one function over its name, which the caller picks.
 fn run_named<L: Linked + Send + Sync + 'static, R: Runtime>(
     rt: R,
     alloc: Global,
@@ -103,6 +105,7 @@ fn run_named<L: Linked + Send + Sync + 'static, R: Runtime>(
 ) -> Result<Report, Refusal>
     requires there { AreEndsOf L.link names.There there }
     requires back { AreEndsOf L.link names.Back back }
+    requires opening { L.opening ≡ opening_of parts (slice_get disks.0) (slice_get disks.1) }
 {
     let (local, peer) = disks;
     let session = Session::<R, L, MemStore, MemStore>::start(

@@ -4,7 +4,7 @@ use Rattle.std.proofs.lemmas.Bool.{both_ways, not-false}
 use Rattle.blocks.specs.declared.settings.Settings.{Settings}
 use Rattle.handover.specs.Next.{identifiers_of}
 use Rattle.handover.proofs.Alike.{are_alike, alike-same, same-alike}
-use Rattle.handover.proofs.Handing.{at-rest, reached-leave, marks-left, parts-sound}
+use Rattle.handover.proofs.Handing.{at-rest, reached-leave, length-left, marks-left, parts-sound}
 use Rattle.model.specs.Primary.{primary_connection}
 use Rattle.model.specs.Secondary.{secondary_connection}
 use Rattle.model.specs.Settlement.{is_at_rest}
@@ -28,7 +28,13 @@ returns-clause-left g c = λ p s hp hs. record {
       ∙ (λ i. identifiers_of (c.is_consistent.ensures s hs i) (c.tuple.ensures s hs i) (c.tuple-own.ensures p hp i));
   marks = marks-left p c.in_ok-marks.marks.items c.settings-settings.result.blocks (ap (λ (x : Settings). x.blocks) (c.settings-settings.ensures p hp))
       (c.in_ok-marks.ensures.marks p hp);
+  length = length-left p c.in_ok-marks.marks.items c.settings-settings.result.blocks (c.in_ok-marks.ensures.marks p hp);
 }
+
+pub returns-clause-same : goal.returns-clause-same
+returns-clause-same g c = λ p s hp hs.
+    let alike : are_alike c.settings.result c.settings-settings.result ≡ true = not-false _ (sym c.ne.ensures ∙ c.if-ne.false) in
+    sym (c.settings-settings.ensures p hp) ∙ sym (alike-same _ _ alike) ∙ c.settings.ensures s hs
 
 pub returns-clause-sound : goal.returns-clause-sound
 returns-clause-sound g c = λ p s hp hs joined honest grounded.
@@ -37,7 +43,5 @@ returns-clause-sound g c = λ p s hp hs joined honest grounded.
     (not-false (secondary_connection s).closed (sym (c.is_open-else-is_open.ensures s hs)
     ∙ c.if-is_open-2.false))
     (sym (c.is_drained.ensures s hs) ∙ c.if-not-is_drained.false) (ap is_some (sym (c.next_local.ensures p hp)) ∙ sym c.is_some.ensures ∙ c.if-is_some.false) in
-    let alike : are_alike c.settings.result c.settings-settings.result ≡ true = not-false _ (sym c.ne.ensures ∙ c.if-ne.false) in
-    let same : p.settings ≡ s.settings = sym (c.settings-settings.ensures p hp) ∙ sym (alike-same _ _ alike) ∙ c.settings.ensures s hs in
-    parts-sound _ p s (returns-clause-left g c p s hp hs) same
+    parts-sound _ p s (returns-clause-left g c p s hp hs) (returns-clause-same g c p s hp hs)
     (reached-leave p s hp.reached hs.reached honest joined grounded rest c.identifiers_of-peer.result)

@@ -1,8 +1,10 @@
-use Rattle.requests.proofs.Appending.{one-more, left-one}
+use Rattle.requests.proofs.Appending.{front-one, left-one, one-begun, one-more, whole-one}
 use Rattle.requests.proofs.perform.begin_write.Goals as goal
 
 pub loop-range-preserved : goal.loop-range-preserved
 loop-range-preserved g c = record {
-  done = one-more _ _ _ _ _ _ _ c.loop-range.invariant.done c.in_ok-begin_range.ensures;
+  done = one-more _ _ _ _ _ _ _ c.loop-range.invariant.done (one-begun _ _ _ _ c.in_ok-begin_range.ensures);
   left = left-one _ _ _ _ _ c.loop-range.invariant.left c.in-Some.ensures.steps;
+  contents = front-one _ _ _ _ _ _ _ c.loop-range.invariant.contents c.in_ok-bytes.ensures.parts c.in_ok-begin_range.ensures;
+  whole = λ each. whole-one _ _ _ _ c.in_ok-begin_range.ensures c.in_ok-bytes.ensures.length (c.loop-range.invariant.whole each);
 }

@@ -1,8 +1,9 @@
-use Rattle.requests.proofs.Appending.{one-more, left-one}
+use Rattle.requests.proofs.Appending.{left-one, one-begun, one-more, zeros-one}
 use Rattle.requests.proofs.perform.begin_zeroes.Goals as goal
 
 pub loop-range-preserved : goal.loop-range-preserved
 loop-range-preserved g c = record {
-  done = one-more _ _ _ _ _ _ _ c.loop-range.invariant.done c.in_ok-begin_range.ensures;
+  done = one-more _ _ _ _ _ _ _ c.loop-range.invariant.done (one-begun _ _ _ _ c.in_ok-begin_range.ensures);
   left = left-one _ _ _ _ _ c.loop-range.invariant.left c.in-Some.ensures.steps;
+  zeros = λ each. zeros-one _ _ _ _ c.in_ok-begin_range.ensures c.in_ok-bytes.ensures (c.loop-range.invariant.zeros each);
 }

@@ -1,10 +1,10 @@
-use Rattle.std.proofs.Common.{◌≡◌, ◌<◌, ◌≤◌, ◌∙◌, ℕ, length, sym, arith}
+use Rattle.std.proofs.Common.{◌≡◌, ◌<◌, ◌≤◌, ◌∙◌, None, ℕ, length, sym, arith}
 use Rattle.primary.specs.State.{PrimaryView}
 use Rattle.session_nodes.specs.Primaries.{PrimaryIsHad}
 use Rattle.session_link.proofs.numbers.check_numbers.Goals as goal
 
 -- The number of connections that the primary tells is its core's.
-returned : (v : PrimaryView) (had : PrimaryIsHad v) (number : ℕ) → number ≡ length had.history.connections → v.core.connections ≡ number
+returned : (v : PrimaryView) (had : PrimaryIsHad None v) (number : ℕ) → number ≡ length had.history.connections → v.core.connections ≡ number
 returned v had number tells = had.has.has.leaves.core.rest.connections ∙ sym tells
 
 pub returns-then-number-connections-clause-above : goal.returns-then-number-connections-clause-above

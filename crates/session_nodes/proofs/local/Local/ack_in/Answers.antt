@@ -24,8 +24,9 @@ takes-over g c =
 pub invariant_of-self : goal.invariant_of-self
 invariant_of-self g c =
     let took = c.ack_in.ensures.step in
-    had-over (primary_step (Takes took.frame (is_none took.frame && is_out_of_memory c.ack_in.result))) c.self.inside.node c.ack_in.new.self
-    (replied reply.Ok c.ack_in.result) c.self.invariant (takes-over g c).step
+    had-over (Takes took.frame (is_none took.frame && is_out_of_memory c.ack_in.result))
+    (primary_step (Takes took.frame (is_none took.frame && is_out_of_memory c.ack_in.result))) c.self.inside.node c.ack_in.new.self
+    (replied reply.Ok c.ack_in.result) (λ h. refl) c.self.invariant (takes-over g c).step
 
 pub returns : goal.returns
 returns g c = rw (← c.self.view_is) (record {

@@ -16,7 +16,8 @@ step-over g c =
     (ap (λ (v : PrimaryView). v.incoming) c.close.ensures.rest)) c.close.ensures.step.replies c.close.ensures.step.after
 
 pub invariant_of-self : goal.invariant_of-self
-invariant_of-self g c = had-over (primary_step Closes) c.self.inside.node c.close.new.self (replied reply.Closed c.close.result) c.self.invariant
+invariant_of-self g c = had-over Closes (primary_step Closes) c.self.inside.node c.close.new.self (replied reply.Closed c.close.result)
+    (λ h. refl) c.self.invariant
     (step-over g c)
 
 pub returns : goal.returns

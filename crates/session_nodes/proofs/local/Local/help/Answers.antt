@@ -1,18 +1,17 @@
 use Rattle.session_nodes.proofs.Primaries.{runs-on}
 use Rattle.session_nodes.proofs.local.Local.help.Goals as goal
 
-pub returns-then-step-2 : goal.returns-then-step-2
-returns-then-step-2 g c = record { runs = runs-on c.args.self.now c.step.new.self c.step-2.new.self c.step.ensures.runs c.step-2.ensures.runs }
+pub returns-then-step_of_other-2-clause-runs : goal.returns-then-step_of_other-2-clause-runs
+returns-then-step_of_other-2-clause-runs g c = runs-on c.args.self.now c.step_of_other.new.self c.step_of_other-2.new.self
+    c.step_of_other.ensures.runs c.step_of_other-2.ensures.runs
 
-pub returns-then-step-3 : goal.returns-then-step-3
-returns-then-step-3 g c = record {
-  runs = runs-on c.args.self.now c.step.new.self c.step-3.new.self c.step.ensures.runs
-      (runs-on c.step.new.self c.step-2.new.self c.step-3.new.self c.step-2.ensures.runs c.step-3.ensures.runs);
-}
+pub returns-then-step_of_other-3-clause-runs : goal.returns-then-step_of_other-3-clause-runs
+returns-then-step_of_other-3-clause-runs g c = runs-on c.args.self.now c.step_of_other.new.self c.step_of_other-3.new.self c.step_of_other.ensures.runs
+    (runs-on c.step_of_other.new.self c.step_of_other-2.new.self c.step_of_other-3.new.self c.step_of_other-2.ensures.runs
+    c.step_of_other-3.ensures.runs)
 
-pub returns : goal.returns
-returns g c = record {
-  runs = runs-on c.args.self.now c.step.new.self c.step-4.new.self c.step.ensures.runs
-      (runs-on c.step.new.self c.step-2.new.self c.step-4.new.self c.step-2.ensures.runs
-      (runs-on c.step-2.new.self c.step-3.new.self c.step-4.new.self c.step-3.ensures.runs c.step-4.ensures.runs));
-}
+pub returns-clause-runs : goal.returns-clause-runs
+returns-clause-runs g c = runs-on c.args.self.now c.step_of_other.new.self c.step_of_other-4.new.self c.step_of_other.ensures.runs
+    (runs-on c.step_of_other.new.self c.step_of_other-2.new.self c.step_of_other-4.new.self c.step_of_other-2.ensures.runs
+    (runs-on c.step_of_other-2.new.self c.step_of_other-3.new.self c.step_of_other-4.new.self c.step_of_other-3.ensures.runs
+    c.step_of_other-4.ensures.runs))

@@ -1,3 +1,4 @@
+use Rattle.std.proofs.Common.{refl}
 use Rattle.endpoint.specs.Calls.{is_out_of_memory}
 use Rattle.model.specs.LocalRuns.{Opens}
 use Rattle.primary_protocol.specs.Node.{primary_step}
@@ -19,8 +20,9 @@ steps g c = reopens-over c.args.sync c.args.loss c.self.inside.node c.reopen.new
     c.reopen.ensures.number c.reopen.ensures.unchanged
 
 pub invariant_of-self : goal.invariant_of-self
-invariant_of-self g c = had-over (primary_step (Opens c.args.sync c.args.loss (is_out_of_memory c.reopen.result))) c.self.inside.node c.reopen.new.self
-    (replied (λ number. plainly tt) c.reopen.result) c.self.invariant (steps g c)
+invariant_of-self g c = had-over (Opens c.args.sync c.args.loss (is_out_of_memory c.reopen.result))
+    (primary_step (Opens c.args.sync c.args.loss (is_out_of_memory c.reopen.result))) c.self.inside.node c.reopen.new.self
+    (replied (λ number. plainly tt) c.reopen.result) (λ h. refl) c.self.invariant (steps g c)
 
-pub returns : goal.returns
-returns g c = rw (← c.self.view_is) (record { step = steps g c })
+pub returns-clause-step : goal.returns-clause-step
+returns-clause-step g c = rw (← c.self.view_is) (steps g c)

@@ -20,8 +20,9 @@ step-over g c =
 
 -- src/local.rt
 pub invariant_of-self : goal.invariant_of-self
-invariant_of-self g c = had-over (primary_step (Sends (has_room c.send.result) (is_out_of_memory c.send.result))) c.self.inside.node c.send.new.self
-    (replied reply.Ok c.send.result) c.self.invariant (step-over g c)
+invariant_of-self g c = had-over (Sends (has_room c.send.result) (is_out_of_memory c.send.result))
+    (primary_step (Sends (has_room c.send.result) (is_out_of_memory c.send.result))) c.self.inside.node c.send.new.self
+    (replied reply.Ok c.send.result) (λ h. refl) c.self.invariant (step-over g c)
 
 pub returns : goal.returns
 returns g c = rw (← c.self.view_is)

@@ -22,8 +22,9 @@ step-over g c =
     (ap (λ (v : PrimaryView). v.incoming) c.submit.ensures.rest)) c.submit.ensures.step.replies c.submit.ensures.step.after
 
 pub invariant_of-self : goal.invariant_of-self
-invariant_of-self g c = had-over (primary_step (Submits c.args.first (whole_blocks c.args.bytes.now) (is_out_of_memory c.submit.result))) c.self.inside.node
-    c.submit.new.self (replied (λ returned. reply.Ok returned.1) c.submit.result) c.self.invariant (step-over g c)
+invariant_of-self g c = had-over (Submits c.args.first (whole_blocks c.args.bytes.now) (is_out_of_memory c.submit.result))
+    (primary_step (Submits c.args.first (whole_blocks c.args.bytes.now) (is_out_of_memory c.submit.result))) c.self.inside.node
+    c.submit.new.self (replied (λ returned. reply.Ok returned.1) c.submit.result) (λ h. refl) c.self.invariant (step-over g c)
 
-pub returns : goal.returns
-returns g c = rw (← c.self.view_is) (record { step = step-over g c })
+pub returns-clause-step : goal.returns-clause-step
+returns-clause-step g c = rw (← c.self.view_is) (step-over g c)

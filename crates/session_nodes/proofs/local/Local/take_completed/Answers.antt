@@ -15,8 +15,9 @@ step-over g c =
     (ap (λ (v : PrimaryView). v.incoming) c.take_completed.ensures.rest)) c.take_completed.ensures.step.replies c.take_completed.ensures.step.after
 
 pub invariant_of-self : goal.invariant_of-self
-invariant_of-self g c = had-over (take_receipt c.args.number) c.self.inside.node c.take_completed.new.self c.take_completed.result c.self.invariant
+invariant_of-self g c = had-over (Receipts c.args.number) (take_receipt c.args.number) c.self.inside.node c.take_completed.new.self c.take_completed.result
+    (λ h. refl) c.self.invariant
     (step-over g c)
 
-pub returns : goal.returns
-returns g c = rw (← c.self.view_is) (record { step = step-over g c })
+pub returns-clause-step : goal.returns-clause-step
+returns-clause-step g c = rw (← c.self.view_is) (step-over g c)

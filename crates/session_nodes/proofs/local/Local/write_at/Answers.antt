@@ -27,5 +27,5 @@ ran g c = elim c.local.ensures.step [
 pub invariant_of-self : goal.invariant_of-self
 invariant_of-self g c = had-runs c.self.inside.node c.local.new.self c.self.invariant (ran g c)
 
-pub returns : goal.returns
-returns g c = rw (← c.self.view_is) (record { runs = ran g c })
+pub returns-clause-runs : goal.returns-clause-runs
+returns-clause-runs g c = rw (← c.self.view_is) (ran g c)

@@ -19,7 +19,7 @@ step-over g c =
 
 pub invariant_of-self : goal.invariant_of-self
 invariant_of-self g c = had-over (Acknowledges (has_room c.ack_out.result) (is_out_of_memory c.ack_out.result)) c.self.inside.node c.ack_out.new.self
-    (replied (λ done. done) c.ack_out.result) c.self.invariant (step-over g c)
+    (replied (λ done. done) c.ack_out.result) (λ h. refl) c.self.invariant (step-over g c)
 
 pub returns : goal.returns
 returns g c = rw (← c.self.view_is) (record {

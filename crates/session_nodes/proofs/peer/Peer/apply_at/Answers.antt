@@ -24,5 +24,5 @@ ran g c = elim c.peer.ensures.step [
 pub invariant_of-self : goal.invariant_of-self
 invariant_of-self g c = had-runs c.self.inside.node c.peer.new.self c.self.invariant (ran g c)
 
-pub returns : goal.returns
-returns g c = rw (← c.self.view_is) (record { runs = ran g c })
+pub returns-clause-runs : goal.returns-clause-runs
+returns-clause-runs g c = rw (← c.self.view_is) (ran g c)

@@ -14,7 +14,7 @@ step-over g c =
     (ap (λ (v : SecondaryView). v.incoming) c.close.ensures.rest)) c.close.ensures.step
 
 pub invariant_of-self : goal.invariant_of-self
-invariant_of-self g c = had-over ClosesToo c.self.inside.node c.close.new.self (replied plainly c.close.result) c.self.invariant (step-over g c)
+invariant_of-self g c = had-over ClosesToo c.self.inside.node c.close.new.self (replied plainly c.close.result) (λ h. refl) c.self.invariant (step-over g c)
 
 pub returns : goal.returns
 returns g c = rw (← c.self.view_is) (record { step = step-over g c })

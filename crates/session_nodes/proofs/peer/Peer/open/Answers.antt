@@ -1,9 +1,16 @@
 use Rattle.std.proofs.Common.{refl, ap}
 use Rattle.secondary.specs.State.{SecondaryView}
-use Rattle.session_nodes.proofs.Secondaries.{first-over}
+use Rattle.session_nodes.proofs.Secondaries.{first-over, had-from}
 use Rattle.session_nodes.proofs.peer.Peer.open.Goals as goal
 
 pub invariant_of-result : goal.invariant_of-result
 invariant_of-result g c =
-    first-over c.in_ok-node.node c.open.new.self _ _ _ c.requires.outward c.requires.inward refl c.in_ok-node.ensures.history c.in-Ok.ensures.step
-    (ap (λ (v : SecondaryView). v.outgoing) c.in-Ok.ensures.link) (ap (λ (v : SecondaryView). v.incoming) c.in-Ok.ensures.link)
+    had-from g.B.Beginning.opening c.open.new.self _ c.requires.began
+    (first-over c.in_ok-node.node c.open.new.self _ _ _ c.requires.outward c.requires.inward refl c.in_ok-node.ensures.history c.in-Ok.ensures.step
+    (ap (λ (v : SecondaryView). v.outgoing) c.in-Ok.ensures.link) (ap (λ (v : SecondaryView). v.incoming) c.in-Ok.ensures.link))
+
+pub returns-in-Ok : goal.returns-in-Ok
+returns-in-Ok g c = record {
+  opened = first-over c.in_ok-node.node c.open.new.self _ _ _ c.requires.outward c.requires.inward refl c.in_ok-node.ensures.history c.in-Ok.ensures.step
+      (ap (λ (v : SecondaryView). v.outgoing) c.in-Ok.ensures.link) (ap (λ (v : SecondaryView). v.incoming) c.in-Ok.ensures.link);
+}

@@ -1,3 +1,4 @@
+use Rattle.std.proofs.Common.{refl}
 use Rattle.std.proofs.Common.{sym, subst, ◌<◌, ◌-◌, ◌+◌}
 use Rattle.model.specs.LocalRuns.{OpensToo}
 use Rattle.secondary.specs.State.{SecondaryView}
@@ -14,7 +15,7 @@ steps g c = reopens-over c.args.number c.self.inside.node c.reopen.new.self c.re
 
 pub invariant_of-self : goal.invariant_of-self
 invariant_of-self g c = had-over (OpensToo (c.args.number - (c.self.inside.node.core.number + 1))) c.self.inside.node c.reopen.new.self
-    (replied plainly c.reopen.result) c.self.invariant (steps g c)
+    (replied plainly c.reopen.result) (λ h. refl) c.self.invariant (steps g c)
 
 pub returns-clause-step : goal.returns-clause-step
 returns-clause-step g c = rw (← c.self.view_is) (steps g c)

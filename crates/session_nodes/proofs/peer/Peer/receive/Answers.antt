@@ -22,7 +22,7 @@ pub invariant_of-self : goal.invariant_of-self
 invariant_of-self g c =
     let took = c.receive.ensures.step in
     had-over (Receives took.frame (is_none took.frame && is_out_of_memory c.receive.result)) c.self.inside.node c.receive.new.self
-    (replied (λ done. done) c.receive.result) c.self.invariant (takes-over g c).step
+    (replied (λ done. done) c.receive.result) (λ h. refl) c.self.invariant (takes-over g c).step
 
 pub returns : goal.returns
 returns g c = rw (← c.self.view_is) (record {

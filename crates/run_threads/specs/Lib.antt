@@ -1,0 +1,2 @@
+-- What a run's threads bring about.
+pub mod Plan

@@ -1,0 +1,2 @@
+-- When two disks are alike.
+pub mod Alike

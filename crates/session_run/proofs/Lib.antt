@@ -1,0 +1,2 @@
+-- What a run's session comes to.
+pub mod Outcome

@@ -1,0 +1,84 @@
+-- What a settlement says of the numbers of its outcome.
+use Rattle.std.proofs.Common.{ℕ, ◌≡◌, ◌≤◌, ◌∙◌, Bool, true, false, List, Option, Some, None, Result, Ok, Err, slice_get, ap, subst, arith}
+use Rattle.std.proofs.Common.{Vec, Global, sym}
+use Rattle.std.specs.Prelude.{vec_len, IfOk, IsOk}
+use Rattle.blocks.specs.declared.refusal.Refusal.{Refusal}
+use Rattle.blocks.specs.declared.settings.Settings.{Settings}
+use Rattle.model.specs.Headline.{IsJoined}
+use Rattle.model.specs.LocalRuns.{primary_run, secondary_run}
+use Rattle.model.specs.Primary.{PrimaryHistory}
+use Rattle.model.specs.Refusals.{first_refusal}
+use Rattle.model.specs.Secondary.{SecondaryHistory}
+use Rattle.model.specs.Settlement.{Receipt, Settlement, settle, settle_tests, settlement}
+use Rattle.model.specs.Theorems.{Opening, primary_at, secondary_at}
+use Rattle.primary.specs.State.{PrimaryView}
+use Rattle.secondary.specs.State.{SecondaryView}
+use Rattle.session_nodes.specs.Primaries.{PrimaryHas, PrimaryIsHad}
+use Rattle.session_nodes.specs.Secondaries.{SecondaryHas, SecondaryIsHad}
+use Rattle.session_run.specs.Outcome.{HasSettled, IsOpening, IsOutcome}
+use Rattle.session_run.specs.declared.report.Report.{Report}
+use Rattle.settle.proofs.Openings.{were-honest}
+use Rattle.settle.specs.Settled.{WasHonest}
+
+-- where nodes settle, it is to these numbers
+pub settled-numbers : (p : PrimaryHistory) (s : SecondaryHistory) (receipts : List Receipt) (faulty : Bool) (numbers : Settlement)
+    → Ok numbers ≡ settle p s receipts faulty → numbers ≡ settlement p s receipts
+settled-numbers p s receipts faulty numbers = by (first_refusal (settle_tests p s receipts faulty))
+  where
+    by : (v : Option Refusal) → Ok numbers ≡ (elim v as (λ _. Result Settlement Refusal) [ Some refusal ↦ Err refusal | None ↦ Ok (settlement p s receipts) ])
+        → numbers ≡ settlement p s receipts
+    by None is = cc
+    by (Some refusal) is = absurd (cc)
+
+-- the settlement of the nodes that ended
+pub ended-settles : (worked : Result (Vec Receipt Global) Refusal) (ended : Result (PrimaryView × SecondaryView) Refusal) (a : PrimaryView)
+    (b : SecondaryView) (confirmed unmarked : ℕ) → ended ≡ Ok (a, b)
+    → IfOk worked (λ receipts. b.core.number ≤ a.core.connections → HasSettled a b receipts.items confirmed unmarked)
+    → IfOk worked (λ receipts. IfOk ended (λ nodes. nodes.1.core.number ≤ nodes.0.core.connections
+    → HasSettled nodes.0 nodes.1 receipts.items confirmed unmarked))
+ended-settles (Err refusal) ended a b confirmed unmarked is settles = tt
+ended-settles (Ok receipts) ended a b confirmed unmarked is settles =
+    subst (λ w. IfOk w (λ nodes. nodes.1.core.number ≤ nodes.0.core.connections → HasSettled nodes.0 nodes.1 receipts.items confirmed unmarked)) (sym is)
+    settles
+
+-- what a session's nodes, once they are settled, make of its report
+pub outcome-of : (o : Opening) (result : Result Report Refusal) (worked : Result (Vec Receipt Global) Refusal) (ended : Result (PrimaryView × SecondaryView) Refusal)
+    → WasHonest o → IfOk result (λ _. IsOk worked × IsOk ended)
+    → IfOk result (λ report. IfOk worked (λ receipts. report.completed ≡ vec_len receipts))
+    → IfOk result (λ report. IfOk worked (λ receipts. IfOk ended (λ nodes. nodes.1.core.number ≤ nodes.0.core.connections
+    → HasSettled nodes.0 nodes.1 receipts.items report.confirmed report.unmarked)))
+    → IfOk result (λ report. IfOk ended (λ nodes. (report.local ≡ nodes.0.disk) × (report.peer ≡ nodes.1.disk)))
+    → IfOk ended (λ nodes. PrimaryIsHad (Some o) nodes.0 × SecondaryIsHad (Some o) nodes.1)
+    → IfOk ended (λ nodes. (p : PrimaryHistory) (s : SecondaryHistory) → PrimaryHas nodes.0 p → SecondaryHas nodes.1 s → IsJoined p s)
+    → IfOk ended (λ nodes. nodes.1.core.number ≤ nodes.0.core.connections) → IfOk result (λ report. IsOutcome o report)
+outcome-of o (Err refusal) worked ended honest done count settles disks had joined numbered = tt
+outcome-of o (Ok report) (Err refusal) ended honest done count settles disks had joined numbered = absurd (let wrong : false ≡ true = done.0 in cc (wrong))
+outcome-of o (Ok report) (Ok receipts) (Err refusal) honest done count settles disks had joined numbered = absurd (let wrong : false ≡ true = done.1 in cc (wrong))
+outcome-of o (Ok report) (Ok receipts) (Ok nodes) honest done count settles disks had joined numbered =
+    let p = had.0 in
+    let s = had.1 in
+    let here : PrimaryHas nodes.0 (primary_run p.began.0 (primary_at o)) = subst (PrimaryHas nodes.0) p.began.1 p.has in
+    let there : SecondaryHas nodes.1 (secondary_run s.began.0 (secondary_at o)) = subst (SecondaryHas nodes.1) s.began.1 s.has in
+    let joins = joined (primary_run p.began.0 (primary_at o)) (secondary_run s.began.0 (secondary_at o)) here there in
+    let settled = settles numbered (primary_run p.began.0 (primary_at o)) (secondary_run s.began.0 (secondary_at o)) here.has there.has joins
+    (were-honest o p.began.0 s.began.0 honest) in
+    record {
+      here = p.began.0;
+      there = s.began.0;
+      receipts = receipts.items;
+      numbers = settled.0;
+      joined = joins;
+      settles = settled.1.0;
+      completed = omega (arith, count, receipts.ok);
+      confirmed = settled.1.1.0;
+      unmarked = settled.1.1.1;
+      local = λ block. ap (λ (l : List (List ℕ)). slice_get l block) disks.0 ∙ here.has.leaves.disk block;
+      peer = λ block. ap (λ (l : List (List ℕ)). slice_get l block) disks.1 ∙ there.has.leaves.disk block;
+    }
+
+-- a report of a run from an opening is one of the options and images that the opening is made of
+pub outcome-from : (result : Result Report Refusal) (o : Opening) (chosen : Settings) (local peer : List ℕ) → IsOpening chosen local peer o
+    → IfOk result (λ report. IsOutcome o report)
+    → IfOk result (λ report. (opening : Opening) × (IsOpening chosen local peer opening × IsOutcome opening report))
+outcome-from (Err refusal) o chosen local peer is outcome = tt
+outcome-from (Ok report) o chosen local peer is outcome = (o, (is, outcome))

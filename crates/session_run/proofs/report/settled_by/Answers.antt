@@ -1,0 +1,33 @@
+use Rattle.std.proofs.Common.{◌≡◌, ◌≤◌, List, false, refl, sym, ap, subst}
+use Rattle.std.specs.Prelude.{IfOk}
+use Rattle.model.specs.Settlement.{Receipt, Settlement, settlement}
+use Rattle.model.specs.Theorems.{Settles}
+use Rattle.settle.specs.Settled.{kept, numbers}
+use Rattle.session_run.specs.Outcome.{HasSettled, IsNumber}
+use Rattle.session_run.proofs.Outcome.{settled-numbers}
+use Rattle.session_run.proofs.report.settled_by.Goals as goal
+
+pub returns-clause-confirmed : goal.returns-clause-confirmed
+returns-clause-confirmed g c = subst (λ w. IfOk w (λ receipts. IsNumber (λ n. n.confirmed) c.args.primary.now c.args.secondary.now receipts.items
+    c.in_ok-settled.settled.confirmed)) (sym c.in_ok-receipts.was) (λ p s hp hs.
+    subst (λ (l : List Receipt). c.in_ok-settled.settled.confirmed ≡ (settlement p s l).confirmed) c.as_slice.ensures.value
+    (ap (λ (n : Settlement). n.confirmed) (settled-numbers p (kept s) c.as_slice.result.now false (numbers c.in_ok-settled.settled)
+    (c.in_ok-settled.ensures.kept p s hp hs))))
+
+pub returns-clause-unmarked : goal.returns-clause-unmarked
+returns-clause-unmarked g c = subst (λ w. IfOk w (λ receipts. IsNumber (λ n. n.unmarked) c.args.primary.now c.args.secondary.now receipts.items
+    c.in_ok-settled.settled.unmarked)) (sym c.in_ok-receipts.was) (λ p s hp hs.
+    ap (λ (n : Settlement). n.unmarked) (settled-numbers p (kept s) c.as_slice.result.now false (numbers c.in_ok-settled.settled)
+    (c.in_ok-settled.ensures.kept p s hp hs)))
+
+pub returns-clause-settles : goal.returns-clause-settles
+returns-clause-settles g c = subst (λ w. IfOk w (λ receipts. c.args.secondary.now.core.number ≤ c.args.primary.now.core.connections
+    → HasSettled c.args.primary.now c.args.secondary.now receipts.items c.in_ok-settled.settled.confirmed c.in_ok-settled.settled.unmarked))
+    (sym c.in_ok-receipts.was) (λ numbered p s hp hs joined honest. (
+      numbers c.in_ok-settled.settled,
+      (
+        subst (λ (l : List Receipt). Settles p s l (numbers c.in_ok-settled.settled)) c.as_slice.ensures.value
+            (c.in_ok-settled.ensures.settles numbered p s hp hs joined honest),
+        (refl, refl),
+      ),
+    ))
