@@ -151,9 +151,9 @@ const SERVE_STATUSES: &str = "
 Exit statuses: 0 done; 1 an image cannot be opened, is no regular file, is of
 another length or is in use, an address cannot be listened at, or memory, a
 thread or the output failed; or, at the end, blocks were not copied or differ
-without a mark, a sync has failed, or an image was replaced or has another
-length; 2 wrong usage; 3 a session was refused by another number than 7. Of
-several faults the first is told.
+without a mark, a sync has failed, or an image may have kept parts of a failed
+write, was replaced or has another length; 2 wrong usage; 3 a session was
+refused by another number than 7. Of several faults the first is told.
 ";
 
 /// What a run over sockets does.
@@ -201,12 +201,13 @@ puts both images on stable storage, and prints three lines:
   unmarked 0           blocks that differ and have no mark
 If blocks could not be copied, as with a disk that fails, a line on standard
 error says how many, and the status is 1; so it is if a flush or the end could
-not put an image on stable storage. If an image was replaced or has another
-length, the three lines do not come. The end of standard input does not end it,
-and a signal kills it. A write is answered under C, while the link is up, once
-both files have taken it; that a killed server leaves it in both is neither
-proved nor tested. After a power failure only what was flushed is certain. In
-the background it reads its orders from a pipe:
+not put an image on stable storage, or if a file may have kept parts of a write
+that failed. If an image was replaced or has another length, the three lines do
+not come. The end of standard input does not end it, and a signal kills it. A
+write is answered under C, while the link is up, once both files have taken it;
+that a killed server leaves it in both is neither proved nor tested. After a
+power failure only what was flushed is certain. In the background it reads its
+orders from a pipe:
 
   mkfifo orders
   drbdpair serve --local a.img --peer b.img <> orders &
