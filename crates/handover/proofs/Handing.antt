@@ -11,10 +11,10 @@ use Rattle.blocks.specs.declared.settings.Settings.{Settings}
 use Rattle.blocks.specs.declared.tuple.Tuple.{Tuple}
 use Rattle.handover.specs.Left.{left_by}
 use Rattle.halves.specs.Opening.{opening_of}
-use Rattle.handover.specs.Next.{IsLeft}
-use Rattle.handover.proofs.Leaving.{leaves_an_opening}
+use Rattle.handover.specs.Next.{IsLeft, identifiers_of}
+use Rattle.handover.proofs.Leaving.{leaves_a_sound_opening}
 use Rattle.model.specs.Contents.{IsDisk}
-use Rattle.model.specs.Headline.{IsJoined, IsGrounded, Cover, is_marked}
+use Rattle.model.specs.Headline.{IsJoined, Cover, is_marked}
 use Rattle.model.specs.Primary.{PrimaryHistory, primary_connection, next_local, local_map}
 use Rattle.model.specs.Secondary.{SecondaryHistory, secondary_connection, is_drained, secondary_map}
 use Rattle.model.specs.Settlement.{is_at_rest}
@@ -38,14 +38,14 @@ at-rest p s closed closed_too drained done =
     none None is = refl
     none (Some n) is = absurd (cc)
 
--- what two histories leave is a sound opening, where they are joined, grounded and at rest
+-- what two histories leave is a sound opening, where they are joined and at rest
 abbrev LeaveSound : PrimaryHistory → SecondaryHistory → Type 0
-LeaveSound p s = IsJoined p s → IsGrounded p s → is_at_rest p s ≡ true → (peer : Tuple) → IsSoundOpening (left_by p s peer)
+LeaveSound p s = IsJoined p s → is_at_rest p s ≡ true → IsSoundOpening (left_by p s (identifiers_of s.consistent s.tuple p.tuple))
 
 -- Histories that nodes have do, where the identifiers of both openings were honest.
 pub reached-leave : (p : PrimaryHistory) (s : SecondaryHistory) → primary.IsReached p → secondary.IsReached s → WereHonest p s → LeaveSound p s
 reached-leave p s rp rs honest =
-    of-runs LeaveSound p s rp rs (leaves_an_opening (reached_from p s rp rs) rp.events rs.events (sound-opening p s rp rs honest))
+    of-runs LeaveSound p s rp rs (leaves_a_sound_opening (reached_from p s rp rs) rp.events rs.events (sound-opening p s rp rs honest))
 
 -- the marks of one block more
 pub one-more : (p : PrimaryHistory) (n block : ℕ) (old new : List Bool) (marked : Bool) → old ≡ map (is_marked p) (below n) → new ≡ old ++ marked ∷ []

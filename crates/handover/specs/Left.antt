@@ -1,6 +1,7 @@
 -- What two nodes leave when they are brought together at rest, as an opening of the next session.
 use Rattle.std.specs.Prelude.{◌≡◌, true}
 use Rattle.blocks.specs.declared.tuple.Tuple.{Tuple}
+use Rattle.handover.specs.Next.{identifiers_of}
 use Rattle.model.specs.Headline.{IsGrounded}
 use Rattle.model.specs.Primary.{PrimaryHistory, local_map}
 use Rattle.model.specs.Secondary.{SecondaryHistory, secondary_map}
@@ -24,3 +25,9 @@ left_by p s peer = record {
 abbrev pub JoinedRunsLeaveAnOpening : Type 0
 JoinedRunsLeaveAnOpening =
     JoinedRuns IsSoundOpening (λ p s. IsGrounded p s → is_at_rest p s ≡ true → (peer : Tuple) → IsSoundOpening (left_by p s peer))
+
+-- After any history it is sound with the identifiers that the next session gives the peer's disk. Where no stream began, neither
+-- node's identifiers have changed.
+abbrev pub JoinedRunsLeaveASoundOpening : Type 0
+JoinedRunsLeaveASoundOpening =
+    JoinedRuns IsSoundOpening (λ p s. is_at_rest p s ≡ true → IsSoundOpening (left_by p s (identifiers_of s.consistent s.tuple p.tuple)))

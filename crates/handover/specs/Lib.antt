@@ -1,3 +1,3 @@
 -- What a session leaves, and what the next one starts from.
-pub mod Left
 pub mod Next
+pub mod Left

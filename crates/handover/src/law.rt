@@ -1,9 +1,11 @@
 //! The law that the next session may start from what the last one leaves.
-ghost use Rattle.handover.specs.Left.{JoinedRunsLeaveAnOpening};
+ghost use Rattle.handover.specs.Left.{JoinedRunsLeaveAnOpening, JoinedRunsLeaveASoundOpening};
 
 /// States that two joined nodes at rest leave a sound opening if their history was grounded: both disks have their
 /// blocks, the primary's data have an identifier, and the marks cover every block on which the disks differ, so
-/// that no identifiers of the peer's disk can claim too much.
+/// that no identifiers of the peer's disk can claim too much. After any history the opening is sound with the identifiers
+/// that `parts_after` gives that disk.
 pub fn what_is_left()
     ensures opening { JoinedRunsLeaveAnOpening }
+    ensures next { JoinedRunsLeaveASoundOpening }
 {}

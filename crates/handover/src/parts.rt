@@ -4,7 +4,7 @@ ghost use Rattle.blocks.specs.Ranges.{below};
 ghost use Rattle.blocks.specs.declared.refusal.Refusal.TheVariants.{BadSetting, NoMemory, NotDrained};
 ghost use Rattle.halves.specs.Opening.{opening_of};
 ghost use Rattle.handover.specs.Next.{IsLeft, identifiers_of};
-ghost use Rattle.model.specs.Headline.{IsGrounded, IsJoined, is_marked};
+ghost use Rattle.model.specs.Headline.{IsJoined, is_marked};
 ghost use Rattle.model.specs.Primary.{PrimaryHistory, local_map};
 ghost use Rattle.model.specs.Secondary.{SecondaryHistory, secondary_map};
 ghost use Rattle.model.specs.Settlement.{is_at_rest};
@@ -57,7 +57,7 @@ pub fn parts_after<
         → IsLeft parts p s) }
     ensures words { IfOk result (λ parts. (parts.sync ≡ words.0) × (parts.loss ≡ words.1)) }
     ensures sound { IfOk result (λ parts. (p : PrimaryHistory) (s : SecondaryHistory) → PrimaryHas (primary_node primary.now) p → SecondaryHas (secondary_node secondary.now) s
-        → IsJoined p s → WereHonest p s → IsGrounded p s → IsSoundOpening (opening_of parts (local_map p) (secondary_map s))) }
+        → IsJoined p s → WereHonest p s → IsSoundOpening (opening_of parts (local_map p) (secondary_map s))) }
     ensures rest { (p : PrimaryHistory) (s : SecondaryHistory) → PrimaryHas (primary_node primary.now) p → SecondaryHas (secondary_node secondary.now) s
         → (result ≡ Err NotDrained) ↔ (is_at_rest p s ≡ false) }
     ensures same { IfOk result (λ _. (p : PrimaryHistory) (s : SecondaryHistory) → PrimaryHas (primary_node primary.now) p → SecondaryHas (secondary_node secondary.now) s

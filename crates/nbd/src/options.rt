@@ -6,11 +6,20 @@ ghost use Rattle.nbd.specs.Steps.{IsReplied};
 
 use crate::numbers::{put_u16, put_u32, put_u64, u16_at, u32_at};
 use crate::{Export, Short};
-use blocks::Refusal;
+use blocks::{BLOCK_BYTES, Refusal};
 use std::alloc::{AllocError, Global};
+
+/// NBDMAGIC, which begins the greeting.
+const GREETING_MAGIC: u64 = 0x4E42_444D_4147_4943;
 
 /// IHAVEOPT, which begins each option.
 pub(crate) const OPTION_MAGIC: u64 = 0x4948_4156_454F_5054;
+
+/// The handshake flags: FIXED_NEWSTYLE (1) and NO_ZEROES (2).
+const HANDSHAKE_FLAGS: u16 = 3;
+
+/// The transmission flags: HAS_FLAGS (1), SEND_FLUSH (4), SEND_FUA (8), SEND_WRITE_ZEROES (64) and CAN_MULTI_CONN (256).
+const TRANSMISSION_FLAGS: u16 = 333;
 
 /// NBD_OPT_EXPORT_NAME.
 pub(crate) const OPT_EXPORT_NAME: u32 = 1;
@@ -23,6 +32,9 @@ const OPT_INFO: u32 = 6;
 
 const OPT_GO: u32 = 7;
 
+/// What begins each reply to an option.
+const REPLY_MAGIC: u64 = 0x0003_E889_0455_65A9;
+
 const REP_ACK: u32 = 1;
 
 const REP_SERVER: u32 = 2;
@@ -34,8 +46,16 @@ const REP_ERR_UNSUP: u32 = 0x8000_0001;
 const REP_ERR_INVALID: u32 = 0x8000_0003;
 
 const REP_ERR_UNKNOWN: u32 = 0x8000_0006;
+
 /// NBD_REP_ERR_TOO_BIG.
 pub(crate) const REP_ERR_TOO_BIG: u32 = 0x8000_0009;
+
+const INFO_EXPORT: u16 = 0;
+
+const INFO_BLOCK_SIZE: u16 = 3;
+
+/// The most bytes of a request that INFO_BLOCK_SIZE names: a write of 32 blocks.
+const MOST_BYTES: u32 = 131_072;
 
 /// The zeros that end the reply to EXPORT_NAME unless the client set NO_ZEROES.
 const EXPORT_NAME_ZEROS: [u8; 124] = [0; 124];
@@ -66,9 +86,9 @@ pub fn greeting() -> Short
     ensures { result ≡ greeting }
 {
     let mut out = Short::new();
-    put_u64(&mut out, 0x4E42_444D_4147_4943);
+    put_u64(&mut out, GREETING_MAGIC);
     put_u64(&mut out, OPTION_MAGIC);
-    put_u16(&mut out, 3);
+    put_u16(&mut out, HANDSHAKE_FLAGS);
     out
 }
 
@@ -122,7 +142,7 @@ fn put_reply(out: &mut Vec<u8>, option: u32, kind: u32, bytes: &[u8]) -> Result<
     ensures { OnOk result (out.new.items ≡ out.old.items ++ option_reply option kind bytes.now) }
 {
     let mut head = Short::new();
-    put_u64(&mut head, 0x0003_E889_0455_65A9);
+    put_u64(&mut head, REPLY_MAGIC);
     put_u32(&mut head, option);
     put_u32(&mut head, kind);
     put_u32(&mut head, bytes.len() as u32);
@@ -138,7 +158,7 @@ fn put_size_and_flags(out: &mut Short, export: &Export)
     ensures { out.new ≡ out.old ++ size_and_flags export.now }
 {
     put_u64(out, export.bytes());
-    put_u16(out, 333);
+    put_u16(out, TRANSMISSION_FLAGS);
 }
 
 /// Replies to EXPORT_NAME with the export's size; for another name the connection closes, since the option has no error
@@ -243,7 +263,7 @@ fn informed(alloc: Global, export: &Export, option: u32) -> Result<Vec<u8>, Allo
     ensures { IfOk result (λ sent. sent.items ≡ (informed export.now option Next.Negotiate).sent) }
 {
     let mut size = Short::new();
-    put_u16(&mut size, 0);
+    put_u16(&mut size, INFO_EXPORT);
     put_size_and_flags(&mut size, export);
     let mut sent = Vec::new(alloc);
     put_reply(&mut sent, option, REP_INFO, size.as_slice())?;
@@ -259,9 +279,9 @@ fn block_sizes() -> Short
     ensures { result ≡ info_block_size }
 {
     let mut out = Short::new();
-    put_u16(&mut out, 3);
-    put_u32(&mut out, 4096);
-    put_u32(&mut out, 4096);
-    put_u32(&mut out, 131_072);
+    put_u16(&mut out, INFO_BLOCK_SIZE);
+    put_u32(&mut out, BLOCK_BYTES as u32);
+    put_u32(&mut out, BLOCK_BYTES as u32);
+    put_u32(&mut out, MOST_BYTES);
     out
 }

@@ -24,8 +24,7 @@ struct Holder {
     count: u64,
 }
 
-/// Intervals of blocks, each with a number of its own, and no two with a block in common (DRBD's overlap check). A
-/// number above 0 is a write's; 0 is that of the block that a resync has under way.
+/// Intervals of blocks, each with the number of its write, and no two with a block in common (DRBD's overlap check).
 ///
 /// Proofs see the intervals as a list by rising number. `hold` and `release` take time logarithmic in the number of
 /// intervals. So does `conflict`, which then looks at each interval that begins in the range and at the last one

@@ -1,4 +1,4 @@
-//! The intervals of open writes and of a resync's block, with their overlap check.
+//! The intervals of open writes, with their overlap check.
 #![tactic(auto)]
 
 mod held;

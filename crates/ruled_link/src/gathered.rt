@@ -9,8 +9,8 @@ use bytes::{Bytes, BytesMut};
 use packets::{Frame, cut_length};
 use std::alloc::Global;
 use std::marker::Model;
-use std::mem;
 use std::sync::Wait;
+use std::{mem, thread};
 
 /// Bytes of the longest frame, a write of 32 blocks.
 const LONGEST_FRAME: usize = 131_104;
@@ -208,6 +208,7 @@ fn frozen<R: Wait>(rt: &R, chunk: &mut BytesMut) -> Bytes
         if let Ok(bytes) = chunk.freeze_to(chunk.len()) {
             return bytes;
         }
+        thread::yield_now();
     }
     unreachable!()
 }

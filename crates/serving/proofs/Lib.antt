@@ -1,2 +1,3 @@
--- When two disks are alike.
+-- When two disks are alike, and what sessions leave.
 pub mod Alike
+pub mod Ended

@@ -1,2 +1,3 @@
--- Over which link a server's sessions go.
+-- Over which link a server's sessions go, and what they leave.
 pub mod Links
+pub mod Sessions

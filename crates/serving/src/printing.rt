@@ -1,5 +1,5 @@
 //! A server, from its images to the lines that it prints.
-ghost use Rattle.std.specs.Prelude.{◌<◌, ◌≤◌, IfOk};
+ghost use Rattle.std.specs.Prelude.{◌≡◌, ◌<◌, ◌≤◌, IfOk, OnOk};
 
 use crate::fault::Fault;
 use crate::rest::{Disks, Totals};
@@ -263,7 +263,9 @@ fn shared(service: Service) -> Result<Arc<Service, Global>, Refusal> {
 }
 
 // Prints the three lines. They are printed also if the disks may differ, which is a fault.
-fn print<'a, W: Write>(end: &End<'a>, out: &mut W) -> Result<(), Fault<'a>> {
+fn print<'a, W: Write>(end: &End<'a>, out: &mut W) -> Result<(), Fault<'a>>
+    ensures { OnOk result ((end.now.totals.unmarked ≡ 0) × (end.now.totals.marked ≡ 0)) }
+{
     if let Err(error) = print_lines(&end.totals, out) {
         return Err(Fault::Unwritten(error));
     }

@@ -1,5 +1,6 @@
 //! The parts that a session leaves for the next one.
-ghost use Rattle.std.specs.Prelude.{◌≡◌, IfOk};
+ghost use Rattle.std.specs.Prelude.{◌≡◌, IfOk, IsOk};
+ghost use Rattle.serving.specs.Sessions.{NodesComeTo, counted};
 
 use blocks::{Refusal, Store};
 use client_threads::Service;
@@ -38,7 +39,11 @@ impl Totals {
     };
 
     /// Adds the results of one session, after which this many blocks are marked.
-    fn and(&self, completed: usize, settled: Settled, marked: u32) -> Totals {
+    fn and(&self, completed: usize, settled: Settled, marked: u32) -> Totals
+        ensures completed { result.completed ≡ counted self.now.completed completed }
+        ensures confirmed { result.confirmed ≡ counted self.now.confirmed settled.confirmed }
+        ensures last { (result.unmarked ≡ settled.unmarked) × (result.marked ≡ marked) }
+    {
         Totals {
             completed: self.completed.saturating_add(completed as u64),
             confirmed: self.confirmed.saturating_add(settled.confirmed),
@@ -67,6 +72,8 @@ pub(crate) fn bring_together(
     worked: Result<Vec<Receipt>, Refusal>,
 ) -> Result<Rest, Refusal>
     ensures disks { IfOk result (λ rest. (rest.disks.0.disk ≡ primary.disk) × (rest.disks.1.disk ≡ secondary.disk)) }
+    ensures done { IfOk result (λ _. IsOk worked) }
+    ensures comes { IfOk result (λ rest. IfOk worked (λ receipts. NodesComeTo primary secondary receipts.items totals rest.totals rest.parts)) }
 {
     let (mut primary, mut secondary) = (primary, secondary);
     let compared = compare(service, totals, &mut primary, &mut secondary, worked);
@@ -91,6 +98,8 @@ fn compare(
     worked: Result<Vec<Receipt>, Refusal>,
 ) -> Result<(Parts, Totals), Refusal>
     ensures disks { (primary.new.disk ≡ primary.old.disk) × (secondary.new.disk ≡ secondary.old.disk) }
+    ensures done { IfOk result (λ _. IsOk worked) }
+    ensures comes { IfOk result (λ left. IfOk worked (λ receipts. NodesComeTo primary.old secondary.old receipts.items totals left.1 left.0)) }
 {
     let receipts = worked?;
     let settled = settle(primary, secondary, receipts.as_slice())?;

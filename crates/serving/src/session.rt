@@ -1,6 +1,8 @@
 //! One session of a server, from its start to its settlement.
 ghost use Rattle.ruled_link.specs.Names as names;
 ghost use Rattle.serving.specs.Links.{IsNewDirection};
+ghost use Rattle.serving.specs.Sessions.{IsSession, opening};
+ghost use Rattle.settle.specs.Settled.{WasHonest};
 ghost use Rattle.std.specs.Prelude.{◌≡◌, slice_get, IfOk};
 ghost use Rattle.volume.specs.Links.{AreEndsOf};
 ghost use Rattle.volume.specs.Opening.{opening_of};
@@ -26,7 +28,10 @@ pub(crate) fn run_session<R: Runtime>(
     service: &Service,
     cut_every: Option<u32>,
     rest: Rest,
-) -> Result<Rest, Refusal> {
+) -> Result<Rest, Refusal>
+    requires honest { WasHonest (opening rest) }
+    ensures session { IfOk result (λ next. IsSession (opening rest) rest.totals next) }
+{
     let Rest {
         disks,
         parts,
@@ -70,6 +75,8 @@ fn run_named<L: Linked + Send + Sync + 'static, R: Runtime>(
     requires there { AreEndsOf L.link names.There there }
     requires back { AreEndsOf L.link names.Back back }
     requires opening { L.opening ≡ opening_of parts (slice_get disks.0.disk) (slice_get disks.1.disk) }
+    requires honest { WasHonest L.opening }
+    ensures session { IfOk result (λ next. IsSession L.opening totals next) }
 {
     let (local, peer) = disks;
     match Session::<R, L, ImageStore<File>, ImageStore<File>>::start(

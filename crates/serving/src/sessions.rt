@@ -1,7 +1,8 @@
 //! One session after another, over the same disks.
-ghost use Rattle.std.specs.Prelude.{◌≡◌, slice_get, IfOk, IsTrue};
+ghost use Rattle.std.specs.Prelude.{List, ◌≡◌, slice_get, IfOk, IsTrue};
+ghost use Rattle.serving.specs.Sessions.{HasCome, opening};
+ghost use Rattle.serving.specs.declared.rest.Rest.{Rest};
 ghost use Rattle.settle.specs.Settled.{WasHonest};
-ghost use Rattle.volume.specs.Opening.{opening_of};
 
 use crate::rest::{Disks, Rest, Totals};
 use crate::session::run_session;
@@ -16,23 +17,28 @@ pub(crate) fn run_sessions<R: Runtime>(
     service: &Service,
     cut_every: Option<u32>,
     disks: Disks,
-) -> Result<Rest, Refusal> {
+) -> Result<Rest, Refusal>
+    ensures honest { IfOk result (λ rest. WasHonest (opening rest)) }
+    ensures sessions { IfOk result (λ rest. (first : Rest) × (earlier : List Rest) × (((first.disks.0.disk ≡ disks.0.disk) × (first.disks.1.disk ≡ disks.1.disk))
+        × (WasHonest (opening first) × HasCome first earlier rest))) }
+    ensures alike { IfOk result (λ rest. rest.totals.unmarked ≡ 0 → rest.totals.marked ≡ 0 → rest.disks.0.disk ≡ rest.disks.1.disk) }
+{
     let mut rest = first_rest(service, disks)?;
     for _ in rt.forever() {
         service.requests.forget_writes();
         rest = run_session(rt, service, cut_every, rest)?;
         // Clients that are still here have requests that the next session answers.
         if service.is_over() && service.clients() == 0 {
-            break;
+            return Ok(rest);
         }
     }
-    Ok(rest)
+    unreachable!()
 }
 
 // Returns what the first session over these disks starts from: no block is marked, and if the disks differ, the peer's has
 // the identifiers of an unknown disk (0,0,0,0).
 fn first_rest(service: &Service, disks: Disks) -> Result<Rest, Refusal>
-    ensures honest { IfOk result (λ rest. WasHonest (opening_of rest.parts (slice_get rest.disks.0.disk) (slice_get rest.disks.1.disk))) }
+    ensures honest { IfOk result (λ rest. WasHonest (opening rest)) }
     ensures disks { IfOk result (λ rest. (rest.disks.0.disk ≡ disks.0.disk) × (rest.disks.1.disk ≡ disks.1.disk)) }
 {
     let mut disks = disks;

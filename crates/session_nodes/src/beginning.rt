@@ -9,7 +9,7 @@ pub trait Beginning {
     ghost opening: { Option Opening };
 }
 
-/// A beginning of which nothing is known.
+/// The beginning of nodes whose opening is unknown.
 pub struct Unknown;
 
 impl Beginning for Unknown {

@@ -18,6 +18,7 @@ use Rattle.session_nodes.specs.Secondaries.{SecondaryHas, SecondaryIsHad}
 use Rattle.session_run.specs.Outcome.{HasSettled, IsOpening, IsOutcome}
 use Rattle.session_run.specs.declared.report.Report.{Report}
 use Rattle.settle.proofs.Openings.{were-honest}
+use Rattle.settle.proofs.Settling.{keeps-order}
 use Rattle.settle.specs.Settled.{WasHonest}
 
 -- where nodes settle, it is to these numbers
@@ -69,6 +70,7 @@ outcome-of o (Ok report) (Ok receipts) (Ok nodes) honest done count settles disk
       numbers = settled.0;
       joined = joins;
       settles = settled.1.0;
+      order = keeps-order _ _ here.has.reached there.has.reached (were-honest o p.began.0 s.began.0 honest) joins;
       completed = omega (arith, count, receipts.ok);
       confirmed = settled.1.1.0;
       unmarked = settled.1.1.1;

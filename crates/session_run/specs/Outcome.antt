@@ -8,6 +8,7 @@ use Rattle.model.specs.Primary.{PrimaryHistory, local_map}
 use Rattle.model.specs.Secondary.{SecondaryHistory, secondary_map}
 use Rattle.model.specs.Settlement.{Receipt, Settlement, settlement}
 use Rattle.model.specs.Theorems.{Opening, Settles, primary_at, secondary_at}
+use Rattle.model.specs.WriteOrder.{IsUnharmed, KeepsWriteOrder}
 use Rattle.primary.specs.State.{PrimaryView, node as primary_node}
 use Rattle.primary_protocol.specs.Node.{NodeHas as PrimaryHas}
 use Rattle.secondary.specs.State.{SecondaryView, node as secondary_node}
@@ -36,7 +37,7 @@ pub record IsOpening (chosen : Settings) (local_image peer_image : List ℕ) (o 
 
 -- What a run over a link in this process comes to: two runs of the model, one of each node, from the opening. They are joined, a
 -- settlement with the receipts of all writes says all that the theorem on joined nodes says of one, the report has its numbers,
--- and both disks are those that the runs lead to.
+-- and both disks are those that the runs lead to. If no local write failed, the peer's disk keeps the order of writes.
 pub record IsOutcome (o : Opening) (report : Report) : Type 0 where
   pub here : List PrimaryEvent
   pub there : List SecondaryEvent
@@ -44,6 +45,8 @@ pub record IsOutcome (o : Opening) (report : Report) : Type 0 where
   pub numbers : Settlement
   pub joined : IsJoined (primary_run here (primary_at o)) (secondary_run there (secondary_at o))
   pub settles : Settles (primary_run here (primary_at o)) (secondary_run there (secondary_at o)) receipts numbers
+  pub order : IsUnharmed (primary_run here (primary_at o)) (secondary_run there (secondary_at o))
+      → KeepsWriteOrder (primary_run here (primary_at o)) (secondary_run there (secondary_at o))
   pub completed : report.completed ≡ length receipts
   pub confirmed : report.confirmed ≡ numbers.confirmed
   pub unmarked : report.unmarked ≡ numbers.unmarked

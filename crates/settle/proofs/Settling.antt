@@ -15,7 +15,9 @@ use Rattle.model.specs.Refusals.{first_refusal}
 use Rattle.model.specs.Secondary.{SecondaryConnection, SecondaryHistory, no_secondary_connection, secondary_connection, secondary_connection_at, items_taken}
 use Rattle.model.specs.Settlement.{Receipt, Settlement, applied_items, has_strange, is_at_rest, settlement, settle, unmarked_differences}
 use Rattle.model.specs.Theorems.{Opening, primary_at, secondary_at, marks_at, IsSoundOpening, Settles, SettlesAnyhow}
+use Rattle.model.specs.WriteOrder.{KeepsWriteOrder, IsUnharmed}
 use Rattle.laws.proofs.Theorems.Joined.{joined_settles, joined_settles_anyhow}
+use Rattle.laws.proofs.Theorems.WriteOrder.{joined_write_order}
 use Rattle.laws.proofs.Joining.Openings.{kept-opening-primary, kept-opening-secondary}
 use Rattle.laws.proofs.Lists.Elements.{same-at}
 use Rattle.laws.proofs.Lists.Last.{last-at}
@@ -194,3 +196,9 @@ settled-says-anyhow p s rp rs joined receipts numbers is =
     of-runs (λ q t. IsJoined q t → settle q t receipts false ≡ Ok numbers → SettlesAnyhow q t receipts numbers) p s rp rs
     (λ both settled. joined_settles_anyhow (reached_from p s rp rs) rp.events rs.events (record { here = rp.ranges; there = rs.in_range }) both receipts false
     numbers settled) joined is
+
+-- While the secondary calls itself consistent, its disk keeps the order of writes.
+pub keeps-order : (p : PrimaryHistory) (s : SecondaryHistory) → primary.IsReached p → secondary.IsReached s → WereHonest p s → IsJoined p s → IsUnharmed p s
+    → KeepsWriteOrder p s
+keeps-order p s rp rs honest = of-runs (λ q t. IsJoined q t → IsUnharmed q t → KeepsWriteOrder q t) p s rp rs
+    (joined_write_order (reached_from p s rp rs) rp.events rs.events (sound-opening p s rp rs honest))

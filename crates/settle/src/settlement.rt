@@ -1,11 +1,12 @@
 //! The settlement of two nodes.
-ghost use Rattle.std.specs.Prelude.{◌≡◌, ◌⊎◌, ◌<◌, ◌≤◌, length, true, Err, IfOk};
+ghost use Rattle.std.specs.Prelude.{◌≡◌, ◌⊎◌, ◌<◌, ◌≤◌, length, true, Err, IfOk, OnOk};
 ghost use Rattle.blocks.specs.declared.refusal.Refusal.TheVariants.{ReadFault};
 ghost use Rattle.model.specs.Headline.{IsJoined};
 ghost use Rattle.model.specs.Primary.{PrimaryHistory};
 ghost use Rattle.model.specs.Secondary.{SecondaryHistory, secondary_connection_at, items_taken};
 ghost use Rattle.model.specs.Settlement.{applied_items, is_at_rest, settle};
 ghost use Rattle.model.specs.Theorems.{Settles, SettlesAnyhow};
+ghost use Rattle.model.specs.WriteOrder.{IsUnharmed, KeepsWriteOrder};
 ghost use Rattle.primary.specs.State.{node as primary_node};
 ghost use Rattle.primary_protocol.specs.Node.{NodeHas as PrimaryHas};
 ghost use Rattle.secondary.specs.State.{node as secondary_node};
@@ -42,6 +43,9 @@ pub struct Settled {
 ///
 /// The secondary knows `taken` and `applied` of its own last connection alone. If that is numbered above the
 /// primary's last one, which no session brings about, both are 0.
+///
+/// Of joined nodes that began with honest identifiers it says all that is promised of a mirror: what a completed write has at the
+/// peer (`settles`), that no difference is lost (`settles`), and that the peer's disk has an order of writes (`order`).
 pub fn settle<
     O: FrameOut + Drop,
     I: FrameIn + Drop,
@@ -71,6 +75,8 @@ pub fn settle<
     ensures anyhow { secondary.old.core.number ≤ primary.old.core.connections
         → IfOk result (λ n. (p : PrimaryHistory) (s : SecondaryHistory) → PrimaryHas (primary_node primary.old) p → SecondaryHas (secondary_node secondary.old) s
         → IsJoined p s → SettlesAnyhow p s receipts.now (numbers n)) }
+    ensures order { OnOk result ((p : PrimaryHistory) (s : SecondaryHistory) → PrimaryHas (primary_node primary.old) p → SecondaryHas (secondary_node secondary.old) s
+        → IsJoined p s → WereHonest p s → IsUnharmed p s → KeepsWriteOrder p s) }
 {
     if !is_at_rest(primary, secondary) {
         return Err(Refusal::NotDrained);

@@ -205,12 +205,21 @@ tuples-run : (tuple : Tuple) (events : List SecondaryEvent) (h : SecondaryHistor
 tuples-run tuple [] h t = t
 tuples-run tuple (event ∷ events) h t = tuples-run tuple events (secondary_after event h) (tuples-after tuple event h t)
 
+from-opening : (settings : Settings) (disk : BlockMap) (tuple : Tuple) (events : List SecondaryEvent)
+    → KeepsTuple tuple (secondary_run events (secondary_opening settings disk tuple))
+from-opening settings disk tuple events = tuples-run tuple events (secondary_opening settings disk tuple)
+    (record { quiet = λ none. refl; hello = λ j e there none. absurd (cc); refused = λ j e there was. absurd (cc) })
+
 -- A secondary's hello names the tuple of its opening, as long as it took no item on an earlier connection.
 pub secondary_hello : (settings : Settings) (disk : BlockMap) (tuple : Tuple) (events : List SecondaryEvent) (k : ℕ) (d : SecondaryConnection)
     → slice_get (secondary_run events (secondary_opening settings disk tuple)).connections k ≡ Some d
     → ((j : ℕ) (e : SecondaryConnection) → j < k → slice_get (secondary_run events (secondary_opening settings disk tuple)).connections j ≡ Some e
     → items_taken e ≡ [])
     → d.hello ≡ tuple
-secondary_hello settings disk tuple events k d at quiet =
-    (tuples-run tuple events (secondary_opening settings disk tuple)
-    (record { quiet = λ none. refl; hello = λ j e there none. absurd (cc); refused = λ j e there was. absurd (cc) })).hello k d at quiet
+secondary_hello settings disk tuple events = (from-opening settings disk tuple events).hello
+
+-- A secondary's tuple is that of its opening, as long as it took no item at all.
+pub secondary_tuple : (settings : Settings) (disk : BlockMap) (tuple : Tuple) (events : List SecondaryEvent)
+    → ((j : ℕ) (e : SecondaryConnection) → slice_get (secondary_run events (secondary_opening settings disk tuple)).connections j ≡ Some e → items_taken e ≡ [])
+    → (secondary_run events (secondary_opening settings disk tuple)).tuple ≡ tuple
+secondary_tuple settings disk tuple events = (from-opening settings disk tuple events).quiet

@@ -1,0 +1,64 @@
+-- What the sessions of a server leave, one after another.
+use Rattle.std.specs.Prelude.{ℕ, ◌≡◌, ◌+◌, ◌≤◌, List, [], ◌∷◌, length, min, slice_get}
+use Rattle.handover.specs.Next.{IsLeft}
+use Rattle.model.specs.Headline.{IsJoined}
+use Rattle.model.specs.LocalRuns.{PrimaryEvent, SecondaryEvent, primary_run, secondary_run}
+use Rattle.model.specs.Primary.{PrimaryHistory, local_map, marked_blocks}
+use Rattle.model.specs.Secondary.{SecondaryHistory, secondary_map}
+use Rattle.model.specs.Settlement.{Receipt, Settlement}
+use Rattle.model.specs.Theorems.{Opening, IsSoundOpening, Settles, primary_at, secondary_at}
+use Rattle.model.specs.WriteOrder.{IsUnharmed, KeepsWriteOrder}
+use Rattle.primary.specs.State.{PrimaryView, node as primary_node}
+use Rattle.primary_protocol.specs.Node.{NodeHas as PrimaryHas}
+use Rattle.secondary.specs.State.{SecondaryView, node as secondary_node}
+use Rattle.secondary_protocol.specs.Node.{NodeHas as SecondaryHas}
+use Rattle.serving.specs.declared.rest.Rest.{Rest}
+use Rattle.serving.specs.declared.rest.Totals.{Totals}
+use Rattle.settle.specs.Settled.{WasHonest, WereHonest}
+use Rattle.halves.specs.Opening.{opening_of}
+use Rattle.halves.specs.declared.parts.Parts.{Parts}
+
+-- the opening of the session that starts from here
+abbrev pub opening : Rest → Opening
+opening rest = opening_of rest.parts (slice_get rest.disks.0.disk) (slice_get rest.disks.1.disk)
+
+-- the sum of two counts, as far as 64 bits count
+abbrev pub counted : ℕ → ℕ → ℕ
+counted a b = min (a + b) 18446744073709551615
+
+-- What a session of these two histories comes to, with the receipts of all writes: its settlement says all that the theorem on
+-- joined nodes says of one, the peer's disk keeps the order of writes if no local write failed, the totals go on by the
+-- settlement's numbers, the parts are what both nodes leave, and their opening over the disks as they are is sound.
+pub record ComesTo (p : PrimaryHistory) (s : SecondaryHistory) (receipts : List Receipt) (before after : Totals) (parts : Parts) : Type 0 where
+  pub numbers : Settlement
+  pub settles : Settles p s receipts numbers
+  pub order : IsUnharmed p s → KeepsWriteOrder p s
+  pub completed : after.completed ≡ counted before.completed (length receipts)
+  pub confirmed : after.confirmed ≡ counted before.confirmed numbers.confirmed
+  pub unmarked : after.unmarked ≡ numbers.unmarked
+  pub marked : after.marked ≡ length (marked_blocks p)
+  pub left : IsLeft parts p s
+  pub sound : IsSoundOpening (opening_of parts (local_map p) (secondary_map s))
+
+-- It comes to that for all histories that the two nodes have, if these are joined and began with honest identifiers.
+abbrev pub NodesComeTo : PrimaryView → SecondaryView → List Receipt → Totals → Totals → Parts → Type 0
+NodesComeTo primary secondary receipts before after parts =
+    secondary.core.number ≤ primary.core.connections → (p : PrimaryHistory) (s : SecondaryHistory) → PrimaryHas (primary_node primary) p
+    → SecondaryHas (secondary_node secondary) s → IsJoined p s → WereHonest p s → ComesTo p s receipts before after parts
+
+-- One session: two runs of the model, one of each node, from the session's opening. They are joined and come to what is left, and
+-- both disks are those that the runs lead to.
+pub record IsSession (o : Opening) (before : Totals) (rest : Rest) : Type 0 where
+  pub here : List PrimaryEvent
+  pub there : List SecondaryEvent
+  pub receipts : List Receipt
+  pub joined : IsJoined (primary_run here (primary_at o)) (secondary_run there (secondary_at o))
+  pub comes : ComesTo (primary_run here (primary_at o)) (secondary_run there (secondary_at o)) receipts before rest.totals rest.parts
+  pub local : (block : ℕ) → slice_get rest.disks.0.disk block ≡ local_map (primary_run here (primary_at o)) block
+  pub peer : (block : ℕ) → slice_get rest.disks.1.disk block ≡ secondary_map (secondary_run there (secondary_at o)) block
+  pub honest : WasHonest (opening rest)
+
+-- Sessions led from the first start to this one; between them are the starts of those after the first, the latest first.
+abbrev pub HasCome : Rest → List Rest → Rest → Type 0
+HasCome first [] rest = rest ≡ first
+HasCome first (before ∷ earlier) rest = IsSession (opening before) before.totals rest × HasCome first earlier before
