@@ -4,6 +4,8 @@ use Rattle.std.proofs.Common.{Vec, Global, sym}
 use Rattle.std.specs.Prelude.{vec_len, IfOk, IsOk}
 use Rattle.blocks.specs.declared.refusal.Refusal.{Refusal}
 use Rattle.blocks.specs.declared.settings.Settings.{Settings}
+use Rattle.blocks.specs.declared.tuple.Tuple.{Tuple}
+use Rattle.laws.proofs.Joining.Openings.{kept-opening-primary}
 use Rattle.model.specs.Headline.{IsJoined}
 use Rattle.model.specs.LocalRuns.{primary_run, secondary_run}
 use Rattle.model.specs.Primary.{PrimaryHistory}
@@ -44,7 +46,7 @@ ended-settles (Ok receipts) ended a b confirmed unmarked is settles =
 
 -- what a session's nodes, once they are settled, make of its report
 pub outcome-of : (o : Opening) (result : Result Report Refusal) (worked : Result (Vec Receipt Global) Refusal) (ended : Result (PrimaryView × SecondaryView) Refusal)
-    → WasHonest o → IfOk result (λ _. IsOk worked × IsOk ended)
+    → WasHonest o → o.own.bitmap ≡ 0 → IfOk result (λ _. IsOk worked × IsOk ended)
     → IfOk result (λ report. IfOk worked (λ receipts. report.completed ≡ vec_len receipts))
     → IfOk result (λ report. IfOk worked (λ receipts. IfOk ended (λ nodes. nodes.1.core.number ≤ nodes.0.core.connections
     → HasSettled nodes.0 nodes.1 receipts.items report.confirmed report.unmarked)))
@@ -52,10 +54,10 @@ pub outcome-of : (o : Opening) (result : Result Report Refusal) (worked : Result
     → IfOk ended (λ nodes. PrimaryIsHad (Some o) nodes.0 × SecondaryIsHad (Some o) nodes.1)
     → IfOk ended (λ nodes. (p : PrimaryHistory) (s : SecondaryHistory) → PrimaryHas nodes.0 p → SecondaryHas nodes.1 s → IsJoined p s)
     → IfOk ended (λ nodes. nodes.1.core.number ≤ nodes.0.core.connections) → IfOk result (λ report. IsOutcome o report)
-outcome-of o (Err refusal) worked ended honest done count settles disks had joined numbered = tt
-outcome-of o (Ok report) (Err refusal) ended honest done count settles disks had joined numbered = absurd (let wrong : false ≡ true = done.0 in cc (wrong))
-outcome-of o (Ok report) (Ok receipts) (Err refusal) honest done count settles disks had joined numbered = absurd (let wrong : false ≡ true = done.1 in cc (wrong))
-outcome-of o (Ok report) (Ok receipts) (Ok nodes) honest done count settles disks had joined numbered =
+outcome-of o (Err refusal) worked ended honest unparted done count settles disks had joined numbered = tt
+outcome-of o (Ok report) (Err refusal) ended honest unparted done count settles disks had joined numbered = absurd (let wrong : false ≡ true = done.0 in cc (wrong))
+outcome-of o (Ok report) (Ok receipts) (Err refusal) honest unparted done count settles disks had joined numbered = absurd (let wrong : false ≡ true = done.1 in cc (wrong))
+outcome-of o (Ok report) (Ok receipts) (Ok nodes) honest unparted done count settles disks had joined numbered =
     let p = had.0 in
     let s = had.1 in
     let here : PrimaryHas nodes.0 (primary_run p.began.0 (primary_at o)) = subst (PrimaryHas nodes.0) p.began.1 p.has in
@@ -70,7 +72,10 @@ outcome-of o (Ok report) (Ok receipts) (Ok nodes) honest done count settles disk
       numbers = settled.0;
       joined = joins;
       settles = settled.1.0;
-      order = keeps-order _ _ here.has.reached there.has.reached (were-honest o p.began.0 s.began.0 honest) joins;
+      order = λ none. keeps-order _ _ here.has.reached there.has.reached (were-honest o p.began.0 s.began.0 honest) joins (record {
+        local = none;
+        opening = λ same. ap (λ (t : Tuple). t.bitmap) (kept-opening-primary o p.began.0).tuple ∙ unparted;
+      });
       completed = omega (arith, count, receipts.ok);
       confirmed = settled.1.1.0;
       unmarked = settled.1.1.1;

@@ -1,4 +1,6 @@
 //! The files that a disk is saved to.
+ghost use Rattle.std.specs.Prelude.{◌≡◌};
+
 use crate::fault::Fault;
 use crate::locked_image::LockedImage;
 use blocks::{BLOCK_BYTES, Block, MemStore, Store};
@@ -42,7 +44,9 @@ impl<'a> Place<'a> {
         &self,
         rt: &H,
         disk: &mut MemStore,
-    ) -> Result<(), Fault<'a>> {
+    ) -> Result<(), Fault<'a>>
+        ensures { disk.new ≡ disk.old }
+    {
         let Some(image) = &self.image else {
             return Ok(());
         };
@@ -106,7 +110,9 @@ fn write_disk<H: Files<File = File> + AllocGlobal>(
     image: &str,
     file: &mut File,
     disk: &mut MemStore,
-) -> io::Result<()> {
+) -> io::Result<()>
+    ensures { disk.new ≡ disk.old }
+{
     give_rights(file, &fs::metadata(rt, image)?)?;
     let mut writer = BufWriter::new(rt.alloc(), &mut *file)?;
     let mut block = [0u8; BLOCK_BYTES];

@@ -19,7 +19,7 @@ pub(crate) fn save<'a, H: Files<File = File> + AllocGlobal>(
     report: &mut Report,
 ) -> Result<(), Fault<'a>>
     requires { report.old.unmarked ≡ 0 }
-    ensures { report.new ≡ record report.old { local = report.new.local; peer = report.new.peer } }
+    ensures { report.new ≡ report.old }
 {
     let local_place = Place::of(images.0);
     let peer_place = Place::of(images.1);
@@ -40,7 +40,9 @@ fn write_both<'a, H: Files<File = File> + AllocGlobal>(
     local: &mut MemStore,
     peer_place: &Place<'a>,
     peer: &mut MemStore,
-) -> Result<(), Fault<'a>> {
+) -> Result<(), Fault<'a>>
+    ensures { (local.new ≡ local.old) × (peer.new ≡ peer.old) }
+{
     local_place.write(rt, local)?;
     let written = peer_place.write(rt, peer);
     if written.is_err() {

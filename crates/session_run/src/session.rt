@@ -57,6 +57,7 @@ fn run_named<L: Linked + Send + Sync + 'static, R: Runtime, E: Write + Send>(
     requires back { AreEndsOf L.link names.Back back }
     requires opening { L.opening ≡ opening_of parts (slice_get disks.0) (slice_get disks.1) }
     requires honest { WasHonest L.opening }
+    requires unparted { L.opening.own.bitmap ≡ 0 }
     ensures completed { IfOk result (λ report. report.completed ≡ options.now.writers * options.now.writes) }
     ensures outcome { IfOk result (λ report. IsOutcome L.opening report) }
 {

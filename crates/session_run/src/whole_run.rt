@@ -1,4 +1,10 @@
 //! A run, from its images to the lines that it prints.
+ghost use Rattle.std.specs.Prelude.{◌≡◌, ◌*◌, IfOk};
+ghost use Rattle.blocks.specs.SettingsRange.{standard};
+ghost use Rattle.model.specs.Theorems.{Opening};
+ghost use Rattle.options.specs.declared.run.Path.TheVariants as path;
+ghost use Rattle.session_run.specs.Outcome.{IsOpening, IsOutcome};
+
 use crate::fault::Fault;
 use crate::images::load;
 use crate::locked_image::LockedImage;
@@ -76,7 +82,11 @@ fn run_disks<'a, H: Host + Net<Listener = TcpListener, Stream = TcpStream>, E: W
     options: &RunOptions,
     images: (Vec<u8>, Vec<u8>),
     err: &mut E,
-) -> Result<Report, Fault<'a>> {
+) -> Result<Report, Fault<'a>>
+    ensures completed { IfOk result (λ report. report.completed ≡ options.now.writers * options.now.writes) }
+    ensures outcome { options.now.path ≡ path.Link → IfOk result (λ report. (opening : Opening)
+        × (IsOpening (record standard { protocol = options.now.protocol; blocks = options.now.blocks }) images.0.items images.1.items opening × IsOutcome opening report)) }
+{
     let report = match options.path {
         Path::Link => run_session(*rt, rt.alloc(), options, images, err),
         Path::Sockets => match loopback(rt) {
