@@ -1,7 +1,9 @@
 -- A request that has ended.
-use Rattle.std.specs.Prelude.{Bool, true, false, ℕ, ◌*◌}
+use Rattle.std.specs.Prelude.{Bool, true, false, ℕ, ◌*◌, List, [], Vec, Result, Ok, Err}
+use Rattle.std.specs.Global.{Global}
 use Rattle.nbd.specs.declared.command.Command.{Command}
 use Rattle.nbd.specs.declared.command.Command.TheVariants.{Read, Write, Disconnect, Flush, WriteZeroes}
+use Rattle.nbd.specs.declared.errno.Errno.{Errno}
 use Rattle.nbd.specs.declared.request.Request.{Request}
 
 -- how many bytes follow the reply to a command for so many blocks, if it is done (NBD protocol, "Simple reply message")
@@ -25,7 +27,13 @@ command_syncs WriteZeroes fua = fua
 abbrev pub asks_for_sync : Request → Bool
 asks_for_sync request = command_syncs request.command request.fua
 
--- the request, and whether it was done
+-- the bytes that were read, if they were
+abbrev pub read_bytes : Result (Vec ℕ Global) Errno → List ℕ
+read_bytes (Ok bytes) = bytes.items
+read_bytes (Err errno) = []
+
+-- the request, whether it was done, and the bytes that its reply has
 pub record EndedState : Type 0 where
   pub request : Request
   pub is_done : Bool
+  pub bytes : List ℕ

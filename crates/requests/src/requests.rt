@@ -9,9 +9,10 @@ ghost use Rattle.requests.specs.Receipts.{Begins, HasMore, range_of};
 use crate::answer::Answer;
 use crate::complete::complete_all;
 use crate::ended::Ended;
-use crate::medium::Medium;
 use crate::perform::{begin_write, begin_zeroes, read};
 use crate::release::wait_for_release;
+use crate::stable_storage::StableStorage;
+use crate::sync_fault::SyncFault;
 use crate::syncs::asks_for_sync;
 use crate::under_way::UnderWay;
 use blocks::Protocol;
@@ -30,7 +31,7 @@ use std::time::Clock;
 pub struct Requests {
     pub(crate) alloc: Global,
     protocol: Protocol,
-    medium: Medium,
+    storage: StableStorage,
     writes: AtomicU64,
 }
 
@@ -45,7 +46,7 @@ impl Requests {
         Requests {
             alloc,
             protocol,
-            medium: Medium::new(local, peer),
+            storage: StableStorage::new(local, peer),
             writes: AtomicU64::new(0),
         }
     }
@@ -70,7 +71,7 @@ impl Requests {
     pub fn begin(&self, device: &impl Device, request: Request) -> UnderWay
         ensures { result ≡ request }
     {
-        let round = self.medium.last_round();
+        let round = self.storage.last_round();
         let mut begun = Vec::new(self.alloc);
         let begins = self.begin_writes(device, &request, &mut begun);
         UnderWay {
@@ -117,7 +118,7 @@ impl Requests {
         // request are in the files only now, so its round has to begin from now on.
         let round = match request.command {
             Command::Flush => round,
-            _ => self.medium.last_round(),
+            _ => self.storage.last_round(),
         };
         Ended {
             request,
@@ -136,6 +137,7 @@ impl Requests {
         ensures done { result.reply.error ≡ None → ended.is_done ≡ true }
         ensures unsynced { asks_for_sync ended.request ≡ false → ended.is_done ≡ true → result.reply.error ≡ None }
         ensures data { result.reply.error ≡ None → vec_len result.data ≡ data_bytes ended.request.command ended.request.block_count }
+        ensures bytes { result.reply.error ≡ None → result.data.items ≡ ended.bytes }
         ensures alone { (result.reply.error ≡ None → ⊥) → vec_len result.data ≡ 0 }
     {
         let Ended {
@@ -159,11 +161,11 @@ impl Requests {
         }
     }
 
-    /// Syncs both images to stable storage, whether a request asks for it or not. `InputOutput` (EIO) if a sync fails, or has
-    /// failed before: the system then forgets the data that it could not store.
-    pub fn sync_images<R: Wait>(&self, rt: &R) -> Result<(), Errno> {
-        let last = self.medium.last_round();
-        self.medium.sync(rt, last, self.medium.begin_round())
+    /// Syncs both images to stable storage, whether a request asks for it or not. Returns the first sync that failed, now or
+    /// before: the system then forgets the data that it could not store.
+    pub fn sync_images<R: Wait>(&self, rt: &R) -> Result<(), SyncFault> {
+        let last = self.storage.last_round();
+        self.storage.sync(rt, last, self.storage.begin_round())
     }
 
     // Begins the writes of a request, in order, until one is refused.
@@ -229,14 +231,16 @@ impl Requests {
     // So any round after `last` does for a request that took this number: the round began later, and each write that was
     // answered before is in the files once the round is ready.
     fn sync<R: Wait + Clock>(&self, rt: &R, device: &impl Device, last: u64) -> Result<(), Errno> {
-        if self.medium.is_synced_after(last) {
+        if self.storage.is_synced_after(last) {
             return Ok(());
         }
-        let round = self.medium.begin_round();
+        let round = self.storage.begin_round();
         if self.protocol != Protocol::C {
             wait_for_release(rt, device);
         }
-        self.medium.sync(rt, last, round)
+        self.storage
+            .sync(rt, last, round)
+            .map_err(|_| Errno::InputOutput)
     }
 }
 

@@ -8,7 +8,9 @@ use Rattle.std.proofs.lemmas.Option.{slice_get_within}
 use Rattle.blocks.specs.Ranges.{below}
 use Rattle.blocks.specs.declared.refusal.Refusal.{Refusal}
 use Rattle.halves.specs.Opening.{opening_of}
+use Rattle.blocks.specs.declared.tuple.Tuple.{Tuple}
 use Rattle.laws.proofs.Blocks.SameBlocks.{same-equal}
+use Rattle.laws.proofs.Joining.Openings.{kept-opening-primary, kept-opening-secondary}
 use Rattle.laws.proofs.Lists.Picks.{below-has, filtered-pick}
 use Rattle.model.specs.Contents.{IsDisk}
 use Rattle.model.specs.Headline.{IsJoined, is_marked}
@@ -28,6 +30,7 @@ use Rattle.serving.specs.declared.rest.Totals.{Totals}
 use Rattle.session_nodes.specs.Primaries.{PrimaryHas, PrimaryIsHad}
 use Rattle.session_nodes.specs.Secondaries.{SecondaryHas, SecondaryIsHad}
 use Rattle.settle.proofs.Openings.{were-honest}
+use Rattle.settle.proofs.Settling.{keeps-order}
 use Rattle.settle.specs.Settled.{WasHonest}
 
 -- Disks without differences.
@@ -152,5 +155,11 @@ session-of o before (Ok rest) (Ok receipts) a b honest had joined numbered done 
       comes = left;
       local = local;
       peer = peer;
+      order = λ unparted none. keeps-order _ _ here.has.reached there.has.reached (were-honest o p.began.0 s.began.0 honest) joins (record {
+        local = none;
+        opening = λ same. ap (λ (t : Tuple). t.bitmap) (kept-opening-primary o p.began.0).tuple
+            ∙ unparted (ap (λ (t : Tuple). t.current) (sym (kept-opening-primary o p.began.0).tuple) ∙ same
+            ∙ ap (λ (t : Tuple). t.current) (kept-opening-secondary o s.began.0).tuple);
+      });
       honest = honest-over rest (primary_run p.began.0 (primary_at o)) (secondary_run s.began.0 (secondary_at o)) local peer left.sound.identifiers;
     }

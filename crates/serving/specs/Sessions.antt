@@ -1,13 +1,15 @@
 -- What the sessions of a server leave, one after another.
-use Rattle.std.specs.Prelude.{ℕ, ◌≡◌, ◌+◌, ◌≤◌, List, [], ◌∷◌, length, min, slice_get}
-use Rattle.handover.specs.Next.{IsLeft}
+use Rattle.std.specs.Prelude.{ℕ, ◌≡◌, ◌+◌, ◌≤◌, false, List, [], ◌∷◌, length, min, slice_get, unwrap_or}
+use Rattle.std.specs.List.{list_any}
+use Rattle.blocks.specs.declared.settings.Settings.{Settings}
+use Rattle.handover.specs.Next.{IsLeft, unknown}
 use Rattle.model.specs.Headline.{IsJoined}
 use Rattle.model.specs.LocalRuns.{PrimaryEvent, SecondaryEvent, primary_run, secondary_run}
-use Rattle.model.specs.Primary.{PrimaryHistory, local_map, marked_blocks}
+use Rattle.model.specs.Primary.{PrimaryHistory, is_failed, local_map, marked_blocks}
 use Rattle.model.specs.Secondary.{SecondaryHistory, secondary_map}
 use Rattle.model.specs.Settlement.{Receipt, Settlement}
 use Rattle.model.specs.Theorems.{Opening, IsSoundOpening, Settles, primary_at, secondary_at}
-use Rattle.model.specs.WriteOrder.{IsUnharmed, KeepsWriteOrder}
+use Rattle.model.specs.WriteOrder.{KeepsWriteOrder}
 use Rattle.primary.specs.State.{PrimaryView, node as primary_node}
 use Rattle.primary_protocol.specs.Node.{NodeHas as PrimaryHas}
 use Rattle.secondary.specs.State.{SecondaryView, node as secondary_node}
@@ -26,13 +28,12 @@ opening rest = opening_of rest.parts (slice_get rest.disks.0.disk) (slice_get re
 abbrev pub counted : ℕ → ℕ → ℕ
 counted a b = min (a + b) 18446744073709551615
 
--- What a session of these two histories comes to, with the receipts of all writes: its settlement says all that the theorem on
--- joined nodes says of one, the peer's disk keeps the order of writes if no local write failed, the totals go on by the
--- settlement's numbers, the parts are what both nodes leave, and their opening over the disks as they are is sound.
+-- What a session of these two histories comes to, with the receipts that its work gave: its settlement says all that the theorem on
+-- joined nodes says of one, the totals go on by the settlement's numbers, the parts are what both nodes leave, and their opening over
+-- the disks as they are is sound.
 pub record ComesTo (p : PrimaryHistory) (s : SecondaryHistory) (receipts : List Receipt) (before after : Totals) (parts : Parts) : Type 0 where
   pub numbers : Settlement
   pub settles : Settles p s receipts numbers
-  pub order : IsUnharmed p s → KeepsWriteOrder p s
   pub completed : after.completed ≡ counted before.completed (length receipts)
   pub confirmed : after.confirmed ≡ counted before.confirmed numbers.confirmed
   pub unmarked : after.unmarked ≡ numbers.unmarked
@@ -40,14 +41,16 @@ pub record ComesTo (p : PrimaryHistory) (s : SecondaryHistory) (receipts : List 
   pub left : IsLeft parts p s
   pub sound : IsSoundOpening (opening_of parts (local_map p) (secondary_map s))
 
--- It comes to that for all histories that the two nodes have, if these are joined and began with honest identifiers.
+-- It comes to that for all histories that the two nodes have, if these are joined and began with honest identifiers, and the
+-- secondary has no connection that the primary never had.
 abbrev pub NodesComeTo : PrimaryView → SecondaryView → List Receipt → Totals → Totals → Parts → Type 0
 NodesComeTo primary secondary receipts before after parts =
     secondary.core.number ≤ primary.core.connections → (p : PrimaryHistory) (s : SecondaryHistory) → PrimaryHas (primary_node primary) p
     → SecondaryHas (secondary_node secondary) s → IsJoined p s → WereHonest p s → ComesTo p s receipts before after parts
 
 -- One session: two runs of the model, one of each node, from the session's opening. They are joined and come to what is left, and
--- both disks are those that the runs lead to.
+-- both disks are those that the runs lead to. If no local write failed, and the primary began with no bitmap identifier where both
+-- nodes began with the same current one, the peer's disk has an order of writes while it calls itself consistent.
 pub record IsSession (o : Opening) (before : Totals) (rest : Rest) : Type 0 where
   pub here : List PrimaryEvent
   pub there : List SecondaryEvent
@@ -57,8 +60,31 @@ pub record IsSession (o : Opening) (before : Totals) (rest : Rest) : Type 0 wher
   pub local : (block : ℕ) → slice_get rest.disks.0.disk block ≡ local_map (primary_run here (primary_at o)) block
   pub peer : (block : ℕ) → slice_get rest.disks.1.disk block ≡ secondary_map (secondary_run there (secondary_at o)) block
   pub honest : WasHonest (opening rest)
+  pub order : (o.own.current ≡ o.peer_tuple.current → o.own.bitmap ≡ 0)
+      → list_any (λ accepted. is_failed accepted.outcome) (primary_run here (primary_at o)).writes ≡ false
+      → KeepsWriteOrder (primary_run here (primary_at o)) (secondary_run there (secondary_at o))
+
+-- The start of a server's first session, over these disks and with these settings: no block is marked, nothing was written yet, and
+-- the peer's disk is unknown unless the disks are one.
+pub record IsFirst (chosen : Settings) (local peer : List (List ℕ)) (first : Rest) : Type 0 where
+  pub settings : first.parts.settings ≡ chosen
+  pub own : first.parts.own ≡ record { current = 1; bitmap = 0; first_historical = 0; second_historical = 0 }
+  pub other : (local ≡ peer → ⊥) → first.parts.peer ≡ unknown
+  pub marks : (block : ℕ) → unwrap_or (slice_get first.parts.marks.items block) false ≡ false
+  pub totals : first.totals ≡ record { completed = 0; confirmed = 0; unmarked = 0; marked = 0 }
+  pub disks : (first.disks.0.disk ≡ local) × (first.disks.1.disk ≡ peer)
+  pub honest : WasHonest (opening first)
 
 -- Sessions led from the first start to this one; between them are the starts of those after the first, the latest first.
 abbrev pub HasCome : Rest → List Rest → Rest → Type 0
 HasCome first [] rest = rest ≡ first
 HasCome first (before ∷ earlier) rest = IsSession (opening before) before.totals rest × HasCome first earlier before
+
+-- What a server leaves after its sessions, one or more: from such a first start one led to the next, and the last one to this.
+pub record IsServed (chosen : Settings) (local peer : List (List ℕ)) (rest : Rest) : Type 0 where
+  pub first : Rest
+  pub starts : IsFirst chosen local peer first
+  pub earlier : List Rest
+  pub last : Rest
+  pub session : IsSession (opening last) last.totals rest
+  pub come : HasCome first earlier last

@@ -26,8 +26,8 @@ pub(crate) enum Fault<'a> {
     Changed(&'a str),
     /// A write to the image failed, and a part of it may still be there.
     Torn(&'a str),
-    /// A sync of an image has failed, now or at a flush.
-    Unsynced,
+    /// A sync of the image has failed, now or at a flush.
+    Unsynced(&'a str, io::Error),
     /// The output could not be written.
     Unwritten(io::Error),
 }
@@ -66,8 +66,9 @@ impl fmt::Display for Fault<'_> {
                 f,
                 "{file} may have kept parts of a write that failed: it may differ from what was served"
             ),
-            Fault::Unsynced => f.write_str(
-                "an image could not be put on stable storage: it may lack what was written to it",
+            Fault::Unsynced(file, error) => write!(
+                f,
+                "{file} could not be put on stable storage, and may lack what was written to it: {error}"
             ),
             Fault::Unwritten(error) => write!(f, "the output could not be written: {error}"),
         }

@@ -1,5 +1,9 @@
 //! A server, from its images to the lines that it prints.
-ghost use Rattle.std.specs.Prelude.{◌≡◌, ◌<◌, ◌≤◌, IfOk, OnOk};
+ghost use Rattle.std.specs.Prelude.{ℕ, ◌≡◌, ◌<◌, ◌≤◌, List, None, IfOk, IsOk, OnOk};
+ghost use Rattle.blocks.specs.SettingsRange.{standard};
+ghost use Rattle.blocks.specs.declared.settings.Settings.{Settings};
+ghost use Rattle.serving.specs.Sessions.{IsServed};
+ghost use Rattle.serving.specs.declared.rest.Rest.{Rest};
 
 use crate::fault::Fault;
 use crate::rest::{Disks, Totals};
@@ -9,7 +13,7 @@ use client_threads::{Doors, Service, start_threads};
 use image_store::{ImageLock, ImageStore, OpenFault, SyncHandle};
 use numbers::SessionStatus;
 use options::ServeOptions;
-use requests::Requests;
+use requests::{Requests, Side, SyncFault};
 use std::alloc::Global;
 use std::fs::File;
 use std::io::{Read, Write};
@@ -24,13 +28,13 @@ use volume::{Host, Runtime};
 type Opened = (ImageStore<File>, SyncHandle<File>);
 
 /// How the sessions of a server ended, and its images.
-#[derive(Clone, Copy, Debug, PartialEq, Eq)]
+#[derive(Clone, Copy, Debug)]
 struct End<'a> {
     totals: Totals,
     /// The image that may have kept parts of a write that failed, the local one first.
     torn: Option<&'a str>,
-    /// Whether no sync of an image has failed.
-    is_synced: bool,
+    /// The first image whose sync failed, and why.
+    unsynced: Option<(&'a str, io::Error)>,
 }
 
 /// Serves both images to block clients until `input` has a line `quit`, and prints `completed X`, `settled X` and
@@ -63,7 +67,10 @@ fn serve_images<
     H: Host + Files<File = File> + Net<Listener = TcpListener, Stream = TcpStream> + RandomSource,
     I: Read + Drop + Send + 'static,
     E: Write,
->(rt: &H, options: &ServeOptions<'a>, input: I, err: &mut E) -> Result<End<'a>, Fault<'a>> {
+>(rt: &H, options: &ServeOptions<'a>, input: I, err: &mut E) -> Result<End<'a>, Fault<'a>>
+    ensures served { IfOk result (λ end. (chosen : Settings) × (local : List (List ℕ)) × (peer : List (List ℕ)) × (rest : Rest)
+        × (IsServed chosen local peer rest × (end.totals ≡ rest.totals))) }
+{
     let (local, peer) = lock_both(rt, options)?;
     let served = serve_locked(rt, options, (&local, &peer), input, err);
     drop(local);
@@ -83,7 +90,10 @@ fn serve_locked<
     locks: (&ImageLock, &ImageLock),
     input: I,
     err: &mut E,
-) -> Result<End<'a>, Fault<'a>> {
+) -> Result<End<'a>, Fault<'a>>
+    ensures served { IfOk result (λ end. (chosen : Settings) × (local : List (List ℕ)) × (peer : List (List ℕ)) × (rest : Rest)
+        × (IsServed chosen local peer rest × (end.totals ≡ rest.totals))) }
+{
     let blocks = blocks_of(rt, options)?;
     let doors = Doors::open(rt, options.listen, options.status)?;
     match open_both(rt, options, blocks) {
@@ -143,17 +153,35 @@ fn finish<'a, H: Runtime>(
     service: &Service,
     options: &ServeOptions<'a>,
     disks: Disks,
-) -> Result<End<'a>, Fault<'a>> {
+) -> Result<End<'a>, Fault<'a>>
+    ensures served { IfOk result (λ end. (rest : Rest)
+        × (IsServed (record standard { protocol = service.now.protocol; blocks = service.now.blocks }) disks.0.disk disks.1.disk rest × (end.totals ≡ rest.totals))) }
+{
     let ran = run_sessions(*rt, service, options.cut_every, disks);
     let synced = service.requests.sync_images(rt);
     match ran {
         Ok(rest) => Ok(End {
             totals: rest.totals,
             torn: torn_image(options, &rest.disks),
-            is_synced: synced.is_ok(),
+            unsynced: unsynced_image(options, synced),
         }),
         Err(refusal) => Err(Fault::Refused(refusal)),
     }
+}
+
+// Returns the image whose sync failed, with the reason.
+fn unsynced_image<'a>(
+    options: &ServeOptions<'a>,
+    synced: Result<(), SyncFault>,
+) -> Option<(&'a str, io::Error)>
+    ensures { result ≡ None → IsOk synced }
+{
+    let fault = synced.err()?;
+    let file = match fault.side {
+        Side::Local => options.local,
+        Side::Peer => options.peer,
+    };
+    Some((file, fault.error))
 }
 
 // Returns the image that may have kept parts of a write that failed, the local one first.
@@ -264,7 +292,8 @@ fn shared(service: Service) -> Result<Arc<Service, Global>, Refusal> {
 
 // Prints the three lines. They are printed also if the disks may differ, which is a fault.
 fn print<'a, W: Write>(end: &End<'a>, out: &mut W) -> Result<(), Fault<'a>>
-    ensures { OnOk result ((end.now.totals.unmarked ≡ 0) × (end.now.totals.marked ≡ 0)) }
+    ensures alike { OnOk result ((end.now.totals.unmarked ≡ 0) × (end.now.totals.marked ≡ 0)) }
+    ensures whole { OnOk result ((end.now.torn ≡ None) × (end.now.unsynced ≡ None)) }
 {
     if let Err(error) = print_lines(&end.totals, out) {
         return Err(Fault::Unwritten(error));
@@ -278,8 +307,8 @@ fn print<'a, W: Write>(end: &End<'a>, out: &mut W) -> Result<(), Fault<'a>>
     if let Some(file) = end.torn {
         return Err(Fault::Torn(file));
     }
-    if !end.is_synced {
-        return Err(Fault::Unsynced);
+    if let Some((file, error)) = end.unsynced {
+        return Err(Fault::Unsynced(file, error));
     }
     Ok(())
 }

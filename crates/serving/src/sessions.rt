@@ -1,8 +1,7 @@
 //! One session after another, over the same disks.
-ghost use Rattle.std.specs.Prelude.{List, ◌≡◌, slice_get, IfOk, IsTrue};
-ghost use Rattle.serving.specs.Sessions.{HasCome, opening};
-ghost use Rattle.serving.specs.declared.rest.Rest.{Rest};
-ghost use Rattle.settle.specs.Settled.{WasHonest};
+ghost use Rattle.std.specs.Prelude.{ℕ, ◌≡◌, false, slice_get, unwrap_or, IfOk, IsTrue};
+ghost use Rattle.blocks.specs.SettingsRange.{standard};
+ghost use Rattle.serving.specs.Sessions.{IsFirst, IsServed};
 
 use crate::rest::{Disks, Rest, Totals};
 use crate::session::run_session;
@@ -18,9 +17,7 @@ pub(crate) fn run_sessions<R: Runtime>(
     cut_every: Option<u32>,
     disks: Disks,
 ) -> Result<Rest, Refusal>
-    ensures honest { IfOk result (λ rest. WasHonest (opening rest)) }
-    ensures sessions { IfOk result (λ rest. (first : Rest) × (earlier : List Rest) × (((first.disks.0.disk ≡ disks.0.disk) × (first.disks.1.disk ≡ disks.1.disk))
-        × (WasHonest (opening first) × HasCome first earlier rest))) }
+    ensures served { IfOk result (IsServed (record standard { protocol = service.now.protocol; blocks = service.now.blocks }) disks.0.disk disks.1.disk) }
     ensures alike { IfOk result (λ rest. rest.totals.unmarked ≡ 0 → rest.totals.marked ≡ 0 → rest.disks.0.disk ≡ rest.disks.1.disk) }
 {
     let mut rest = first_rest(service, disks)?;
@@ -38,8 +35,7 @@ pub(crate) fn run_sessions<R: Runtime>(
 // Returns what the first session over these disks starts from: no block is marked, and if the disks differ, the peer's has
 // the identifiers of an unknown disk (0,0,0,0).
 fn first_rest(service: &Service, disks: Disks) -> Result<Rest, Refusal>
-    ensures honest { IfOk result (λ rest. WasHonest (opening rest)) }
-    ensures disks { IfOk result (λ rest. (rest.disks.0.disk ≡ disks.0.disk) × (rest.disks.1.disk ≡ disks.1.disk)) }
+    ensures { IfOk result (IsFirst (record standard { protocol = service.now.protocol; blocks = service.now.blocks }) disks.0.disk disks.1.disk) }
 {
     let mut disks = disks;
     let first = Tuple::new(1, 0, 0, 0);
@@ -61,7 +57,9 @@ fn first_rest(service: &Service, disks: Disks) -> Result<Rest, Refusal>
 
 // Returns the parts of the first session, over disks with these identifiers.
 fn first_parts(service: &Service, own: Tuple, peer: Tuple) -> Result<Parts, Refusal>
-    ensures { IfOk result (λ parts. (parts.own ≡ own) × (parts.peer ≡ peer)) }
+    ensures settings { IfOk result (λ parts. parts.settings ≡ record standard { protocol = service.now.protocol; blocks = service.now.blocks }) }
+    ensures identifiers { IfOk result (λ parts. (parts.own ≡ own) × (parts.peer ≡ peer)) }
+    ensures marks { IfOk result (λ parts. (block : ℕ) → unwrap_or (slice_get parts.marks.items block) false ≡ false) }
 {
     let settings = Settings {
         protocol: service.protocol,

@@ -23,7 +23,6 @@ returns-clause-comes g c = given c.args.worked c.in_ok-receipts.receipts
       numbers = numbers c.in_ok-settled.settled;
       settles = subst (λ (l : List Receipt). Settles p s l (numbers c.in_ok-settled.settled)) c.as_slice.ensures.value
           (c.in_ok-settled.ensures.settles numbered p s hp hs joined honest);
-      order = c.in_ok-settled.ensures.order p s hp hs joined honest;
       completed = c.and-totals.ensures.completed ∙ ap (counted c.args.totals.completed) many;
       confirmed = c.and-totals.ensures.confirmed;
       unmarked = c.and-totals.ensures.last.0;

@@ -1,6 +1,6 @@
 //! Stable storage of both images.
+use crate::sync_fault::{Side, SyncFault};
 use image_store::SyncHandle;
-use nbd::Errno;
 use std::fs::File;
 use std::sync::atomic::{AtomicU64, Ordering};
 use std::sync::{Mutex, Wait};
@@ -12,28 +12,29 @@ use std::sync::{Mutex, Wait};
 /// The system reports a failed sync once, and then forgets the data that it could not store. So once a sync has failed, each
 /// later one fails too.
 #[derive(Drop)]
-pub(crate) struct Medium {
+pub(crate) struct StableStorage {
     local: SyncHandle<File>,
     peer: SyncHandle<File>,
     // The last round that began.
     begun: AtomicU64,
     // The last round that was ready for its sync.
     ready: AtomicU64,
-    // The last round for which a sync succeeded. It changes under the lock of `has_failed`.
+    // The last round for which a sync succeeded. It changes under the lock of `failed`.
     synced: AtomicU64,
-    has_failed: Mutex<bool>,
+    // The first sync that failed.
+    failed: Mutex<Option<SyncFault>>,
 }
 
-impl Medium {
-    /// Creates the medium of two images that these handles sync, with no failed sync.
-    pub(crate) fn new(local: SyncHandle<File>, peer: SyncHandle<File>) -> Medium {
-        Medium {
+impl StableStorage {
+    /// Creates the stable storage of two images that these handles sync, with no failed sync.
+    pub(crate) fn new(local: SyncHandle<File>, peer: SyncHandle<File>) -> StableStorage {
+        StableStorage {
             local,
             peer,
             begun: AtomicU64::new(0),
             ready: AtomicU64::new(0),
             synced: AtomicU64::new(0),
-            has_failed: Mutex::new(false),
+            failed: Mutex::new(None),
         }
     }
 
@@ -53,22 +54,38 @@ impl Medium {
     }
 
     /// Syncs both images for the round `round`, which is ready, unless a sync for a round after `last` succeeds meanwhile.
-    /// `InputOutput` if a sync fails, or has failed before. One sync at a time, so that none succeeds beside one that fails.
-    pub(crate) fn sync<R: Wait>(&self, rt: &R, last: u64, round: u64) -> Result<(), Errno> {
+    /// Returns the first sync that failed, now or before. One sync at a time, so that none succeeds beside one that fails.
+    pub(crate) fn sync<R: Wait>(&self, rt: &R, last: u64, round: u64) -> Result<(), SyncFault> {
         self.ready.fetch_max(round, Ordering::SeqCst);
-        let mut has_failed = self.has_failed.lock(rt);
+        let mut failed = self.failed.lock(rt);
         if self.is_synced_after(last) {
             return Ok(());
         }
         let ready = self.ready.load(Ordering::SeqCst);
-        if !*has_failed {
-            let (local, peer) = (self.local.sync(), self.peer.sync());
-            *has_failed = local.is_err() || peer.is_err();
+        if failed.is_none() {
+            *failed = self.sync_both();
         }
-        if *has_failed {
-            return Err(Errno::InputOutput);
+        match *failed {
+            Some(fault) => Err(fault),
+            None => {
+                self.synced.store(ready, Ordering::SeqCst);
+                Ok(())
+            }
         }
-        self.synced.store(ready, Ordering::SeqCst);
-        Ok(())
+    }
+
+    // Syncs both images, also if the first sync fails. Returns the first that failed.
+    fn sync_both(&self) -> Option<SyncFault> {
+        match (self.local.sync(), self.peer.sync()) {
+            (Err(error), _) => Some(SyncFault {
+                side: Side::Local,
+                error,
+            }),
+            (_, Err(error)) => Some(SyncFault {
+                side: Side::Peer,
+                error,
+            }),
+            _ => None,
+        }
     }
 }
