@@ -26,8 +26,7 @@ abbrev pub JoinedRunsLeaveAnOpening : Type 0
 JoinedRunsLeaveAnOpening =
     JoinedRuns IsSoundOpening (λ p s. IsGrounded p s → is_at_rest p s ≡ true → (peer : Tuple) → IsSoundOpening (left_by p s peer))
 
--- After any history it is sound with the identifiers that the next session gives the peer's disk. Where no stream began, neither
--- node's identifiers have changed.
+-- after any history it is sound with the identifiers that the next session gives the peer's disk
 abbrev pub JoinedRunsLeaveASoundOpening : Type 0
 JoinedRunsLeaveASoundOpening =
     JoinedRuns IsSoundOpening (λ p s. is_at_rest p s ≡ true → IsSoundOpening (left_by p s (identifiers_of s.consistent s.tuple p.tuple)))
