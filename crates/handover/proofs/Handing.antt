@@ -9,10 +9,11 @@ use Rattle.blocks.specs.Ranges.{below}
 use Rattle.blocks.specs.SettingsRange.{IsInRange}
 use Rattle.blocks.specs.declared.settings.Settings.{Settings}
 use Rattle.blocks.specs.declared.tuple.Tuple.{Tuple}
-use Rattle.handover.specs.Left.{left_by}
+use Rattle.handover.specs.Left.{IsUnparted, left_by}
 use Rattle.halves.specs.Opening.{opening_of}
 use Rattle.handover.specs.Next.{IsLeft, identifiers_of}
 use Rattle.handover.proofs.Leaving.{leaves_a_sound_opening}
+use Rattle.handover.proofs.Unparted.{leaves_no_part}
 use Rattle.model.specs.Contents.{IsDisk}
 use Rattle.model.specs.Headline.{IsJoined, Cover, is_marked}
 use Rattle.model.specs.Primary.{PrimaryHistory, primary_connection, next_local, local_map}
@@ -46,6 +47,15 @@ LeaveSound p s = IsJoined p s → is_at_rest p s ≡ true → IsSoundOpening (le
 pub reached-leave : (p : PrimaryHistory) (s : SecondaryHistory) → primary.IsReached p → secondary.IsReached s → WereHonest p s → LeaveSound p s
 reached-leave p s rp rs honest =
     of-runs LeaveSound p s rp rs (leaves_a_sound_opening (reached_from p s rp rs) rp.events rs.events (sound-opening p s rp rs honest))
+
+-- what two histories leave has no bitmap identifier where both current ones are the same, if it was so at the opening
+abbrev LeaveNoPart : PrimaryHistory → SecondaryHistory → Type 0
+LeaveNoPart p s = IsJoined p s → (p.opening_tuple.current ≡ s.opening_tuple.current → p.opening_tuple.bitmap ≡ 0) → is_at_rest p s ≡ true
+    → IsUnparted (left_by p s (identifiers_of s.consistent s.tuple p.tuple))
+
+pub reached-parts : (p : PrimaryHistory) (s : SecondaryHistory) → primary.IsReached p → secondary.IsReached s → WereHonest p s → LeaveNoPart p s
+reached-parts p s rp rs honest =
+    of-runs LeaveNoPart p s rp rs (leaves_no_part (reached_from p s rp rs) rp.events rs.events (sound-opening p s rp rs honest))
 
 -- the marks of one block more
 pub one-more : (p : PrimaryHistory) (n block : ℕ) (old new : List Bool) (marked : Bool) → old ≡ map (is_marked p) (below n) → new ≡ old ++ marked ∷ []

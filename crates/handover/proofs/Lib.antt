@@ -2,5 +2,6 @@
 pub mod CurrentIdentifier
 pub mod Sized
 pub mod Leaving
+pub mod Unparted
 pub mod Alike
 pub mod Handing

@@ -30,3 +30,13 @@ JoinedRunsLeaveAnOpening =
 abbrev pub JoinedRunsLeaveASoundOpening : Type 0
 JoinedRunsLeaveASoundOpening =
     JoinedRuns IsSoundOpening (λ p s. is_at_rest p s ≡ true → IsSoundOpening (left_by p s (identifiers_of s.consistent s.tuple p.tuple)))
+
+-- Where both nodes have the same current identifier, the primary has no bitmap identifier: a premise of the order of writes.
+abbrev pub IsUnparted : Opening → Type 0
+IsUnparted o = o.own.current ≡ o.peer_tuple.current → o.own.bitmap ≡ 0
+
+-- if it was so at the opening, it is so of what is left
+abbrev pub JoinedRunsLeaveNoPart : Type 0
+JoinedRunsLeaveNoPart =
+    JoinedRuns IsSoundOpening (λ p s. (p.opening_tuple.current ≡ s.opening_tuple.current → p.opening_tuple.bitmap ≡ 0) → is_at_rest p s ≡ true
+    → IsUnparted (left_by p s (identifiers_of s.consistent s.tuple p.tuple)))

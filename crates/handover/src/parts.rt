@@ -58,6 +58,9 @@ pub fn parts_after<
     ensures words { IfOk result (λ parts. (parts.sync ≡ words.0) × (parts.loss ≡ words.1)) }
     ensures sound { IfOk result (λ parts. (p : PrimaryHistory) (s : SecondaryHistory) → PrimaryHas (primary_node primary.now) p → SecondaryHas (secondary_node secondary.now) s
         → IsJoined p s → WereHonest p s → IsSoundOpening (opening_of parts (local_map p) (secondary_map s))) }
+    ensures unparted { IfOk result (λ parts. (p : PrimaryHistory) (s : SecondaryHistory) → PrimaryHas (primary_node primary.now) p → SecondaryHas (secondary_node secondary.now) s
+        → IsJoined p s → WereHonest p s → (p.opening_tuple.current ≡ s.opening_tuple.current → p.opening_tuple.bitmap ≡ 0)
+        → parts.own.current ≡ parts.peer.current → parts.own.bitmap ≡ 0) }
     ensures rest { (p : PrimaryHistory) (s : SecondaryHistory) → PrimaryHas (primary_node primary.now) p → SecondaryHas (secondary_node secondary.now) s
         → (result ≡ Err NotDrained) ↔ (is_at_rest p s ≡ false) }
     ensures same { IfOk result (λ _. (p : PrimaryHistory) (s : SecondaryHistory) → PrimaryHas (primary_node primary.now) p → SecondaryHas (secondary_node secondary.now) s

@@ -8,6 +8,7 @@ use Rattle.std.proofs.lemmas.Option.{slice_get_within}
 use Rattle.blocks.specs.Ranges.{below}
 use Rattle.blocks.specs.declared.refusal.Refusal.{Refusal}
 use Rattle.halves.specs.Opening.{opening_of}
+use Rattle.handover.specs.Left.{IsUnparted}
 use Rattle.blocks.specs.declared.tuple.Tuple.{Tuple}
 use Rattle.laws.proofs.Blocks.SameBlocks.{same-equal}
 use Rattle.laws.proofs.Joining.Openings.{kept-opening-primary, kept-opening-secondary}
@@ -128,14 +129,14 @@ honest-over rest p s local peer = subst WasHonest (λ i. opening_of rest.parts (
 
 -- what two nodes that ended make of what they leave
 pub session-of : (o : Opening) (before : Totals) (result : Result Rest Refusal) (worked : Result (Vec Receipt Global) Refusal) (a : PrimaryView)
-    (b : SecondaryView) → WasHonest o → PrimaryIsHad (Some o) a × SecondaryIsHad (Some o) b
+    (b : SecondaryView) → WasHonest o → IsUnparted o → PrimaryIsHad (Some o) a × SecondaryIsHad (Some o) b
     → ((p : PrimaryHistory) (s : SecondaryHistory) → PrimaryHas a p → SecondaryHas b s → IsJoined p s) → b.core.number ≤ a.core.connections
     → IfOk result (λ _. IsOk worked) → IfOk result (λ rest. (rest.disks.0.disk ≡ a.disk) × (rest.disks.1.disk ≡ b.disk))
     → IfOk result (λ rest. IfOk worked (λ receipts. NodesComeTo a b receipts.items before rest.totals rest.parts))
     → IfOk result (λ rest. IsSession o before rest)
-session-of o before (Err refusal) worked a b honest had joined numbered done disks comes = tt
-session-of o before (Ok rest) (Err refusal) a b honest had joined numbered done disks comes = absurd (let wrong : false ≡ true = done in cc (wrong))
-session-of o before (Ok rest) (Ok receipts) a b honest had joined numbered done disks comes =
+session-of o before (Err refusal) worked a b honest unparted had joined numbered done disks comes = tt
+session-of o before (Ok rest) (Err refusal) a b honest unparted had joined numbered done disks comes = absurd (let wrong : false ≡ true = done in cc (wrong))
+session-of o before (Ok rest) (Ok receipts) a b honest unparted had joined numbered done disks comes =
     let p = had.0 in
     let s = had.1 in
     let here : PrimaryHas a (primary_run p.began.0 (primary_at o)) = subst (PrimaryHas a) p.began.1 p.has in
@@ -147,6 +148,11 @@ session-of o before (Ok rest) (Ok receipts) a b honest had joined numbered done 
     λ block. ap (λ (l : List (List ℕ)). slice_get l block) disks.0 ∙ here.has.leaves.disk block in
     let peer : (block : ℕ) → slice_get rest.disks.1.disk block ≡ secondary_map (secondary_run s.began.0 (secondary_at o)) block =
     λ block. ap (λ (l : List (List ℕ)). slice_get l block) disks.1 ∙ there.has.leaves.disk block in
+    let opens : (primary_run p.began.0 (primary_at o)).opening_tuple.current ≡ (secondary_run s.began.0 (secondary_at o)).opening_tuple.current
+    → (primary_run p.began.0 (primary_at o)).opening_tuple.bitmap ≡ 0
+    = λ same. ap (λ (t : Tuple). t.bitmap) (kept-opening-primary o p.began.0).tuple
+    ∙ unparted (ap (λ (t : Tuple). t.current) (sym (kept-opening-primary o p.began.0).tuple) ∙ same
+    ∙ ap (λ (t : Tuple). t.current) (kept-opening-secondary o s.began.0).tuple) in
     record {
       here = p.began.0;
       there = s.began.0;
@@ -155,11 +161,8 @@ session-of o before (Ok rest) (Ok receipts) a b honest had joined numbered done 
       comes = left;
       local = local;
       peer = peer;
-      order = λ unparted none. keeps-order _ _ here.has.reached there.has.reached (were-honest o p.began.0 s.began.0 honest) joins (record {
-        local = none;
-        opening = λ same. ap (λ (t : Tuple). t.bitmap) (kept-opening-primary o p.began.0).tuple
-            ∙ unparted (ap (λ (t : Tuple). t.current) (sym (kept-opening-primary o p.began.0).tuple) ∙ same
-            ∙ ap (λ (t : Tuple). t.current) (kept-opening-secondary o s.began.0).tuple);
-      });
+      order = λ none. keeps-order _ _ here.has.reached there.has.reached (were-honest o p.began.0 s.began.0 honest) joins
+          (record { local = none; opening = opens });
+      unparted = left.unparted opens;
       honest = honest-over rest (primary_run p.began.0 (primary_at o)) (secondary_run s.began.0 (secondary_at o)) local peer left.sound.identifiers;
     }

@@ -2,6 +2,7 @@
 use Rattle.std.specs.Prelude.{ℕ, ◌≡◌, ◌+◌, ◌≤◌, false, List, [], ◌∷◌, length, min, slice_get, unwrap_or}
 use Rattle.std.specs.List.{list_any}
 use Rattle.blocks.specs.declared.settings.Settings.{Settings}
+use Rattle.handover.specs.Left.{IsUnparted}
 use Rattle.handover.specs.Next.{IsLeft, unknown}
 use Rattle.model.specs.Headline.{IsJoined}
 use Rattle.model.specs.LocalRuns.{PrimaryEvent, SecondaryEvent, primary_run, secondary_run}
@@ -39,6 +40,8 @@ pub record ComesTo (p : PrimaryHistory) (s : SecondaryHistory) (receipts : List 
   pub unmarked : after.unmarked ≡ numbers.unmarked
   pub marked : after.marked ≡ length (marked_blocks p)
   pub left : IsLeft parts p s
+  pub unparted : (p.opening_tuple.current ≡ s.opening_tuple.current → p.opening_tuple.bitmap ≡ 0) → parts.own.current ≡ parts.peer.current
+      → parts.own.bitmap ≡ 0
   pub sound : IsSoundOpening (opening_of parts (local_map p) (secondary_map s))
 
 -- It comes to that for all histories that the two nodes have, if these are joined and began with honest identifiers, and the
@@ -49,8 +52,8 @@ NodesComeTo primary secondary receipts before after parts =
     → SecondaryHas (secondary_node secondary) s → IsJoined p s → WereHonest p s → ComesTo p s receipts before after parts
 
 -- One session: two runs of the model, one of each node, from the session's opening. They are joined and come to what is left, and
--- both disks are those that the runs lead to. If no local write failed, and the primary began with no bitmap identifier where both
--- nodes began with the same current one, the peer's disk has an order of writes while it calls itself consistent.
+-- both disks are those that the runs lead to. If no local write failed, the peer's disk has an order of writes while it calls itself
+-- consistent. What is left for the next session is sound, as this one's opening was.
 pub record IsSession (o : Opening) (before : Totals) (rest : Rest) : Type 0 where
   pub here : List PrimaryEvent
   pub there : List SecondaryEvent
@@ -60,8 +63,8 @@ pub record IsSession (o : Opening) (before : Totals) (rest : Rest) : Type 0 wher
   pub local : (block : ℕ) → slice_get rest.disks.0.disk block ≡ local_map (primary_run here (primary_at o)) block
   pub peer : (block : ℕ) → slice_get rest.disks.1.disk block ≡ secondary_map (secondary_run there (secondary_at o)) block
   pub honest : WasHonest (opening rest)
-  pub order : (o.own.current ≡ o.peer_tuple.current → o.own.bitmap ≡ 0)
-      → list_any (λ accepted. is_failed accepted.outcome) (primary_run here (primary_at o)).writes ≡ false
+  pub unparted : IsUnparted (opening rest)
+  pub order : list_any (λ accepted. is_failed accepted.outcome) (primary_run here (primary_at o)).writes ≡ false
       → KeepsWriteOrder (primary_run here (primary_at o)) (secondary_run there (secondary_at o))
 
 -- The start of a server's first session, over these disks and with these settings: no block is marked, nothing was written yet, and

@@ -1,4 +1,5 @@
 //! One session of a server, from its start to its settlement.
+ghost use Rattle.handover.specs.Left.{IsUnparted};
 ghost use Rattle.ruled_link.specs.Names as names;
 ghost use Rattle.serving.specs.Links.{IsNewDirection};
 ghost use Rattle.serving.specs.Sessions.{IsSession, opening};
@@ -30,6 +31,7 @@ pub(crate) fn run_session<R: Runtime>(
     rest: Rest,
 ) -> Result<Rest, Refusal>
     requires honest { WasHonest (opening rest) }
+    requires unparted { IsUnparted (opening rest) }
     ensures session { IfOk result (λ next. IsSession (opening rest) rest.totals next) }
 {
     let Rest {
@@ -76,6 +78,7 @@ fn run_named<L: Linked + Send + Sync + 'static, R: Runtime>(
     requires back { AreEndsOf L.link names.Back back }
     requires opening { L.opening ≡ opening_of parts (slice_get disks.0.disk) (slice_get disks.1.disk) }
     requires honest { WasHonest L.opening }
+    requires unparted { IsUnparted L.opening }
     ensures session { IfOk result (λ next. IsSession L.opening totals next) }
 {
     let (local, peer) = disks;

@@ -6,7 +6,7 @@ use Rattle.blocks.specs.declared.tuple.Tuple.{Tuple}
 use Rattle.handover.specs.Left.{left_by}
 use Rattle.handover.specs.Next.{identifiers_of}
 use Rattle.handover.proofs.Alike.{are_alike, alike-same, same-alike}
-use Rattle.handover.proofs.Handing.{at-rest, reached-leave, length-left, marks-left, parts-sound}
+use Rattle.handover.proofs.Handing.{at-rest, reached-leave, reached-parts, length-left, marks-left, parts-sound}
 use Rattle.model.specs.Primary.{primary_connection}
 use Rattle.model.specs.Secondary.{secondary_connection}
 use Rattle.model.specs.Settlement.{is_at_rest}
@@ -49,3 +49,14 @@ returns-clause-sound g c = λ p s hp hs joined honest.
     let left = returns-clause-left g c p s hp hs in
     parts-sound _ p s left (returns-clause-same g c p s hp hs)
     (subst (λ (t : Tuple). IsSoundOpening (left_by p s t)) (sym left.peer) (reached-leave p s hp.reached hs.reached honest joined rest))
+
+pub returns-clause-unparted : goal.returns-clause-unparted
+returns-clause-unparted g c = λ p s hp hs joined honest unparted same.
+    let rest : is_at_rest p s ≡ true = at-rest p s
+    (not-false (primary_connection p).closed (sym (c.is_open.ensures p hp) ∙ c.if-is_open.false))
+    (not-false (secondary_connection s).closed (sym (c.is_open-else-is_open.ensures s hs)
+    ∙ c.if-is_open-2.false))
+    (sym (c.is_drained.ensures s hs) ∙ c.if-not-is_drained.false) (ap is_some (sym (c.next_local.ensures p hp)) ∙ sym c.is_some.ensures ∙ c.if-is_some.false) in
+    let left = returns-clause-left g c p s hp hs in
+    ap (λ (t : Tuple). t.bitmap) left.own ∙ reached-parts p s hp.reached hs.reached honest joined unparted rest
+    (sym (ap (λ (t : Tuple). t.current) left.own) ∙ same ∙ ap (λ (t : Tuple). t.current) left.peer)

@@ -28,5 +28,6 @@ returns-clause-comes g c = given c.args.worked c.in_ok-receipts.receipts
       unmarked = c.and-totals.ensures.last.0;
       marked = c.and-totals.ensures.last.1 ∙ c.marks.ensures p here;
       left = c.in_ok-parts.ensures.left p s here there;
+      unparted = c.in_ok-parts.ensures.unparted p s here there joined honest;
       sound = c.in_ok-parts.ensures.sound p s here there joined honest;
     })

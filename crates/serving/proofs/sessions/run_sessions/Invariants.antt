@@ -1,6 +1,7 @@
 -- The sessions so far led to this start, whose identifiers are honest.
 use Rattle.std.proofs.Common.{List}
 use Rattle.blocks.specs.SettingsRange.{standard}
+use Rattle.handover.specs.Left.{IsUnparted}
 use Rattle.serving.specs.Sessions.{HasCome, IsFirst, opening}
 use Rattle.serving.specs.declared.rest.Rest.{Rest}
 use Rattle.settle.specs.Settled.{WasHonest}
@@ -9,6 +10,7 @@ use Rattle.serving.proofs.sessions.run_sessions.Given as goal
 abbrev pub invariant-loop : goal.invariant-loop
 invariant-loop g l = record {
   honest : WasHonest (opening l.rest);
+  unparted : IsUnparted (opening l.rest);
   came : (first : Rest) × (earlier : List Rest)
       × (IsFirst (record standard { protocol = l.fn.service.protocol; blocks = l.fn.service.blocks }) l.fn.disks.0.disk l.fn.disks.1.disk first
       × HasCome first earlier l.rest);
