@@ -6,9 +6,13 @@ use std::alloc::{AllocError, Global};
 use std::io;
 use std::io::{ErrorKind, Read, Write};
 use std::sync::Wait;
+use std::time::{Clock, Duration};
 
 /// Writes that a pipe holds before it waits.
 const WRITES: usize = 16;
+
+/// How long a reader of foreign bytes waits at most, in seconds. It is stopped long before, unless the bytes are taken.
+const PATIENCE_S: u64 = 20;
 
 /// The writing end of a pipe, which fails after a given number of bytes.
 #[derive(Drop)]
@@ -55,6 +59,18 @@ pub(crate) fn pipe<R: Wait + Copy + Drop>(
             left: read,
         },
     ))
+}
+
+impl<R: Wait + Clock + Drop> PipeReader<R> {
+    // Drops what comes, until the writing end is dropped or nothing comes for a long time.
+    fn wait_for_end(&self) {
+        let patience = Duration::from_secs(PATIENCE_S);
+        for _ in self.rt.forever() {
+            if self.from.recv_timeout(&self.rt, patience).is_err() {
+                break;
+            }
+        }
+    }
 }
 
 // Returns `bytes`, but at most `left`.
@@ -109,20 +125,30 @@ impl<R: Wait + Drop> Read for PipeReader<R> {
     }
 }
 
-/// A reader of these bytes, whose input then ends.
+/// A reader of these bytes in place of those that come through a pipe. Without bytes its input ends at once; otherwise
+/// it ends when the pipe's writing end is dropped, which a pump does when it is stopped, or long after.
 #[derive(Drop)]
-pub(crate) struct Fixed {
+pub(crate) struct Foreign<R: Wait + Drop> {
+    pipe: PipeReader<R>,
     bytes: &'static [u8],
+    waits: bool,
 }
 
-impl Fixed {
-    pub(crate) fn new(bytes: &'static [u8]) -> Fixed {
-        Fixed { bytes }
+impl<R: Wait + Drop> Foreign<R> {
+    pub(crate) fn new(pipe: PipeReader<R>, bytes: &'static [u8]) -> Foreign<R> {
+        Foreign {
+            pipe,
+            bytes,
+            waits: !bytes.is_empty(),
+        }
     }
 }
 
-impl Read for Fixed {
+impl<R: Wait + Clock + Drop> Read for Foreign<R> {
     fn read(&mut self, buf: &mut [u8]) -> io::Result<usize> {
+        if self.bytes.is_empty() && self.waits {
+            self.pipe.wait_for_end();
+        }
         let count = buf.len().min(self.bytes.len());
         buf[..count].copy_from_slice(&self.bytes[..count]);
         self.bytes = &self.bytes[count..];
