@@ -194,8 +194,8 @@ another server or a run uses one, the server fails with status 1.
   nbdcopy disk.img nbd://127.0.0.1
 
 A line quit on standard input ends the server: it waits until its clients are
-answered and the disks are alike, or until no block was copied for ten seconds,
-puts both images on stable storage, and prints three lines:
+answered and the disks are alike, or until the peer's disk has done nothing for
+ten seconds, puts both images on stable storage, and prints three lines:
   completed X          ranges of at most 32 blocks that clients wrote
   settled X            those of them that the primary's journal confirms
   unmarked 0           blocks that differ and have no mark
