@@ -140,20 +140,20 @@ No other one is known to come; the calls of a run may return these:
 /// The exit statuses of a run.
 const RUN_STATUSES: &str = "
 Exit statuses: 0 done; 1 there was no memory or no thread (7), a socket or the
-output failed, the disks differ without a mark, or an image cannot be read or
-saved, is no regular file, is of another length, is in use, or has something
-beside it under the name IMAGE.local-new or IMAGE.peer-new; 2 wrong usage; 3 a
-refusal other than 7. Of several faults the first is told.
+output failed, the disks differ without a mark, or an image cannot be locked,
+read or saved, is no regular file, is of another length, is in use, or has
+something beside it under the name IMAGE.local-new or IMAGE.peer-new; 2 wrong
+usage; 3 a refusal other than 7. Of several faults the first is told.
 ";
 
 /// The exit statuses of a server.
 const SERVE_STATUSES: &str = "
-Exit statuses: 0 done; 1 an image cannot be opened, is no regular file, is of
-another length or is in use, an address cannot be listened at, or memory, a
-thread or the output failed; or, at the end, blocks were not copied or differ
-without a mark, a sync has failed, or an image may have kept parts of a failed
-write, was replaced or has another length; 2 wrong usage; 3 a session was
-refused by another number than 7. Of several faults the first is told.
+Exit statuses: 0 done; 1 an image cannot be opened or locked, is no regular
+file, is of another length or is in use, an address cannot be listened at, or
+memory, a thread or the output failed; or, at the end, blocks were not copied
+or differ without a mark, a sync has failed, or an image may have kept parts of
+a failed write, was replaced or has another length; 2 wrong usage; 3 a session
+was refused by another number than 7. Of several faults the first is told.
 ";
 
 /// What a run over sockets does.

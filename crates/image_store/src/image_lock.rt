@@ -17,7 +17,8 @@ impl ImageLock {
     /// lock. Does not wait, creates no file, and changes none.
     ///
     /// `InUse` comes if a lock on the image is kept, by another process or by this one, or if another file has taken its
-    /// place meanwhile; `NotAFile` if it is no regular file; `Unread` if the system refuses to open, lock or find it.
+    /// place meanwhile; `NotAFile` if it is no regular file; `Unread` if the system refuses to open or find it; `Unlocked` if it
+    /// refuses the lock for another reason.
     pub fn take<H: Files<File = File>>(rt: &H, path: &str) -> Result<ImageLock, OpenFault> {
         let file = OpenOptions::new()
             .read(true)
@@ -32,7 +33,7 @@ impl ImageLock {
         match file.try_lock() {
             Ok(()) => {}
             Err(TryLockError::WouldBlock) => return Err(OpenFault::InUse),
-            Err(TryLockError::Error(error)) => return Err(OpenFault::Unread(error)),
+            Err(TryLockError::Error(error)) => return Err(OpenFault::Unlocked(error)),
         }
         match is_at(rt, path, &file) {
             Ok(true) => Ok(ImageLock { file }),
