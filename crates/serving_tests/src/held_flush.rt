@@ -57,11 +57,22 @@ fn read_beside_flushes<R: Abort + Net<Stream = TcpStream> + Clock>(
         &[&reply(0, 9), &ZERO_BLOCK],
     );
     device.release();
+    is_each_answered(rt, &mut flusher);
+}
+
+// Reads a reply for each FLUSH. Each has one of its own, whatever their order.
+fn is_each_answered(rt: &impl Abort, flusher: &mut TcpStream) {
+    let mut seen = [0usize; FLUSHES as usize];
     let mut header = [0u8; 16];
     for _ in 0..FLUSHES {
         flusher.read_exact(&mut header).expect(rt, "a reply");
-        assert_eq!(rt; header, reply(0, header[15]), "a FLUSH");
+        let cookie = header[15];
+        assert_eq!(rt; header, reply(0, cookie), "a FLUSH");
+        if let Some(count) = seen.get_mut(usize::from(cookie)) {
+            *count = count.saturating_add(1);
+        }
     }
+    assert_eq!(rt; seen, [1; FLUSHES as usize], "replies");
 }
 
 // Serves the device under A until the clients have done their work.
