@@ -4,6 +4,7 @@ ghost use Rattle.std.specs.Io.{ReadsAtMost};
 use crate::outbox::Outbox;
 use crate::places::Places;
 use crate::timed_writer::{Outcome, is_passing};
+use crate::waiting::Waiting;
 use nbd::Reply;
 use std::alloc::Global;
 use std::io::Read;
@@ -11,7 +12,7 @@ use std::net::{Shutdown, TcpStream};
 use std::sync::atomic::{AtomicBool, Ordering};
 use std::sync::{Mutex, Wait};
 use std::time::{Clock, Duration, Instant};
-use std::{io, mem};
+use std::{io, thread};
 
 /// How long a client has for each MiB of replies that it begins, in milliseconds. If it is slower, its connection is
 /// closed.
@@ -19,6 +20,9 @@ const PATIENCE_MS: u16 = 10_000;
 
 /// How long it has while a thread writes to it that also answers others. If it is slower, its own thread goes on.
 const SHORT_PATIENCE_MS: u16 = 20;
+
+/// The time between two looks whether another thread has ended its turn, in milliseconds.
+const TURN_MS: u64 = 1;
 
 /// How long a read waits before its thread looks whether the server ends, in milliseconds.
 const LOOK_MS: u64 = 250;
@@ -30,14 +34,13 @@ const LINGER_S: u64 = 2;
 const DISCARDED_BYTES: usize = 4096;
 
 /// A client's connection. Threads that answer requests write to it only while it takes bytes at once, so that no client
-/// waits for another one. If it does not, the client's own thread writes, and the others leave their replies to it.
+/// waits for another one. If it does not, the client's own thread writes, and the others leave their replies to it. One
+/// thread writes at a time, without the lock, so that no other one waits for it.
 #[derive(Drop)]
 pub(crate) struct Client {
     stream: TcpStream,
-    // Whole replies, and at the front what is left of one that was written in part.
-    outbox: Mutex<Outbox>,
-    // Whether only the client's own thread writes. It changes under the lock of `outbox`.
-    is_late: AtomicBool,
+    // No thread writes to the socket, or frees places, while it holds this lock.
+    waiting: Mutex<Waiting>,
     // Whether the connection failed. Then nothing more is written.
     is_closed: AtomicBool,
     places: Places,
@@ -49,8 +52,7 @@ impl Client {
     pub(crate) fn new(alloc: Global, stream: TcpStream) -> Client {
         Client {
             stream,
-            outbox: Mutex::new(Outbox::new(alloc)),
-            is_late: AtomicBool::new(false),
+            waiting: Mutex::new(Waiting::new(alloc)),
             is_closed: AtomicBool::new(false),
             places: Places::new(),
             alloc,
@@ -73,78 +75,122 @@ impl Client {
         data: Vec<u8>,
         places: u32,
     ) {
-        let mut outbox = self.outbox.lock(rt);
-        if outbox
+        let mut waiting = self.waiting.lock(rt);
+        if waiting
             .put(header.encode().as_slice(), data, places)
             .is_err()
         {
             self.close();
         }
-        let is_full = outbox.is_full();
-        drop(outbox);
+        let is_full = waiting.is_full();
+        drop(waiting);
         if is_full {
             self.send_held(rt);
         }
     }
 
-    /// Sends the replies that are held, and frees the places of their requests. If the client does not take them at once,
-    /// leaves the rest to its own thread. If the connection fails, closes it and drops them.
+    /// Sends the replies that are held, and those that other threads are to send meanwhile, and frees the places of their
+    /// requests. If the client does not take them at once, leaves the rest to its own thread. If the connection fails, closes
+    /// it and drops them. Returns at once if another thread writes: that one sends them.
     pub(crate) fn send_held<R: Wait + Clock>(&self, rt: &R) {
-        let mut outbox = self.outbox.lock(rt);
-        if self.is_late.load(Ordering::SeqCst) || outbox.is_empty() {
+        let Some(mut taken) = self.begin(rt) else {
             return;
-        }
-        let freed = match self.write(rt, &mut outbox, SHORT_PATIENCE_MS) {
-            Outcome::Done => outbox.clear(),
-            Outcome::Late => {
-                self.is_late.store(true, Ordering::SeqCst);
-                0
-            }
-            Outcome::Failed => {
-                self.close();
-                outbox.clear()
-            }
         };
-        drop(outbox);
-        self.places.free(rt, freed);
+        for _ in rt.forever() {
+            match self.write(rt, &mut taken, SHORT_PATIENCE_MS) {
+                Outcome::Done => {}
+                Outcome::Late => return self.leave(rt, taken),
+                Outcome::Failed => return self.give_up(rt, taken),
+            }
+            self.places.free(rt, taken.clear());
+            taken = match self.go_on(rt, taken) {
+                Some(next) => next,
+                None => return,
+            };
+        }
+    }
+
+    // Begins a turn of writing, unless another thread has it or nothing waits.
+    fn begin<R: Wait>(&self, rt: &R) -> Option<Outbox> {
+        self.waiting.lock(rt).begin()
+    }
+
+    // Takes what other threads were to send meanwhile. If there is nothing, or the client's own thread waits for the turn, ends
+    // it.
+    fn go_on<R: Wait>(&self, rt: &R, written: Outbox) -> Option<Outbox> {
+        self.waiting.lock(rt).go_on(written)
+    }
+
+    // Leaves the turn, and what is left, to the client's own thread. If there is no memory for that, closes the connection:
+    // under the lock, so that no thread writes what stands behind missing bytes.
+    fn leave<R: Wait>(&self, rt: &R, left: Outbox) {
+        let mut waiting = self.waiting.lock(rt);
+        if waiting.leave(left).is_err() {
+            self.close();
+        }
+    }
+
+    // Ends the turn on a connection that failed: closes it, and drops what was taken and all that waits.
+    fn give_up<R: Wait>(&self, rt: &R, taken: Outbox) {
+        self.close();
+        let mut taken = taken;
+        let dropped = self.waiting.lock(rt).give_up();
+        self.places.free(rt, taken.clear().saturating_add(dropped));
     }
 
     /// Writes bytes to the client, after the replies that wait. For the client's own thread.
     pub(crate) fn send<R: Wait + Clock>(&self, rt: &R, bytes: &[u8]) {
-        let mut outbox = self.outbox.lock(rt);
-        if outbox.put(bytes, Vec::new(self.alloc), 0).is_err() {
+        self.await_turn(rt);
+        let mut waiting = self.waiting.lock(rt);
+        if waiting.put(bytes, Vec::new(self.alloc), 0).is_err() {
             self.close();
         }
-        self.is_late.store(true, Ordering::SeqCst);
-        drop(outbox);
+        drop(waiting);
         self.send_late(rt);
     }
 
-    /// Writes the replies that were left to the client's own thread, which calls this, until there are none, and frees
-    /// the places of their requests. If the client is too slow or the connection fails, closes it and drops them.
-    pub(crate) fn send_late<R: Wait + Clock>(&self, rt: &R) {
-        if !self.is_late.load(Ordering::SeqCst) {
-            return;
-        }
+    // Takes the turn for the client's own thread. If another thread writes, waits until its write is done, for which it has
+    // little time.
+    fn await_turn<R: Wait + Clock>(&self, rt: &R) {
         for _ in rt.forever() {
-            let Some(mut waiting) = self.take_late(rt) else {
+            if self.claim(rt) {
                 break;
-            };
-            if self.write(rt, &mut waiting, PATIENCE_MS) != Outcome::Done {
-                self.close();
             }
-            self.places.free(rt, waiting.clear());
+            thread::sleep(rt, Duration::from_millis(TURN_MS));
         }
     }
 
-    // Takes all that waits. If nothing does, lets any thread write again.
-    fn take_late<R: Wait>(&self, rt: &R) -> Option<Outbox> {
-        let mut outbox = self.outbox.lock(rt);
-        if outbox.is_empty() {
-            self.is_late.store(false, Ordering::SeqCst);
-            return None;
+    // Takes the turn for the client's own thread, unless another one writes.
+    fn claim<R: Wait>(&self, rt: &R) -> bool {
+        self.waiting.lock(rt).claim()
+    }
+
+    // Returns whether a thread that also answers others has written for long.
+    fn is_long<R: Wait>(&self, rt: &R) -> bool {
+        self.waiting.lock(rt).is_long()
+    }
+
+    /// Writes the replies that were left to the client's own thread, which calls this, until there are none, and frees
+    /// the places of their requests. Takes over from a thread that also answers others and has written for long. If the
+    /// client is too slow or the connection fails, closes it and drops them.
+    pub(crate) fn send_late<R: Wait + Clock>(&self, rt: &R) {
+        if self.is_long(rt) {
+            self.await_turn(rt);
         }
-        Some(mem::replace(&mut *outbox, Outbox::new(self.alloc)))
+        for _ in rt.forever() {
+            let Some(mut taken) = self.take_late(rt) else {
+                break;
+            };
+            if self.write(rt, &mut taken, PATIENCE_MS) != Outcome::Done {
+                self.close();
+            }
+            self.places.free(rt, taken.clear());
+        }
+    }
+
+    // Takes all that was left to the client's own thread. If nothing waits, lets any thread write again.
+    fn take_late<R: Wait>(&self, rt: &R) -> Option<Outbox> {
+        self.waiting.lock(rt).take_late()
     }
 
     // Writes what waits, unless the connection is closed.

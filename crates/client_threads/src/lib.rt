@@ -20,6 +20,7 @@ mod sync_queue;
 mod threads;
 mod timed_writer;
 mod waiter;
+mod waiting;
 mod workers;
 
 pub use doors::{Doors, Unbound};

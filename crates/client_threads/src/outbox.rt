@@ -53,16 +53,31 @@ impl Outbox {
             .bytes
             .saturating_add(header.len())
             .saturating_add(data.len());
-        self.append(header)?;
+        self.append_bytes(header)?;
         if data.len() > MOST_HELD {
             self.pieces.push(Piece::new(data))?;
             return Ok(());
         }
-        self.append(data.as_slice())
+        self.append_bytes(data.as_slice())
+    }
+
+    /// Appends what waits in a newer outbox. If there is no memory, its bytes are dropped, and only their number and the places
+    /// count.
+    pub(crate) fn append(&mut self, newer: Outbox) -> Result<(), AllocError> {
+        let Outbox {
+            pieces,
+            bytes,
+            places,
+            ..
+        } = newer;
+        let mut pieces = pieces;
+        self.bytes = self.bytes.saturating_add(bytes);
+        self.places = self.places.saturating_add(places);
+        self.pieces.append(&mut pieces)
     }
 
     // Appends bytes to the last piece. If that is long, begins another.
-    fn append(&mut self, bytes: &[u8]) -> Result<(), AllocError> {
+    fn append_bytes(&mut self, bytes: &[u8]) -> Result<(), AllocError> {
         match self.pieces.last_mut() {
             Some(last) if last.bytes.len() <= MOST_HELD => last.bytes.extend_from_slice(bytes),
             _ => {
