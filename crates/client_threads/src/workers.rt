@@ -16,6 +16,12 @@ const WORKERS: usize = 4;
 /// How long a thread waits for a request before it looks whether the session ends, in milliseconds.
 const LOOK_MS: u64 = 100;
 
+/// Looks for the thread that keeps the link up, after which a session ends without it: one second.
+const LOOKS_FOR_KEEPER: u32 = 1000;
+
+/// The time between two of these looks, in milliseconds.
+const KEEPER_LOOK_MS: u64 = 1;
+
 /// Looks without progress after which the link is cut, if blocks are marked: two seconds. The thread that keeps the link up then
 /// reconnects it, and the resync begins again.
 const LOOKS_TO_CUT: u32 = 20;
@@ -30,19 +36,26 @@ const MOST_RECEIPTS: usize = 1_048_576;
 /// Does the requests of clients over this device until the server ends or the session has accepted about a million
 /// writes, and returns the receipts of all their writes. When it returns, both disks are alike and the link has nothing
 /// more to do, or for ten seconds no marked block was copied and the peer's disk did no item.
+///
+/// `NoMemory` (7) if there is no memory for the receipts, or if the thread that keeps the link up does not run within a
+/// second, as where it cannot be started: then no request is done, since nothing would reconnect the link.
 pub fn work<R: Runtime>(
     rt: &R,
     service: &Service,
     device: &(impl Device + Sync),
     cut_every: Option<u32>,
 ) -> Result<Vec<Receipt>, Refusal> {
+    let is_kept = AtomicBool::new(false);
     let over = AtomicBool::new(false);
+    // Where no thread can be started, the first is called last, and finds that the session is over.
     let (_, done) = thread::join(
         rt,
-        || { keep(rt, service, device, cut_every, &over) },
+        || {
+            is_kept.store(true, Ordering::SeqCst);
+            keep(rt, service, device, cut_every, &over)
+        },
         || -> Result<Vec<Receipt>, Refusal> {
-            let done = do_requests(rt, service, device);
-            rest(rt, device);
+            let done = work_if_kept(rt, service, device, &is_kept);
             over.store(true, Ordering::SeqCst);
             done
         },
@@ -50,8 +63,34 @@ pub fn work<R: Runtime>(
     done
 }
 
+// Does requests until the session ends, and lets the link come to rest, if the thread that keeps the link up runs.
+fn work_if_kept<R: Runtime>(
+    rt: &R,
+    service: &Service,
+    device: &(impl Device + Sync),
+    is_kept: &AtomicBool,
+) -> Result<Vec<Receipt>, Refusal> {
+    if !comes(rt, is_kept) {
+        return Err(Refusal::NoMemory);
+    }
+    let done = do_requests(rt, service, device);
+    rest(rt, device);
+    done
+}
+
+// Waits until the thread that keeps the link up says that it runs. Returns whether it did in time.
+fn comes<R: Clock>(rt: &R, is_kept: &AtomicBool) -> bool {
+    for _ in 0..LOOKS_FOR_KEEPER {
+        if is_kept.load(Ordering::SeqCst) {
+            return true;
+        }
+        thread::sleep(rt, Duration::from_millis(KEEPER_LOOK_MS));
+    }
+    is_kept.load(Ordering::SeqCst)
+}
+
 // Does requests in all threads, and gathers the receipts. Their room is made at once: if it grew, the memory of a
-// session would depend on those before it.
+// session would depend on those before it. Where fewer threads can be started, these do all requests, and more slowly.
 fn do_requests<R: Runtime>(
     rt: &R,
     service: &Service,
