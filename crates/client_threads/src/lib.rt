@@ -2,6 +2,7 @@
 //! answer them, keep the link up, and serve the status page.
 #![tactic(auto)]
 
+mod accept;
 mod answer;
 mod client;
 mod doors;
@@ -11,6 +12,7 @@ mod outbox;
 mod page;
 mod piece;
 mod places;
+mod quit;
 mod reader;
 mod reports;
 mod request;
@@ -19,7 +21,6 @@ mod standstill;
 mod sync_queue;
 mod threads;
 mod timed_writer;
-mod waiter;
 mod waiting;
 mod workers;
 

@@ -1,8 +1,9 @@
 //! The start of a server's threads.
+use crate::accept::let_in;
 use crate::doors::{Door, Doors};
 use crate::page::serve_page;
+use crate::quit::wait_for_quit;
 use crate::service::Service;
-use crate::waiter::{let_in, wait_for_quit};
 use halves::Runtime;
 use std::alloc::{AllocError, Global};
 use std::hash::RandomState;

@@ -1,13 +1,12 @@
-//! The thread that lets clients in, and the one that waits for the order to end.
+//! The thread that lets clients in.
 use crate::client::Client;
 use crate::reader::serve_client;
 use crate::service::Service;
 use blocks::Refusal;
 use halves::Runtime;
 use std::alloc::Global;
-use std::io::{BufRead, BufReader, ErrorKind, Read};
-use std::net::{Net, SocketAddr, TcpListener, TcpStream};
-use std::sync::{Arc, Wait};
+use std::net::{TcpListener, TcpStream};
+use std::sync::Arc;
 use std::thread;
 use std::time::Duration;
 
@@ -16,9 +15,6 @@ const MAX_CLIENTS: u32 = 256;
 
 /// How long the thread that lets clients in waits after a failure, in milliseconds.
 const PAUSE_MS: u64 = 100;
-
-/// The order to end.
-const QUIT: &str = "quit";
 
 /// Lets clients in, each with a thread of its own, until the server ends.
 pub(crate) fn let_in<R: Runtime>(rt: R, service: &Arc<Service, Global>, listener: &TcpListener) {
@@ -60,34 +56,4 @@ fn welcome<R: Runtime>(
         return Err(Refusal::NoMemory);
     }
     Ok(())
-}
-
-/// Waits for a line `quit`, and then ends the server, which listens at these addresses. The end of the input is no such
-/// line.
-pub(crate) fn wait_for_quit<R: Wait + Net<Stream = TcpStream>, I: Read + Drop>(
-    rt: &R,
-    service: &Service,
-    input: I,
-    addresses: (SocketAddr, Option<SocketAddr>),
-) {
-    let Ok(lines) = BufReader::new(service.alloc, input) else {
-        return;
-    };
-    for line in lines.lines(service.alloc) {
-        match line {
-            Ok(line) if line.as_str().trim() == QUIT => {
-                service.end();
-                // The threads that wait for clients look at each client, and so at these, whether the server ends.
-                let _ = TcpStream::connect(rt, addresses.0);
-                if let Some(page) = addresses.1 {
-                    let _ = TcpStream::connect(rt, page);
-                }
-                return;
-            }
-            Ok(_) => {}
-            // The line is not UTF-8, so it is not the order.
-            Err(error) if error.kind() == ErrorKind::InvalidData => {}
-            Err(_) => return,
-        }
-    }
 }
