@@ -70,8 +70,9 @@ fn take<R: Wait + Clock>(
             return Ok(false);
         }
         client.take_places(rt, places_of(&request));
+        // The places of a request that is not handed on are never freed, so nobody may wait for all of them.
         if service.jobs.send(rt, Job { request, client }).is_err() {
-            return Ok(false);
+            return Err(Refusal::NoMemory);
         }
     }
     if !refusals.is_empty() {
