@@ -29,33 +29,49 @@ pub(crate) fn keep<R: Wait + Clock>(
     let mut most = 0u32;
     let mut standstill = Standstill::new();
     let mut words = service.words();
+    // A session starts with an open link. No block is copied from a cut by this thread to the next connection.
+    let mut is_up = true;
     for _ in rt.forever() {
         if over.load(Ordering::SeqCst) {
             break;
         }
-        if let Some(seconds) = cut_every
-            && looks >= u64::from(seconds).saturating_mul(LOOKS_A_SECOND)
-        {
+        if is_cut_due(cut_every, looks) {
             device.cut();
+            is_up = false;
             looks = 0;
         }
         // While an end is open, or a disk has items to do, this is refused and changes nothing.
         if device.reconnect(words.0, words.1).is_ok() {
             words = service.words();
             standstill.restart();
+            is_up = true;
         }
         let marks = device.marks();
-        if standstill.look(marks) {
+        if is_up && standstill.look(marks) {
             device.cut();
+            is_up = false;
         }
         most = most_since(most, marks);
-        if service.reports.is_asked(rt)
-            && let Ok(report) = report(device, most)
-        {
-            service.reports.give(rt, report);
-        }
+        give_report(rt, service, device, most);
         thread::sleep(rt, Duration::from_millis(LOOK_MS));
         looks = looks.saturating_add(1);
+    }
+}
+
+// Returns whether the link is to be cut, this many looks after it was last.
+fn is_cut_due(cut_every: Option<u32>, looks: u64) -> bool {
+    match cut_every {
+        Some(seconds) => looks >= u64::from(seconds).saturating_mul(LOOKS_A_SECOND),
+        None => false,
+    }
+}
+
+// Gives a report on the session if one is asked for.
+fn give_report<R: Wait>(rt: &R, service: &Service, device: &impl Device, most: u32) {
+    if service.reports.is_asked(rt)
+        && let Ok(report) = report(device, most)
+    {
+        service.reports.give(rt, report);
     }
 }
 
