@@ -9,6 +9,14 @@ use primary::Receipt;
 
 /// A mirrored device, over any session. Any number of threads may call it at a time.
 pub trait Device {
+    ghost use Rattle.std.specs.Prelude.{ℕ, List};
+
+    /// That the device has accepted a write under this number, of these bytes from this block on.
+    ghost accepts: { ℕ → ℕ → List ℕ → Type 0 };
+
+    /// That the local disk has held these bytes, in so many blocks from this one on.
+    ghost holds: { ℕ → ℕ → List ℕ → Type 0 };
+
     /// Writes whole blocks from `first` on, and returns the receipt once the write is completed as the protocol says.
     /// Any number of writers may call it at a time.
     ///
@@ -17,7 +25,8 @@ pub trait Device {
     /// (5), `StreamFull` (6), `NoMemory` (7), `LocalFault` (8), `NotConnected` (12). A receipt of another range would
     /// be `UnknownJob` (16).
     fn write(&self, first: u64, bytes: &Bytes) -> Result<Receipt, Refusal>
-        ensures own { IfOk result (λ receipt. (receipt.first ≡ first) × (receipt.count * 4096 ≡ length bytes.now)) };
+        ensures own { IfOk result (λ receipt. (receipt.first ≡ first) × (receipt.count * 4096 ≡ length bytes.now)) }
+        ensures accepted { IfOk result (λ receipt. accepts receipt.number first bytes.now) };
 
     /// Begins a write of whole blocks from `first` on: it is accepted, and sent if there is room for it. A caller with
     /// many writes begins them all, and then waits for one after another.
@@ -26,7 +35,8 @@ pub trait Device {
     /// `Primary::submit`: `BadRange` (1), `JournalFull` (5), `StreamFull` (6), `NoMemory` (7), `NotConnected` (12).
     fn begin(&self, first: u64, bytes: Bytes) -> Result<Begun, Refusal>
         ensures range { IfOk result (λ begun. (begun.first ≡ first) × (begun.count * 4096 ≡ length bytes)) }
-        ensures contents { IfOk result (λ begun. begun.contents ≡ bytes) };
+        ensures contents { IfOk result (λ begun. begun.contents ≡ bytes) }
+        ensures accepted { IfOk result (λ begun. accepts begun.number first bytes) };
 
     /// Waits until a write that was begun is completed as the protocol says, and returns its receipt.
     ///
@@ -41,6 +51,7 @@ pub trait Device {
     /// `BadRange` (1) if they are not, else `NoMemory` (7) if there is no memory for their bytes, else `ReadFault` (14)
     /// if the disk fails.
     fn read(&self, first: u64, count: u64) -> Result<Vec<u8>, Refusal>
+        ensures held { IfOk result (λ bytes. holds first count bytes.items) }
         ensures length { IfOk result (λ bytes. vec_len bytes ≡ count * 4096) }
         ensures refused { IfErr result (λ e. (e ≡ BadRange) ⊎ ((e ≡ NoMemory) ⊎ (e ≡ ReadFault))) };
 

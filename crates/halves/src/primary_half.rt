@@ -12,8 +12,17 @@ use turns::{LocalRole, Turn};
 /// The primary's half of a session, over any link and disk. Each call locks the node, does what it says, and unlocks
 /// the node. Its refusals are those of the node's call of the same name.
 pub trait PrimaryHalf {
+    ghost use Rattle.std.specs.Prelude.{ℕ, List};
+
+    /// That the primary has accepted a write under this number, of these bytes from this block on.
+    ghost accepts: { ℕ → ℕ → List ℕ → Type 0 };
+
+    /// That the primary's disk has held these bytes, in so many blocks from this one on.
+    ghost holds: { ℕ → ℕ → List ℕ → Type 0 };
+
     /// Accepts a write and returns its number.
-    fn submit(&self, first: u64, bytes: &Bytes) -> Result<u64, Refusal>;
+    fn submit(&self, first: u64, bytes: &Bytes) -> Result<u64, Refusal>
+        ensures accepted { IfOk result (λ number. accepts number first bytes.now) };
 
     /// Returns the receipt of a write, once.
     fn take_completed(&self, number: u64) -> Result<Receipt, Refusal>
@@ -21,6 +30,7 @@ pub trait PrimaryHalf {
 
     /// Reads blocks of the local disk.
     fn read(&self, first: u64, count: u64) -> Result<Vec<u8>, Refusal>
+        ensures held { IfOk result (λ bytes. holds first count bytes.items) }
         ensures length { IfOk result (λ bytes. vec_len bytes ≡ count * 4096) }
         ensures refused { IfErr result (λ e. (e ≡ BadRange) ⊎ ((e ≡ NoMemory) ⊎ (e ≡ ReadFault))) };
 

@@ -84,6 +84,12 @@ impl<
     I: FrameIn + Drop,
     S: Store + Drop,
 > PrimaryHalf for LocalHalf<R, B, O, I, S> {
+    ghost use Rattle.session_nodes.specs.Primaries.{HasAccepted, HasHeld};
+
+    ghost accepts = { HasAccepted B.opening };
+
+    ghost holds = { HasHeld B.opening };
+
     fn submit(&self, first: u64, bytes: &Bytes) -> Result<u64, Refusal> {
         let (number, _) = self.node.lock(&self.rt).submit(first, bytes)?;
         Ok(number)

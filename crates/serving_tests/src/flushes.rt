@@ -55,6 +55,12 @@ impl LateDevice {
 }
 
 impl Device for LateDevice {
+    // It accepts no write.
+    ghost accepts = { λ number first bytes. ⊥ };
+
+    // It has no disk.
+    ghost holds = { λ first count bytes. Unit {0} };
+
     fn write(&self, _first: u64, _bytes: &Bytes) -> Result<Receipt, Refusal> {
         Err(Refusal::NotConnected)
     }

@@ -1,16 +1,19 @@
 -- A primary whose connections all went over one link.
-use Rattle.std.specs.Prelude.{ℕ, suc, ◌≡◌, ◌<◌, List, take, Some, None, slice_get, length, true, ◌&&◌, Option, is_none, Result}
-use Rattle.model.specs.Primary.{PrimaryConnection, PrimaryHistory, primary_connection_at, frames_due}
+use Rattle.std.specs.Prelude.{ℕ, suc, ◌≡◌, ◌<◌, List, take, Some, None, slice_get, length, true, false, ◌&&◌, Option, is_none, Result}
+use Rattle.model.specs.Contents.{IsRead}
+use Rattle.model.specs.Primary.{PrimaryConnection, PrimaryHistory, primary_connection_at, frames_due, local_map}
 use Rattle.model.specs.Frames.{Packet, Received}
-use Rattle.model.specs.LocalRuns.{PrimaryEvent, Takes, primary_run}
+use Rattle.model.specs.LocalRuns.{PrimaryEvent, Submits, Takes, primary_run}
 use Rattle.model.specs.Theorems.{Opening, primary_at}
 use Rattle.blocks.specs.declared.refusal.Refusal.{Refusal}
 use Rattle.blocks.specs.declared.outcome.Done.{Done}
 use Rattle.blocks.specs.declared.outcome.Reply.{Reply}
 use Rattle.blocks.specs.declared.outcome.Reply.TheVariants as reply
+use Rattle.blocks.specs.declared.outcome.What.TheVariants as what
 use Rattle.endpoint.specs.Calls.{is_out_of_memory}
 use Rattle.primary_protocol.specs.Node.{NodeHas, primary_step}
 use Rattle.primary_protocol.specs.Steps.{replied}
+use Rattle.primary_protocol.specs.Transitions.{whole_blocks}
 use Rattle.primary.specs.State.{PrimaryView, node}
 use Rattle.session_nodes.specs.Traffic.{KnowTraffic}
 
@@ -64,3 +67,18 @@ PrimaryRuns v w = (h : PrimaryHistory) → PrimaryHas v h → (events : List Pri
 pub record PrimaryTakes (result : Result Done Refusal) (v w : PrimaryView) : Type 0 where
   pub frame : Option Received
   pub step : PrimarySteps (Takes frame (is_none frame && is_out_of_memory result)) v (replied reply.Ok result) w
+
+-- Some primary that began with this opening accepted a write of these bytes, from this block on, under this number: such was the
+-- model's step.
+pub record HasAccepted (opening : Option Opening) (number first : ℕ) (bytes : List ℕ) : Type 0 where
+  pub before : PrimaryHistory
+  pub began : PrimaryBegan opening before
+  pub done : Done
+  pub replied : (primary_step (Submits first (whole_blocks bytes) false) before).0 ≡ reply.Ok done
+  pub write : done.what ≡ what.Write number
+
+-- the disk of some primary that began with this opening held these bytes, in so many blocks from this one on
+pub record HasHeld (opening : Option Opening) (first count : ℕ) (bytes : List ℕ) : Type 0 where
+  pub history : PrimaryHistory
+  pub began : PrimaryBegan opening history
+  pub read : IsRead (local_map history) first count bytes

@@ -13,7 +13,7 @@ ghost use Rattle.primary.specs.Calls.{WritesOne};
 ghost use Rattle.primary_protocol.specs.Node.{take_receipt};
 ghost use Rattle.primary_protocol.specs.Steps.{plainly, replied};
 ghost use Rattle.primary_protocol.specs.Transitions.{whole_blocks};
-ghost use Rattle.session_nodes.specs.Primaries.{IsPrimaryStep, PrimaryHas, PrimaryIsHad, PrimaryRuns, PrimarySteps, PrimaryTakes};
+ghost use Rattle.session_nodes.specs.Primaries.{HasAccepted, HasHeld, IsPrimaryStep, PrimaryHas, PrimaryIsHad, PrimaryRuns, PrimarySteps, PrimaryTakes};
 ghost use Rattle.session_nodes.specs.Queries.{is_quiet, released_to};
 
 use crate::Beginning;
@@ -82,6 +82,7 @@ impl<B: Beginning, O: FrameOut + Drop, I: FrameIn + Drop, S: Store + Drop> Local
     pub fn submit(&mut self, first: u64, bytes: &Bytes) -> Result<(u64, Done), Refusal>
         ensures step { PrimarySteps (Submits first (whole_blocks bytes.now) (is_out_of_memory result)) self.old (replied (λ accepted. reply.Ok accepted.1) result) self.new }
         ensures number { IfOk result (λ accepted. accepted.1.what ≡ what.Write accepted.0) }
+        ensures accepted { IfOk result (λ accepted. HasAccepted B.opening accepted.0 first bytes.now) }
     {
         self.node.submit(first, bytes)
     }
@@ -97,6 +98,7 @@ impl<B: Beginning, O: FrameOut + Drop, I: FrameIn + Drop, S: Store + Drop> Local
     /// Reads blocks of the local disk. The refusals are those of `Primary::read`.
     pub fn read(&mut self, first: u64, count: u64) -> Result<Vec<u8>, Refusal>
         ensures read { IfOk result (λ bytes. (h : PrimaryHistory) → PrimaryHas self.old h → IsRead (local_map h) first count bytes.items) }
+        ensures held { IfOk result (λ bytes. HasHeld B.opening first count bytes.items) }
         ensures length { IfOk result (λ bytes. vec_len bytes ≡ count * 4096) }
         ensures refused { IfErr result (λ e. (e ≡ BadRange) ⊎ ((e ≡ NoMemory) ⊎ (e ≡ ReadFault))) }
         ensures kept { (h : PrimaryHistory) → PrimaryHas self.old h → PrimaryHas self.new h }

@@ -19,6 +19,10 @@ pub struct Mirror<R: Wait, A: PrimaryHalf, B: SecondaryHalf> {
 }
 
 impl<R: Wait + Clock, A: PrimaryHalf, B: SecondaryHalf> Device for Mirror<R, A, B> {
+    ghost accepts = { A.accepts };
+
+    ghost holds = { A.holds };
+
     fn write(&self, first: u64, bytes: &Bytes) -> Result<Receipt, Refusal> {
         let begun = self.begin(first, bytes.clone()?)?;
         self.complete(begun)
@@ -51,7 +55,7 @@ impl<R: Wait + Clock, A: PrimaryHalf, B: SecondaryHalf> Device for Mirror<R, A, 
         if shared.path == Path::Wire {
             return Err(Refusal::NotConnected);
         }
-        let _door = shared.door.lock(&shared.rt);
+        let _connecting = shared.connecting.lock(&shared.rt);
         shared.peer.may_reopen()?;
         let number = shared.local.reopen(sync, loss)?;
         if let Err(refusal) = shared.peer.reopen(number) {
@@ -92,7 +96,9 @@ impl<R: Wait + Clock, A: PrimaryHalf, B: SecondaryHalf> Device for Mirror<R, A, 
 impl<R: Wait + Clock, A: PrimaryHalf, B: SecondaryHalf> Mirror<R, A, B> {
     // Submits a write. If it conflicts or a log is full, does a turn, or waits if the turn did nothing, and submits it
     // again.
-    fn submit(&self, first: u64, bytes: &Bytes) -> Result<u64, Refusal> {
+    fn submit(&self, first: u64, bytes: &Bytes) -> Result<u64, Refusal>
+        ensures { IfOk result (λ number. A.accepts number first bytes.now) }
+    {
         let shared = &self.shared;
         let mut looks = 0u32;
         for _ in shared.rt.forever() {

@@ -14,15 +14,15 @@ pub(crate) enum Path {
     Wire,
 }
 
-/// Both halves. No thread holds the locks of both nodes at once. A thread that opens or closes a connection locks the
-/// door before any node; only a node that closes by itself in a turn does so without the door.
+/// Both halves. No thread holds the locks of both nodes at once. A thread that opens or closes a connection locks
+/// `connecting` before any node; only a node that closes by itself in a turn does so without it.
 #[derive(Drop)]
 pub(crate) struct Shared<R: Wait, A: PrimaryHalf, B: SecondaryHalf> {
     pub(crate) rt: R,
     pub(crate) local: A,
     pub(crate) peer: B,
     pub(crate) path: Path,
-    pub(crate) door: Mutex<()>,
+    pub(crate) connecting: Mutex<()>,
     pub(crate) stop: AtomicBool,
 }
 
@@ -34,7 +34,7 @@ impl<R: Wait, A: PrimaryHalf, B: SecondaryHalf> Shared<R, A, B> {
             local,
             peer,
             path,
-            door: Mutex::new(()),
+            connecting: Mutex::new(()),
             stop: AtomicBool::new(false),
         }
     }
@@ -46,7 +46,7 @@ impl<R: Wait, A: PrimaryHalf, B: SecondaryHalf> Shared<R, A, B> {
 
     /// Closes both ends.
     pub(crate) fn cut(&self) {
-        let _door = self.door.lock(&self.rt);
+        let _connecting = self.connecting.lock(&self.rt);
         self.local.close();
         self.peer.close();
     }
@@ -87,7 +87,7 @@ impl<R: Wait, A: PrimaryHalf, B: SecondaryHalf> Shared<R, A, B> {
             self.ring_for_push();
         }
         if let Some(connection) = turn.closed {
-            let _door = self.door.lock(&self.rt);
+            let _connecting = self.connecting.lock(&self.rt);
             self.peer.close_lost(connection);
         }
         turn
@@ -107,7 +107,7 @@ impl<R: Wait, A: PrimaryHalf, B: SecondaryHalf> Shared<R, A, B> {
             }
         }
         if let Some(connection) = turn.closed {
-            let _door = self.door.lock(&self.rt);
+            let _connecting = self.connecting.lock(&self.rt);
             self.local.close_lost(connection);
         }
         turn
