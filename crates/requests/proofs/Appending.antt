@@ -1,20 +1,21 @@
 -- The ranges of one write after another, and their bytes.
-use Rattle.std.proofs.Common.{arith, ℕ, ◌≡◌, ◌*◌, List, [], ◌∷◌, ◌++◌, length, map, replicate, sym, subst, ap, ◌∙◌, append_assoc}
-use Rattle.std.proofs.lemmas.List.{map_push, map-append, flat_map_more}
+use Rattle.std.proofs.Common.{arith, ℕ, ◌≡◌, ◌*◌, List, [], ◌∷◌, ◌++◌, length, map, replicate, refl, sym, subst, ap, ◌∙◌, append_assoc}
+use Rattle.std.proofs.lemmas.List.{append-nil, map_push, map-append, flat_map_more}
 use Rattle.std.proofs.lemmas.List.Elements.{All-push}
 use Rattle.std.specs.List.{All}
 use Rattle.blocks.specs.declared.range.Range.{Range}
 use Rattle.nbd.specs.Pieces.{pair_of}
 use Rattle.halves.specs.Begun.{BegunState}
+use Rattle.requests.specs.Reads.{AreHeld}
 use Rattle.requests.specs.Receipts.{BeginsOne, HasMore, IsWhole, IsZeros, begun_bytes, span_of}
 
 -- those of some ranges, and then that of one more
-pub one-more : {A B : Type 0} (range : A → ℕ × ℕ) (asked : B → ℕ × ℕ) (yielded : List B) (last : B) (old before new : List A)
-    → HasMore range (map asked yielded) old before → HasMore range (asked last ∷ []) before new → HasMore range (map asked (yielded ++ last ∷ [])) old new
-one-more range asked yielded last old before new done one = record {
+pub one-more : {A B C : Type 0} (of : A → C) (asked : B → C) (yielded : List B) (last : B) (old before new : List A)
+    → HasMore of (map asked yielded) old before → HasMore of (asked last ∷ []) before new → HasMore of (map asked (yielded ++ last ∷ [])) old new
+one-more of asked yielded last old before new done one = record {
   more = done.more ++ one.more;
   appended = one.appended ∙ ap (λ l. l ++ one.more) done.appended ∙ append_assoc old done.more one.more;
-  each = map-append range done.more one.more ∙ ap (λ l. l ++ map range one.more) done.each ∙ ap (λ l. map asked yielded ++ l) one.each
+  each = map-append of done.more one.more ∙ ap (λ l. l ++ map of one.more) done.each ∙ ap (λ l. map asked yielded ++ l) one.each
       ∙ sym (map_push asked yielded last);
 }
 
@@ -54,6 +55,22 @@ pub zeros-one : (range : ℕ × ℕ) (bytes : List ℕ) (before new : List Begun
     → All IsZeros before → All IsZeros new
 zeros-one range bytes before new one zeros =
     each-one IsZeros range bytes before new one (one.contents ∙ zeros ∙ ap (λ (r : ℕ × ℕ). replicate (r.1 * 4096) 0) (sym one.span))
+
+-- what was held in some ranges, and then in one more
+pub held-one : (holds : ℕ → ℕ → List ℕ → Type 0) (yielded : List Range) (range : Range) (before bytes new : List ℕ) → AreHeld holds (map pair_of yielded) before
+    → holds range.first.0 range.count bytes → new ≡ before ++ bytes → AreHeld holds (map pair_of (yielded ++ range ∷ [])) new
+held-one holds [] range before bytes new done one grown =
+    (bytes, ([], (grown ∙ ap (λ (l : List ℕ). l ++ bytes) done ∙ sym (append-nil bytes), (one, refl))))
+held-one holds (first ∷ yielded) range before bytes new done one grown = (
+  done.0,
+  (
+    done.1.0 ++ bytes,
+    (
+      grown ∙ ap (λ (l : List ℕ). l ++ bytes) done.1.1.0 ∙ append_assoc done.0 done.1.0 bytes,
+      (done.1.1.1.0, held-one holds yielded range done.1.0 bytes (done.1.0 ++ bytes) done.1.1.1.1 one refl),
+    ),
+  ),
+)
 
 -- what was appended by two, one after the other
 pub kept-more : {A : Type 0} (old before new : List A) → (more : List A) × (before ≡ old ++ more) → (more : List A) × (new ≡ before ++ more)

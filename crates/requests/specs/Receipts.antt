@@ -7,9 +7,12 @@ use Rattle.nbd.specs.declared.errno.Errno.{Errno}
 use Rattle.nbd.specs.declared.request.Request.{Request}
 use Rattle.halves.specs.Begun.{BegunState}
 
--- the range of a receipt: its first block, and how many it has
-abbrev pub range_of : Receipt → ℕ × ℕ
-range_of receipt = (receipt.first, receipt.count)
+-- what a write that was begun has in common with its receipt: its number, its first block, and how many it has
+abbrev pub job_of : BegunState → ℕ × (ℕ × ℕ)
+job_of begun = (begun.number, (begun.first, begun.count))
+
+abbrev pub receipt_job : Receipt → ℕ × (ℕ × ℕ)
+receipt_job receipt = (receipt.number, (receipt.first, receipt.count))
 
 -- the range of a write that was begun
 abbrev pub span_of : BegunState → ℕ × ℕ
@@ -34,11 +37,15 @@ pub record BeginsOne (range : ℕ × ℕ) (bytes : List ℕ) (old new : List Beg
   pub span : span_of begun ≡ range
   pub contents : begun.contents ≡ bytes
 
--- One of each of these ranges was appended, in their order, and nothing else.
-pub record HasMore {A : Type 0} (range : A → ℕ × ℕ) (ranges : List (ℕ × ℕ)) (old new : List A) : Type 0 where
+-- A device with such a predicate accepted a write that was begun, under its number and with its bytes.
+abbrev pub IsAccepted : (ℕ → ℕ → List ℕ → Type 0) → BegunState → Type 0
+IsAccepted accepts begun = accepts begun.number begun.first begun.contents
+
+-- One of each of these was appended, in their order, and nothing else.
+pub record HasMore {A B : Type 0} (of : A → B) (wanted : List B) (old new : List A) : Type 0 where
   pub more : List A
   pub appended : new ≡ old ++ more
-  pub each : map range more ≡ ranges
+  pub each : map of more ≡ wanted
 
 -- What was begun is all that a WRITE or WRITE_ZEROES writes: each range has its part of the payload, one after another from
 -- its front, or zeros.

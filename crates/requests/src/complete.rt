@@ -1,7 +1,7 @@
 //! Waiting for the writes of a request.
 ghost use Rattle.std.specs.Prelude.{◌≡◌, List, ◌∷◌, ◌++◌, [], true, map, is_ok, OnOk};
 ghost use Rattle.model.specs.Settlement.{Receipt as Denoted};
-ghost use Rattle.requests.specs.Receipts.{HasMore, range_of, span_of};
+ghost use Rattle.requests.specs.Receipts.{HasMore, job_of, receipt_job};
 
 use crate::perform::errno_of;
 use halves::{Begun, Device};
@@ -15,7 +15,7 @@ pub(crate) fn complete_all(
     begun: Vec<Begun>,
     receipts: &mut Vec<Receipt>,
 ) -> Result<(), Errno>
-    ensures all { OnOk result (HasMore range_of (map span_of begun.items) receipts.old.items receipts.new.items) }
+    ensures all { OnOk result (HasMore receipt_job (map job_of begun.items) receipts.old.items receipts.new.items) }
     ensures kept { (more : List Denoted) × (receipts.new.items ≡ receipts.old.items ++ more) }
     ensures none { begun.items ≡ [] → is_ok result ≡ true }
 {
@@ -30,7 +30,7 @@ pub(crate) fn complete_all(
 
 // Waits for a write, and keeps its receipt.
 fn complete(device: &impl Device, write: Begun, receipts: &mut Vec<Receipt>) -> Result<(), Errno>
-    ensures one { OnOk result (HasMore range_of (span_of write ∷ []) receipts.old.items receipts.new.items) }
+    ensures one { OnOk result (HasMore receipt_job (job_of write ∷ []) receipts.old.items receipts.new.items) }
     ensures kept { (more : List Denoted) × (receipts.new.items ≡ receipts.old.items ++ more) }
 {
     let receipt = match device.complete(write) {

@@ -1,7 +1,8 @@
 //! Reading ranges of a device, and beginning to write them, one after another.
 ghost use Rattle.std.specs.Prelude.{◌≡◌, ◌*◌, ◌<◌, ◌^◌, ◌++◌, All, List, ℕ, length, vec_len, IfOk, OnOk};
 ghost use Rattle.nbd.specs.Pieces.{pair_of};
-ghost use Rattle.requests.specs.Receipts.{BeginsOne, HasMore, IsWhole, IsZeros, begun_bytes, span_of};
+ghost use Rattle.requests.specs.Reads.{AreHeld};
+ghost use Rattle.requests.specs.Receipts.{BeginsOne, HasMore, IsAccepted, IsWhole, IsZeros, begun_bytes, span_of};
 
 use crate::payload::front;
 use crate::requests::Requests;
@@ -14,21 +15,24 @@ use std::alloc::Global;
 
 /// Reads these ranges, which have `count` blocks together. `NoMemory` if there is no memory for all of them, before any is
 /// read.
-pub(crate) fn read(
+pub(crate) fn read<D: Device>(
     alloc: Global,
-    device: &impl Device,
+    device: &D,
     ranges: Ranges,
     count: u64,
 ) -> Result<Vec<u8>, Errno>
     requires { count * 4096 < 2 ^ 64 }
-    ensures { IfOk result (λ read. vec_len read ≡ count * 4096) }
+    ensures length { IfOk result (λ read. vec_len read ≡ count * 4096) }
+    ensures held { IfOk result (λ read. AreHeld D.holds ranges read.items) }
 {
     let Ok(mut data) = Vec::with_capacity(alloc, count as usize * BLOCK_BYTES) else {
         return Err(Errno::NoMemory);
     };
     for range in ranges {
-        let mut bytes = device.read(range.first.0, range.count).map_err(errno_of)?;
-        data.append(&mut bytes).map_err(|_| Errno::NoMemory)?;
+        let mut bytes = read_range(device, range)?;
+        if data.append(&mut bytes).is_err() {
+            return Err(Errno::NoMemory);
+        }
     }
     // A reply with more or fewer bytes would spoil all that follow it.
     if data.len() as u64 != count * BLOCK_BYTES as u64 {
@@ -37,10 +41,20 @@ pub(crate) fn read(
     Ok(data)
 }
 
+// Reads one range.
+fn read_range<D: Device>(device: &D, range: Range) -> Result<Vec<u8>, Errno>
+    ensures { IfOk result (λ read. D.holds range.first.0 range.count read.items) }
+{
+    match device.read(range.first.0, range.count) {
+        Ok(bytes) => Ok(bytes),
+        Err(refusal) => Err(errno_of(refusal)),
+    }
+}
+
 /// Begins to write the payload to these ranges, each from the place in it where the one before ends.
-pub(crate) fn begin_write(
+pub(crate) fn begin_write<D: Device>(
     requests: &Requests,
-    device: &impl Device,
+    device: &D,
     ranges: Ranges,
     payload: Bytes,
     begun: &mut Vec<Begun>,
@@ -48,6 +62,7 @@ pub(crate) fn begin_write(
     ensures ranges { OnOk result (HasMore span_of ranges begun.old.items begun.new.items) }
     ensures contents { OnOk result ((rest : List ℕ) × (begun_bytes begun.new.items ++ rest ≡ begun_bytes begun.old.items ++ payload)) }
     ensures whole { OnOk result (All IsWhole begun.old.items → All IsWhole begun.new.items) }
+    ensures accepted { All (IsAccepted D.accepts) begun.old.items → All (IsAccepted D.accepts) begun.new.items }
 {
     let mut payload = payload;
     for range in ranges {
@@ -58,15 +73,16 @@ pub(crate) fn begin_write(
 }
 
 /// Begins to write zeros to these ranges, which have `count` blocks together.
-pub(crate) fn begin_zeroes(
+pub(crate) fn begin_zeroes<D: Device>(
     requests: &Requests,
-    device: &impl Device,
+    device: &D,
     ranges: Ranges,
     count: u64,
     begun: &mut Vec<Begun>,
 ) -> Result<(), Errno>
     ensures ranges { OnOk result (HasMore span_of ranges begun.old.items begun.new.items) }
     ensures zeros { OnOk result (All IsZeros begun.old.items → All IsZeros begun.new.items) }
+    ensures accepted { All (IsAccepted D.accepts) begun.old.items → All (IsAccepted D.accepts) begun.new.items }
 {
     let zeros = Zeros::new(requests.alloc, count)?;
     for range in ranges {
@@ -77,15 +93,16 @@ pub(crate) fn begin_zeroes(
 }
 
 // Begins to write these bytes to one range.
-fn begin_range(
+fn begin_range<D: Device>(
     requests: &Requests,
-    device: &impl Device,
+    device: &D,
     range: Range,
     bytes: Bytes,
     begun: &mut Vec<Begun>,
 ) -> Result<(), Errno>
     requires { length bytes ≡ range.count * 4096 }
-    ensures { OnOk result (BeginsOne (pair_of range) bytes begun.old.items begun.new.items) }
+    ensures one { OnOk result (BeginsOne (pair_of range) bytes begun.old.items begun.new.items) }
+    ensures accepted { All (IsAccepted D.accepts) begun.old.items → All (IsAccepted D.accepts) begun.new.items }
 {
     requests.count_write();
     if begun.try_reserve(1).is_err() {

@@ -1,10 +1,11 @@
 //! Requests over a device.
-ghost use Rattle.std.specs.Prelude.{◌≡◌, List, ◌++◌, [], true, false, None, vec_len, is_ok, IfOk, OnOk};
+ghost use Rattle.std.specs.Prelude.{◌≡◌, All, List, ◌++◌, [], true, false, None, map, vec_len, is_ok, IfOk, OnOk};
 ghost use Rattle.model.specs.Settlement.{Receipt as Denoted};
 ghost use Rattle.nbd.specs.Pieces.{pieces};
 ghost use Rattle.nbd.specs.declared.command.Command.TheVariants as command;
 ghost use Rattle.requests.specs.Ended.{asks_for_sync, data_bytes};
-ghost use Rattle.requests.specs.Receipts.{Begins, HasMore, range_of};
+ghost use Rattle.requests.specs.Reads.{AreHeld};
+ghost use Rattle.requests.specs.Receipts.{Begins, HasBegun, HasMore, IsAccepted, job_of, receipt_job};
 
 use crate::answer::Answer;
 use crate::complete::complete_all;
@@ -68,8 +69,9 @@ impl Requests {
 
     /// Begins a request: the writes of a WRITE or WRITE_ZEROES, and nothing for any other command. A caller with many
     /// requests begins them all, and then ends one after another.
-    pub fn begin(&self, device: &impl Device, request: Request) -> UnderWay
-        ensures { result ≡ request }
+    pub fn begin<D: Device>(&self, device: &D, request: Request) -> UnderWay
+        ensures request { result.request ≡ request }
+        ensures accepted { All (IsAccepted D.accepts) result.begun }
     {
         let round = self.storage.last_round();
         let mut begun = Vec::new(self.alloc);
@@ -89,19 +91,19 @@ impl Requests {
     /// It fails with `Invalid` (EINVAL) for a range that the device refuses and for DISC, which has no reply; `NoMemory`
     /// (ENOMEM) if there is no memory; `InputOutput` (EIO) if a disk or a file failed, or the session has no room left. Then
     /// some of the ranges may be written, and have their receipts.
-    pub fn end(
+    pub fn end<D: Device>(
         &self,
-        device: &impl Device,
+        device: &D,
         under_way: UnderWay,
         receipts: &mut Vec<Receipt>,
     ) -> Ended
-        ensures request { result.request ≡ under_way }
-        ensures written { under_way.command ≡ command.Write → result.is_done ≡ true
-            → HasMore range_of (pieces under_way.first_block under_way.block_count) receipts.old.items receipts.new.items }
-        ensures zeroed { under_way.command ≡ command.WriteZeroes → result.is_done ≡ true
-            → HasMore range_of (pieces under_way.first_block under_way.block_count) receipts.old.items receipts.new.items }
+        ensures request { result.request ≡ under_way.request }
+        ensures begun { result.is_done ≡ true → HasBegun under_way.request under_way.begun }
+        ensures receipts { result.is_done ≡ true → HasMore receipt_job (map job_of under_way.begun) receipts.old.items receipts.new.items }
         ensures kept { (more : List Denoted) × (receipts.new.items ≡ receipts.old.items ++ more) }
-        ensures flush { under_way.command ≡ command.Flush → result.is_done ≡ true }
+        ensures read { under_way.request.command ≡ command.Read → result.is_done ≡ true
+            → AreHeld D.holds (pieces under_way.request.first_block under_way.request.block_count) result.bytes }
+        ensures flush { under_way.request.command ≡ command.Flush → result.is_done ≡ true }
     {
         let UnderWay {
             request,
@@ -169,14 +171,15 @@ impl Requests {
     }
 
     // Begins the writes of a request, in order, until one is refused.
-    fn begin_writes(
+    fn begin_writes<D: Device>(
         &self,
-        device: &impl Device,
+        device: &D,
         request: &Request,
         begun: &mut Vec<Begun>,
     ) -> Result<(), Errno>
         requires { begun.now.items ≡ [] }
-        ensures { Begins request.now result begun.new.items }
+        ensures begins { Begins request.now result begun.new.items }
+        ensures accepted { All (IsAccepted D.accepts) begun.new.items }
     {
         match request.command {
             Command::Write => {
@@ -193,7 +196,9 @@ impl Requests {
     }
 
     // Returns the data of a READ, and no bytes for any other command. `Invalid` for DISC.
-    fn read_data(&self, device: &impl Device, request: &Request) -> Result<Vec<u8>, Errno>
+    fn read_data<D: Device>(&self, device: &D, request: &Request) -> Result<Vec<u8>, Errno>
+        ensures read { request.now.command ≡ command.Read
+            → IfOk result (λ bytes. AreHeld D.holds (pieces request.now.first_block request.now.block_count) bytes.items) }
         ensures data { IfOk result (λ bytes. vec_len bytes ≡ data_bytes request.now.command request.now.block_count) }
         ensures flush { request.now.command ≡ command.Flush → is_ok result ≡ true }
     {

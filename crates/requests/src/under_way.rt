@@ -15,12 +15,12 @@ pub struct UnderWay {
 }
 
 impl Model for UnderWay {
-    ghost use Rattle.nbd.specs.declared.request.Request.{Request};
     ghost use Rattle.requests.specs.Receipts.{Begins};
+    ghost use Rattle.requests.specs.UnderWay.{UnderWayState};
 
-    ghost Value = { Request };
+    ghost Value = { UnderWayState };
 
-    ghost view = { λ u. u.request };
+    ghost view = { λ u. record { request = u.request; begun = u.begun.items } };
 
     ghost invariant = { λ u. Begins u.request u.begins u.begun.items };
 }

@@ -1,7 +1,7 @@
 //! The threads of a run: those that write, the one that cuts the link, and the one that reports.
-ghost use Rattle.std.specs.Prelude.{◌≡◌, ◌*◌, ◌<◌, vec_len, IfOk};
+ghost use Rattle.std.specs.Prelude.{◌≡◌, ◌*◌, ◌<◌, ◌^◌, vec_len, IfOk};
 ghost use Rattle.std.specs.Thread.{IsSend, IsSync};
-ghost use Rattle.run_threads.specs.Plan.{AreOfPlan};
+ghost use Rattle.run_threads.specs.Plan.{AreOfPlan, AreOfWriter};
 
 use crate::progress::{Progress, report};
 use blocks::{BLOCK_BYTES, Refusal};
@@ -34,7 +34,8 @@ pub fn work<
     err: &mut E,
 ) -> Result<Vec<Receipt>, Refusal>
     requires { 0 < options.now.blocks }
-    ensures { IfOk result (λ receipts. vec_len receipts ≡ options.now.writers * options.now.writes) }
+    ensures count { IfOk result (λ receipts. vec_len receipts ≡ options.now.writers * options.now.writes) }
+    ensures plan { IfOk result (λ receipts. AreOfPlan D.accepts options.now receipts.items) }
 {
     let progress = Progress::new();
     if !options.live.status && !options.live.progress {
@@ -63,7 +64,8 @@ fn write_and_cut<R: Threads + Wait + Clock + Copy + Drop + Send + Sync + 'static
     progress: &Progress,
 ) -> Result<Vec<Receipt>, Refusal>
     requires { 0 < options.now.blocks }
-    ensures { IfOk result (λ receipts. vec_len receipts ≡ options.now.writers * options.now.writes) }
+    ensures count { IfOk result (λ receipts. vec_len receipts ≡ options.now.writers * options.now.writes) }
+    ensures plan { IfOk result (λ receipts. AreOfPlan D.accepts options.now receipts.items) }
 {
     let (cut, written) = thread::join(
         rt,
@@ -89,46 +91,44 @@ fn rest<R: Wait + Clock>(rt: &R, device: &impl Device) {
 }
 
 // Makes the writes of each writer in a thread of its own, and gathers the receipts.
-fn write_all<R: Threads + Wait + Clock + Copy + Drop + Send + Sync + 'static>(
+fn write_all<R: Threads + Wait + Clock + Copy + Drop + Send + Sync + 'static, D: Device + Sync>(
     rt: &R,
     alloc: Global,
-    device: &(impl Device + Sync),
+    device: &D,
     options: &RunOptions,
     progress: &Progress,
 ) -> Result<Vec<Receipt>, Refusal>
     requires { 0 < options.now.blocks }
-    ensures { IfOk result (λ receipts. vec_len receipts ≡ options.now.writers * options.now.writes) }
+    ensures count { IfOk result (λ receipts. vec_len receipts ≡ options.now.writers * options.now.writes) }
+    ensures plan { IfOk result (λ receipts. AreOfPlan D.accepts options.now receipts.items) }
 {
     let written = thread::map_indices(
         rt,
         alloc,
         options.writers as usize,
-        &|writer| -> Result<Vec<Receipt>, Refusal> {
-            write_turns(alloc, device, options, writer as u32, progress)
-        },
+        &|writer| -> Result<Vec<Receipt>, Refusal>
+            requires { (0 < options.now.blocks) × (writer < 2 ^ 32) }
+            ensures { IfOk result (λ receipts. (vec_len receipts ≡ options.entry.now.writes) × AreOfWriter D.accepts options.entry.now writer receipts.items) }
+        { write_turns(alloc, device, options, writer as u32, progress) },
     )?;
     let mut all = Vec::new(alloc);
     for receipts in written {
         all.append(&mut receipts?)?;
     }
-    // Each writer that was not refused has all of its receipts.
-    if all.len() as u64 != options.all_writes() {
-        return Err(Refusal::UnknownJob);
-    }
     Ok(all)
 }
 
 // Makes the writes of one writer, one after another. Returns their receipts in this order.
-fn write_turns(
+fn write_turns<D: Device>(
     alloc: Global,
-    device: &impl Device,
+    device: &D,
     options: &RunOptions,
     writer: u32,
     progress: &Progress,
 ) -> Result<Vec<Receipt>, Refusal>
     requires { 0 < options.now.blocks }
     ensures count { IfOk result (λ receipts. vec_len receipts ≡ options.now.writes) }
-    ensures plan { IfOk result (λ receipts. AreOfPlan options.now writer receipts.items) }
+    ensures plan { IfOk result (λ receipts. AreOfWriter D.accepts options.now writer receipts.items) }
 {
     let mut receipts = Vec::with_capacity(alloc, options.writes as usize)?;
     for turn in 0..options.writes {

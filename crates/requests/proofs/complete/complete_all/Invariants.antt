@@ -1,11 +1,11 @@
 use Rattle.std.proofs.Common.{◌≡◌, List, [], ◌++◌, map, true, is_ok, OnOk}
 use Rattle.model.specs.Settlement.{Receipt}
-use Rattle.requests.specs.Receipts.{HasMore, range_of, span_of}
+use Rattle.requests.specs.Receipts.{HasMore, job_of, receipt_job}
 use Rattle.requests.proofs.complete.complete_all.Given as goal
 
 abbrev pub invariant-loop-write : goal.invariant-loop-write
 invariant-loop-write g l = record {
-  done : OnOk l.all (HasMore range_of (map span_of l.yielded) l.fn.receipts.items l.receipts.items);
+  done : OnOk l.all (HasMore receipt_job (map job_of l.yielded) l.fn.receipts.items l.receipts.items);
   kept : (more : List Receipt) × (l.receipts.items ≡ l.fn.receipts.items ++ more);
   none : l.yielded ≡ [] → is_ok l.all ≡ true;
   left : l.yielded ++ l.write-iterator.rest.items ≡ l.fn.begun.items;

@@ -1,7 +1,7 @@
 use Rattle.std.proofs.Common.{◌≡◌, ◌++◌, map}
 use Rattle.std.specs.List.{All}
 use Rattle.nbd.specs.Pieces.{pair_of}
-use Rattle.requests.specs.Receipts.{HasMore, IsWhole, begun_bytes, span_of}
+use Rattle.requests.specs.Receipts.{HasMore, IsAccepted, IsWhole, begun_bytes, span_of}
 use Rattle.requests.proofs.perform.begin_write.Given as goal
 
 abbrev pub invariant-loop-range : goal.invariant-loop-range
@@ -10,4 +10,5 @@ invariant-loop-range g l = record {
   left : map pair_of l.yielded ++ l.range-iterator ≡ l.fn.ranges;
   contents : begun_bytes l.begun.items ++ l.payload ≡ begun_bytes l.fn.begun.items ++ l.fn.payload;
   whole : All IsWhole l.fn.begun.items → All IsWhole l.begun.items;
+  accepted : All (IsAccepted g.D.Device.accepts) l.fn.begun.items → All (IsAccepted g.D.Device.accepts) l.begun.items;
 }
