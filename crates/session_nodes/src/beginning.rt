@@ -1,12 +1,20 @@
 //! What the nodes of a session began with.
+use std::marker::Brand;
 
-/// What both nodes of a session started from. It has no bytes: only contracts read it.
+/// What both nodes of a session started from. It has no bytes: only contracts read it, and whoever calls a function with such a
+/// parameter picks it.
 pub trait Beginning {
     ghost use Rattle.std.specs.Prelude.{Option};
     ghost use Rattle.model.specs.Theorems.{Opening};
 
     /// The opening; `None` if nothing is known of it.
     ghost opening: { Option Opening };
+}
+
+impl Beginning for Brand {
+    ghost use Rattle.std.specs.Prelude.{None};
+
+    ghost opening = { None };
 }
 
 /// The beginning of nodes whose opening is unknown.

@@ -3,7 +3,7 @@ use Rattle.std.proofs.Common.{ℕ, ◌≡◌, ◌≤◌, ◌∙◌, Bool, true, 
 use Rattle.std.proofs.Common.{Vec, Global, sym}
 use Rattle.std.specs.Prelude.{vec_len, IfOk, IsOk}
 use Rattle.blocks.specs.declared.refusal.Refusal.{Refusal}
-use Rattle.blocks.specs.declared.settings.Settings.{Settings}
+use Rattle.blocks.specs.SettingsRange.{standard}
 use Rattle.blocks.specs.declared.tuple.Tuple.{Tuple}
 use Rattle.laws.proofs.Joining.Openings.{kept-opening-primary}
 use Rattle.model.specs.Headline.{IsJoined}
@@ -12,12 +12,15 @@ use Rattle.model.specs.Primary.{PrimaryHistory}
 use Rattle.model.specs.Refusals.{first_refusal}
 use Rattle.model.specs.Secondary.{SecondaryHistory}
 use Rattle.model.specs.Settlement.{Receipt, Settlement, settle, settle_tests, settlement}
-use Rattle.model.specs.Theorems.{Opening, primary_at, secondary_at}
+use Rattle.model.specs.Theorems.{Opening, Settles, primary_at, secondary_at}
+use Rattle.options.specs.declared.run.Path.TheVariants.{Link, Sockets}
+use Rattle.options.specs.declared.run.RunOptions.{RunOptions}
 use Rattle.primary.specs.State.{PrimaryView}
+use Rattle.run_threads.specs.Plan.{AreOfPlan}
 use Rattle.secondary.specs.State.{SecondaryView}
-use Rattle.session_nodes.specs.Primaries.{PrimaryHas, PrimaryIsHad}
+use Rattle.session_nodes.specs.Primaries.{HasAccepted, PrimaryHas, PrimaryIsHad}
 use Rattle.session_nodes.specs.Secondaries.{SecondaryHas, SecondaryIsHad}
-use Rattle.session_run.specs.Outcome.{HasSettled, IsOpening, IsOutcome}
+use Rattle.session_run.specs.Outcome.{HasSettled, IsLinked, IsNumber, IsOpening, IsOutcome, IsRun}
 use Rattle.session_run.specs.declared.report.Report.{Report}
 use Rattle.settle.proofs.Openings.{were-honest}
 use Rattle.settle.proofs.Settling.{keeps-order}
@@ -45,47 +48,87 @@ ended-settles (Ok receipts) ended a b confirmed unmarked is settles =
     settles
 
 -- what a session's nodes, once they are settled, make of its report
-pub outcome-of : (o : Opening) (result : Result Report Refusal) (worked : Result (Vec Receipt Global) Refusal) (ended : Result (PrimaryView × SecondaryView) Refusal)
-    → WasHonest o → o.own.bitmap ≡ 0 → IfOk result (λ _. IsOk worked × IsOk ended)
+pub outcome-of : (options : RunOptions) (o : Opening) (result : Result Report Refusal) (worked : Result (Vec Receipt Global) Refusal)
+    (ended : Result (PrimaryView × SecondaryView) Refusal) → WasHonest o → o.own.bitmap ≡ 0 → IfOk result (λ _. IsOk worked × IsOk ended)
+    → IfOk worked (λ receipts. AreOfPlan (HasAccepted (Some o)) options receipts.items)
     → IfOk result (λ report. IfOk worked (λ receipts. report.completed ≡ vec_len receipts))
+    → IfOk result (λ report. IfOk worked (λ receipts. IfOk ended (λ nodes. IsNumber (λ n. n.confirmed) nodes.0 nodes.1 receipts.items report.confirmed)))
+    → IfOk result (λ report. IfOk worked (λ receipts. IfOk ended (λ nodes. IsNumber (λ n. n.unmarked) nodes.0 nodes.1 receipts.items report.unmarked)))
     → IfOk result (λ report. IfOk worked (λ receipts. IfOk ended (λ nodes. nodes.1.core.number ≤ nodes.0.core.connections
     → HasSettled nodes.0 nodes.1 receipts.items report.confirmed report.unmarked)))
     → IfOk result (λ report. IfOk ended (λ nodes. (report.local ≡ nodes.0.disk) × (report.peer ≡ nodes.1.disk)))
     → IfOk ended (λ nodes. PrimaryIsHad (Some o) nodes.0 × SecondaryIsHad (Some o) nodes.1)
-    → IfOk ended (λ nodes. (p : PrimaryHistory) (s : SecondaryHistory) → PrimaryHas nodes.0 p → SecondaryHas nodes.1 s → IsJoined p s)
-    → IfOk ended (λ nodes. nodes.1.core.number ≤ nodes.0.core.connections) → IfOk result (λ report. IsOutcome o report)
-outcome-of o (Err refusal) worked ended honest unparted done count settles disks had joined numbered = tt
-outcome-of o (Ok report) (Err refusal) ended honest unparted done count settles disks had joined numbered = absurd (let wrong : false ≡ true = done.0 in cc (wrong))
-outcome-of o (Ok report) (Ok receipts) (Err refusal) honest unparted done count settles disks had joined numbered = absurd (let wrong : false ≡ true = done.1 in cc (wrong))
-outcome-of o (Ok report) (Ok receipts) (Ok nodes) honest unparted done count settles disks had joined numbered =
+    → IfOk ended (λ nodes. nodes.1.core.number ≤ nodes.0.core.connections) → IfOk result (IsOutcome options o)
+outcome-of options o (Err refusal) worked ended honest unparted done planned count confirmed unmarked settles disks had numbered = tt
+outcome-of options o (Ok report) (Err refusal) ended honest unparted done planned count confirmed unmarked settles disks had numbered =
+    absurd (let wrong : false ≡ true = done.0 in cc (wrong))
+outcome-of options o (Ok report) (Ok receipts) (Err refusal) honest unparted done planned count confirmed unmarked settles disks had numbered =
+    absurd (let wrong : false ≡ true = done.1 in cc (wrong))
+outcome-of options o (Ok report) (Ok receipts) (Ok nodes) honest unparted done planned count confirmed unmarked settles disks had numbered =
     let p = had.0 in
     let s = had.1 in
     let here : PrimaryHas nodes.0 (primary_run p.began.0 (primary_at o)) = subst (PrimaryHas nodes.0) p.began.1 p.has in
     let there : SecondaryHas nodes.1 (secondary_run s.began.0 (secondary_at o)) = subst (SecondaryHas nodes.1) s.began.1 s.has in
-    let joins = joined (primary_run p.began.0 (primary_at o)) (secondary_run s.began.0 (secondary_at o)) here there in
-    let settled = settles numbered (primary_run p.began.0 (primary_at o)) (secondary_run s.began.0 (secondary_at o)) here.has there.has joins
-    (were-honest o p.began.0 s.began.0 honest) in
+    let were = were-honest o p.began.0 s.began.0 honest in
     record {
       here = p.began.0;
       there = s.began.0;
       receipts = receipts.items;
-      numbers = settled.0;
-      joined = joins;
-      settles = settled.1.0;
-      order = λ none. keeps-order _ _ here.has.reached there.has.reached (were-honest o p.began.0 s.began.0 honest) joins (record {
+      planned = planned;
+      completed = omega (arith, count, receipts.ok);
+      confirmed = confirmed (primary_run p.began.0 (primary_at o)) (secondary_run s.began.0 (secondary_at o)) here.has there.has;
+      unmarked = unmarked (primary_run p.began.0 (primary_at o)) (secondary_run s.began.0 (secondary_at o)) here.has there.has;
+      settles = λ joined.
+          let settled = settles numbered (primary_run p.began.0 (primary_at o)) (secondary_run s.began.0 (secondary_at o)) here.has there.has joined were in
+          subst (Settles (primary_run p.began.0 (primary_at o)) (secondary_run s.began.0 (secondary_at o)) receipts.items) settled.1.0.exact settled.1.0;
+      order = λ joined none. keeps-order _ _ here.has.reached there.has.reached were joined (record {
         local = none;
         opening = λ same. ap (λ (t : Tuple). t.bitmap) (kept-opening-primary o p.began.0).tuple ∙ unparted;
       });
-      completed = omega (arith, count, receipts.ok);
-      confirmed = settled.1.1.0;
-      unmarked = settled.1.1.1;
       local = λ block. ap (λ (l : List (List ℕ)). slice_get l block) disks.0 ∙ here.has.leaves.disk block;
       peer = λ block. ap (λ (l : List (List ℕ)). slice_get l block) disks.1 ∙ there.has.leaves.disk block;
     }
 
--- a report of a run from an opening is one of the options and images that the opening is made of
-pub outcome-from : (result : Result Report Refusal) (o : Opening) (chosen : Settings) (local peer : List ℕ) → IsOpening chosen local peer o
-    → IfOk result (λ report. IsOutcome o report)
-    → IfOk result (λ report. (opening : Opening) × (IsOpening chosen local peer opening × IsOutcome opening report))
-outcome-from (Err refusal) o chosen local peer is outcome = tt
-outcome-from (Ok report) o chosen local peer is outcome = (o, (is, outcome))
+-- the same of nodes whose histories are joined
+pub linked-of : (options : RunOptions) (o : Opening) (result : Result Report Refusal) (worked : Result (Vec Receipt Global) Refusal)
+    (ended : Result (PrimaryView × SecondaryView) Refusal) → WasHonest o → o.own.bitmap ≡ 0 → IfOk result (λ _. IsOk worked × IsOk ended)
+    → IfOk worked (λ receipts. AreOfPlan (HasAccepted (Some o)) options receipts.items)
+    → IfOk result (λ report. IfOk worked (λ receipts. report.completed ≡ vec_len receipts))
+    → IfOk result (λ report. IfOk worked (λ receipts. IfOk ended (λ nodes. IsNumber (λ n. n.confirmed) nodes.0 nodes.1 receipts.items report.confirmed)))
+    → IfOk result (λ report. IfOk worked (λ receipts. IfOk ended (λ nodes. IsNumber (λ n. n.unmarked) nodes.0 nodes.1 receipts.items report.unmarked)))
+    → IfOk result (λ report. IfOk worked (λ receipts. IfOk ended (λ nodes. nodes.1.core.number ≤ nodes.0.core.connections
+    → HasSettled nodes.0 nodes.1 receipts.items report.confirmed report.unmarked)))
+    → IfOk result (λ report. IfOk ended (λ nodes. (report.local ≡ nodes.0.disk) × (report.peer ≡ nodes.1.disk)))
+    → IfOk ended (λ nodes. PrimaryIsHad (Some o) nodes.0 × SecondaryIsHad (Some o) nodes.1)
+    → IfOk ended (λ nodes. nodes.1.core.number ≤ nodes.0.core.connections)
+    → IfOk ended (λ nodes. (p : PrimaryHistory) (s : SecondaryHistory) → PrimaryHas nodes.0 p → SecondaryHas nodes.1 s → IsJoined p s)
+    → IfOk result (IsLinked options o)
+unfolding outcome-of
+linked-of options o (Err refusal) worked ended honest unparted done planned count confirmed unmarked settles disks had numbered joined = tt
+linked-of options o (Ok report) (Err refusal) ended honest unparted done planned count confirmed unmarked settles disks had numbered joined =
+    absurd (let wrong : false ≡ true = done.0 in cc (wrong))
+linked-of options o (Ok report) (Ok receipts) (Err refusal) honest unparted done planned count confirmed unmarked settles disks had numbered joined =
+    absurd (let wrong : false ≡ true = done.1 in cc (wrong))
+linked-of options o (Ok report) (Ok receipts) (Ok nodes) honest unparted done planned count confirmed unmarked settles disks had numbered joined = record {
+  outcome = outcome-of options o (Ok report) (Ok receipts) (Ok nodes) honest unparted done planned count confirmed unmarked settles disks had numbered;
+  joined = joined _ _ (subst (PrimaryHas nodes.0) had.0.began.1 had.0.has) (subst (SecondaryHas nodes.1) had.1.began.1 had.1.has);
+}
+
+-- a report of joined runs from an opening is one of the options and images that the opening is made of
+pub linked-run : (options : RunOptions) (result : Result Report Refusal) (o : Opening) (local peer : List ℕ)
+    → IsOpening (record standard { protocol = options.protocol; blocks = options.blocks }) local peer o → IfOk result (IsLinked options o)
+    → IfOk result (IsRun options local peer)
+linked-run options (Err refusal) o local peer is linked = tt
+linked-run options (Ok report) o local peer is linked = record { opening = o; opens = is; outcome = linked.outcome; joined = λ _. linked.joined }
+
+-- so is one over streams
+pub wire-run : (options : RunOptions) (result : Result Report Refusal) (o : Opening) (local peer : List ℕ) → options.path ≡ Sockets
+    → IsOpening (record standard { protocol = options.protocol; blocks = options.blocks }) local peer o → IfOk result (IsOutcome options o)
+    → IfOk result (IsRun options local peer)
+wire-run options (Err refusal) o local peer wire is outcome = tt
+wire-run options (Ok report) o local peer wire is outcome = record {
+  opening = o;
+  opens = is;
+  outcome = outcome;
+  joined = λ link. absurd (let wrong : Sockets ≡ Link = sym wire ∙ link in cc (wrong));
+}

@@ -1,7 +1,8 @@
 -- The outcome of a session, as the model's settlement of its nodes has it.
-use Rattle.std.specs.Prelude.{ℕ, ◌≡◌, false, List, length, slice_get}
+use Rattle.std.specs.Prelude.{ℕ, ◌≡◌, ◌*◌, false, List, Some, length, slice_get}
 use Rattle.std.specs.List.{list_any}
 use Rattle.blocks.specs.Contents.{blocks_of}
+use Rattle.blocks.specs.SettingsRange.{standard}
 use Rattle.blocks.specs.declared.settings.Settings.{Settings}
 use Rattle.blocks.specs.declared.tuple.Tuple.{Tuple}
 use Rattle.model.specs.Headline.{IsJoined}
@@ -11,10 +12,14 @@ use Rattle.model.specs.Secondary.{SecondaryHistory, secondary_map}
 use Rattle.model.specs.Settlement.{Receipt, Settlement, settlement}
 use Rattle.model.specs.Theorems.{Opening, Settles, primary_at, secondary_at}
 use Rattle.model.specs.WriteOrder.{KeepsWriteOrder}
+use Rattle.options.specs.declared.run.Path.TheVariants as path
+use Rattle.options.specs.declared.run.RunOptions.{RunOptions}
 use Rattle.primary.specs.State.{PrimaryView, node as primary_node}
 use Rattle.primary_protocol.specs.Node.{NodeHas as PrimaryHas}
+use Rattle.run_threads.specs.Plan.{AreOfPlan}
 use Rattle.secondary.specs.State.{SecondaryView, node as secondary_node}
 use Rattle.secondary_protocol.specs.Node.{NodeHas as SecondaryHas}
+use Rattle.session_nodes.specs.Primaries.{HasAccepted}
 use Rattle.session_run.specs.declared.report.Report.{Report}
 use Rattle.settle.specs.Settled.{WereHonest}
 
@@ -50,21 +55,44 @@ pub record IsOpening (chosen : Settings) (local_image peer_image : List ℕ) (o 
   pub other : (local_image ≡ peer_image → ⊥) → o.peer_tuple ≡ unknown
   pub marks : (block : ℕ) → o.marks block ≡ false
 
--- What a run over a link in this process comes to: two runs of the model, one of each node, from the opening. They are joined, a
--- settlement with the receipts of all writes says all that the theorem on joined nodes says of one, the report has its numbers,
--- and both disks are those that the runs lead to. If no local write failed, the peer's disk has an order of writes while it calls
--- itself consistent.
-pub record IsOutcome (o : Opening) (report : Report) : Type 0 where
+-- What a run comes to: two runs of the model, one of each node, from the opening. Each receipt is that of a planned write, which the
+-- primary accepted with the bytes of the plan. The report has the numbers of the settlement with all of them, and the disks that the
+-- runs lead to. If the runs are joined, the settlement says all that the theorem on joined nodes says of one, and if no local write
+-- failed besides, the peer's disk has an order of writes while it calls itself consistent.
+pub record IsOutcome (options : RunOptions) (o : Opening) (report : Report) : Type 0 where
   pub here : List PrimaryEvent
   pub there : List SecondaryEvent
   pub receipts : List Receipt
-  pub numbers : Settlement
-  pub joined : IsJoined (primary_run here (primary_at o)) (secondary_run there (secondary_at o))
-  pub settles : Settles (primary_run here (primary_at o)) (secondary_run there (secondary_at o)) receipts numbers
-  pub order : list_any (λ accepted. is_failed accepted.outcome) (primary_run here (primary_at o)).writes ≡ false
-      → KeepsWriteOrder (primary_run here (primary_at o)) (secondary_run there (secondary_at o))
+  pub planned : AreOfPlan (HasAccepted (Some o)) options receipts
   pub completed : report.completed ≡ length receipts
-  pub confirmed : report.confirmed ≡ numbers.confirmed
-  pub unmarked : report.unmarked ≡ numbers.unmarked
+  pub confirmed : report.confirmed ≡ (settlement (primary_run here (primary_at o)) (secondary_run there (secondary_at o)) receipts).confirmed
+  pub unmarked : report.unmarked ≡ (settlement (primary_run here (primary_at o)) (secondary_run there (secondary_at o)) receipts).unmarked
+  pub settles : IsJoined (primary_run here (primary_at o)) (secondary_run there (secondary_at o))
+      → Settles (primary_run here (primary_at o)) (secondary_run there (secondary_at o)) receipts
+      (settlement (primary_run here (primary_at o)) (secondary_run there (secondary_at o)) receipts)
+  pub order : IsJoined (primary_run here (primary_at o)) (secondary_run there (secondary_at o))
+      → list_any (λ accepted. is_failed accepted.outcome) (primary_run here (primary_at o)).writes ≡ false
+      → KeepsWriteOrder (primary_run here (primary_at o)) (secondary_run there (secondary_at o))
   pub local : (block : ℕ) → slice_get report.local block ≡ local_map (primary_run here (primary_at o)) block
   pub peer : (block : ℕ) → slice_get report.peer block ≡ secondary_map (secondary_run there (secondary_at o)) block
+
+-- such an outcome of two runs that are joined
+pub record IsLinked (options : RunOptions) (o : Opening) (report : Report) : Type 0 where
+  pub outcome : IsOutcome options o report
+  pub joined : IsJoined (primary_run outcome.here (primary_at o)) (secondary_run outcome.there (secondary_at o))
+
+-- The outcome of a run with these options over these images. Over a link in this process the runs of the model are joined.
+pub record IsRun (options : RunOptions) (local_image peer_image : List ℕ) (report : Report) : Type 0 where
+  pub opening : Opening
+  pub opens : IsOpening (record standard { protocol = options.protocol; blocks = options.blocks }) local_image peer_image opening
+  pub outcome : IsOutcome options opening report
+  pub joined : options.path ≡ path.Link → IsJoined (primary_run outcome.here (primary_at opening)) (secondary_run outcome.there (secondary_at opening))
+
+-- A run with these options over some images that made all of its writes, and after which no block without a mark differs.
+pub record HasRun (options : RunOptions) : Type 0 where
+  pub local_image : List ℕ
+  pub peer_image : List ℕ
+  pub report : Report
+  pub run : IsRun options local_image peer_image report
+  pub completed : report.completed ≡ options.writers * options.writes
+  pub unmarked : report.unmarked ≡ 0

@@ -1,4 +1,7 @@
 //! Failures of a run.
+ghost use Rattle.std.specs.Prelude.{◌≡◌};
+ghost use Rattle.numbers.specs.declared.status.SessionStatus.TheVariants as status;
+
 use blocks::Refusal;
 use image_store::OpenFault;
 use numbers::SessionStatus;
@@ -37,7 +40,9 @@ pub(crate) enum Fault<'a> {
 
 impl Fault<'_> {
     /// Returns how the session ends with it.
-    pub(crate) fn status(&self) -> SessionStatus {
+    pub(crate) fn status(&self) -> SessionStatus
+        ensures { result ≡ status.Done → ⊥ }
+    {
         match self {
             Fault::Refused(refusal) => SessionStatus::of(*refusal),
             _ => SessionStatus::Failed,

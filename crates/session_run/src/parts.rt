@@ -1,8 +1,8 @@
 //! The parts from which the session of a run starts.
-ghost use Rattle.std.specs.Prelude.{ℕ, ◌≡◌, ◌<◌, false, slice_get, unwrap_or, IfOk};
+ghost use Rattle.std.specs.Prelude.{◌≡◌, ◌<◌, slice_get, IfOk};
 ghost use Rattle.blocks.specs.Contents.{blocks_of};
 ghost use Rattle.blocks.specs.SettingsRange.{standard};
-ghost use Rattle.session_run.specs.Outcome.{first, unknown};
+ghost use Rattle.session_run.specs.Outcome.{IsOpening};
 ghost use Rattle.settle.specs.Settled.{WasHonest};
 ghost use Rattle.volume.specs.Opening.{opening_of};
 
@@ -23,12 +23,9 @@ pub(crate) fn parts(
     options: &RunOptions,
     images: (Vec<u8>, Vec<u8>),
 ) -> Result<(Parts, Disks), Refusal>
-    ensures settings { IfOk result (λ made. made.0.settings ≡ record standard { protocol = options.now.protocol; blocks = options.now.blocks }) }
     ensures some_blocks { IfOk result (λ _. 0 < options.now.blocks) }
-    ensures own { IfOk result (λ made. made.0.own ≡ first) }
-    ensures same { IfOk result (λ made. images.0.items ≡ images.1.items → made.0.peer ≡ first) }
-    ensures other { IfOk result (λ made. (images.0.items ≡ images.1.items → ⊥) → made.0.peer ≡ unknown) }
-    ensures marks { IfOk result (λ made. (block : ℕ) → unwrap_or (slice_get made.0.marks.items block) false ≡ false) }
+    ensures opens { IfOk result (λ made. IsOpening (record standard { protocol = options.now.protocol; blocks = options.now.blocks }) images.0.items images.1.items
+        (opening_of made.0 (slice_get made.1.0) (slice_get made.1.1))) }
     ensures honest { IfOk result (λ made. WasHonest (opening_of made.0 (slice_get made.1.0) (slice_get made.1.1))) }
     ensures disks { IfOk result (λ made. (made.1.0 ≡ blocks_of 4096 images.0.items) × (made.1.1 ≡ blocks_of 4096 images.1.items)) }
 {

@@ -1,9 +1,7 @@
 //! A session over a link in this process, from its start to its settlement.
 ghost use Rattle.std.specs.Prelude.{◌≡◌, ◌*◌, ◌<◌, slice_get, IfOk};
-ghost use Rattle.blocks.specs.SettingsRange.{standard};
-ghost use Rattle.model.specs.Theorems.{Opening};
 ghost use Rattle.ruled_link.specs.Names as names;
-ghost use Rattle.session_run.specs.Outcome.{IsOpening, IsOutcome};
+ghost use Rattle.session_run.specs.Outcome.{IsLinked, IsRun};
 ghost use Rattle.settle.specs.Settled.{WasHonest};
 ghost use Rattle.volume.specs.Links.{AreEndsOf};
 ghost use Rattle.volume.specs.Opening.{opening_of};
@@ -32,8 +30,7 @@ pub(crate) fn run_session<R: Runtime, E: Write + Send>(
     err: &mut E,
 ) -> Result<Report, Refusal>
     ensures completed { IfOk result (λ report. report.completed ≡ options.now.writers * options.now.writes) }
-    ensures outcome { IfOk result (λ report. (opening : Opening)
-        × (IsOpening (record standard { protocol = options.now.protocol; blocks = options.now.blocks }) images.0.items images.1.items opening × IsOutcome opening report)) }
+    ensures outcome { IfOk result (IsRun options.now images.0.items images.1.items) }
 {
     let (parts, disks) = parts(alloc, options, images)?;
     let there = ruled(rt, alloc, parts.settings.link)?;
@@ -59,7 +56,7 @@ fn run_named<L: Linked + Send + Sync + 'static, R: Runtime, E: Write + Send>(
     requires honest { WasHonest L.opening }
     requires unparted { L.opening.own.bitmap ≡ 0 }
     ensures completed { IfOk result (λ report. report.completed ≡ options.now.writers * options.now.writes) }
-    ensures outcome { IfOk result (λ report. IsOutcome L.opening report) }
+    ensures outcome { IfOk result (IsLinked options.now L.opening) }
 {
     let (local, peer) = disks;
     match Session::<R, L, MemStore, MemStore>::start(rt, alloc, there, back, local, peer, parts) {

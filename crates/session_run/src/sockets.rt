@@ -1,15 +1,20 @@
 //! A session over two sockets of this machine, from its start to its settlement.
-ghost use Rattle.std.specs.Prelude.{◌≡◌, ◌*◌, ◌<◌, IfOk};
+ghost use Rattle.std.specs.Prelude.{◌≡◌, ◌*◌, ◌<◌, Some, slice_get, IfOk};
+ghost use Rattle.options.specs.declared.run.Path.TheVariants as path;
+ghost use Rattle.session_run.specs.Outcome.{IsOutcome, IsRun};
+ghost use Rattle.settle.specs.Settled.{WasHonest};
+ghost use Rattle.volume.specs.Opening.{opening_of};
 
-use crate::parts::parts;
+use crate::parts::{Disks, parts};
 use crate::report::{Report, conclude};
 use blocks::{MemStore, Refusal};
 use options::RunOptions;
 use run_threads::work;
 use std::alloc::Global;
 use std::io::Write;
-use volume::Runtime;
-use wire_session::{Socket, WireSession};
+use std::marker::Brand;
+use volume::{Parts, Runtime};
+use wire_session::{Beginning, Socket, WireSession};
 
 /// Runs a session over the images of two disks and these sockets: starts it, makes all writes, ends it, and settles.
 /// Reports on `err` what the options ask for.
@@ -24,10 +29,33 @@ pub(crate) fn run_over<R: Runtime, E: Write + Send>(
     ways: (Socket, Socket),
     err: &mut E,
 ) -> Result<Report, Refusal>
-    ensures { IfOk result (λ report. report.completed ≡ options.now.writers * options.now.writes) }
+    requires { options.now.path ≡ path.Sockets }
+    ensures completed { IfOk result (λ report. report.completed ≡ options.now.writers * options.now.writes) }
+    ensures outcome { IfOk result (IsRun options.now images.0.items images.1.items) }
 {
-    let (parts, (local, peer)) = parts(alloc, options, images)?;
-    match WireSession::start_over(rt, alloc, local, peer, parts, ways) {
+    let (parts, disks) = parts(alloc, options, images)?;
+    run_begun::<Brand, R, E>(rt, alloc, options, ways, disks, parts, err)
+}
+
+// Uses the session, from its start to its end, in one function over its beginning, which the caller picks.
+fn run_begun<B: Beginning + Send + Sync + 'static, R: Runtime, E: Write + Send>(
+    rt: R,
+    alloc: Global,
+    options: &RunOptions,
+    ways: (Socket, Socket),
+    disks: Disks,
+    parts: Parts,
+    err: &mut E,
+) -> Result<Report, Refusal>
+    requires blocks { 0 < options.now.blocks }
+    requires opening { B.opening ≡ Some (opening_of parts (slice_get disks.0) (slice_get disks.1)) }
+    requires honest { WasHonest (opening_of parts (slice_get disks.0) (slice_get disks.1)) }
+    requires unparted { parts.own.bitmap ≡ 0 }
+    ensures completed { IfOk result (λ report. report.completed ≡ options.now.writers * options.now.writes) }
+    ensures outcome { IfOk result (IsOutcome options.now (opening_of parts (slice_get disks.0) (slice_get disks.1))) }
+{
+    let (local, peer) = disks;
+    match WireSession::<R, B, MemStore, MemStore>::start_over(rt, alloc, local, peer, parts, ways) {
         Ok(session) => {
             let worked = work(&rt, alloc, session.mirror(), options, err);
             conclude(alloc, options, worked, session.finish())

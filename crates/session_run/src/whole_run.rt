@@ -1,9 +1,7 @@
 //! A run, from its images to the lines that it prints.
-ghost use Rattle.std.specs.Prelude.{◌≡◌, ◌*◌, IfOk};
-ghost use Rattle.blocks.specs.SettingsRange.{standard};
-ghost use Rattle.model.specs.Theorems.{Opening};
-ghost use Rattle.options.specs.declared.run.Path.TheVariants as path;
-ghost use Rattle.session_run.specs.Outcome.{IsOpening, IsOutcome};
+ghost use Rattle.std.specs.Prelude.{◌≡◌, ◌*◌, IfOk, OnOk};
+ghost use Rattle.numbers.specs.declared.status.SessionStatus.TheVariants as status;
+ghost use Rattle.session_run.specs.Outcome.{HasRun, IsRun};
 
 use crate::fault::Fault;
 use crate::images::load;
@@ -37,7 +35,9 @@ pub fn run<
     H: Host + Files<File = File> + Net<Listener = TcpListener, Stream = TcpStream>,
     W: Write,
     E: Write + Send,
->(rt: &H, options: &RunOptions, images: &Images<'_>, out: &mut W, err: &mut E) -> SessionStatus {
+>(rt: &H, options: &RunOptions, images: &Images<'_>, out: &mut W, err: &mut E) -> SessionStatus
+    ensures { result ≡ status.Done → HasRun options.now }
+{
     match run_images(rt, options, images, out, err) {
         Ok(()) => SessionStatus::Done,
         Err(fault) => {
@@ -58,7 +58,9 @@ fn run_images<
     images: &Images<'a>,
     out: &mut W,
     err: &mut E,
-) -> Result<(), Fault<'a>> {
+) -> Result<(), Fault<'a>>
+    ensures { OnOk result (HasRun options.now) }
+{
     options.settings().check()?;
     let local_image = LockedImage::take(rt, images.local, "local-new")?;
     let local = load(rt, &local_image, options.blocks)?;
@@ -84,8 +86,7 @@ fn run_disks<'a, H: Host + Net<Listener = TcpListener, Stream = TcpStream>, E: W
     err: &mut E,
 ) -> Result<Report, Fault<'a>>
     ensures completed { IfOk result (λ report. report.completed ≡ options.now.writers * options.now.writes) }
-    ensures outcome { options.now.path ≡ path.Link → IfOk result (λ report. (opening : Opening)
-        × (IsOpening (record standard { protocol = options.now.protocol; blocks = options.now.blocks }) images.0.items images.1.items opening × IsOutcome opening report)) }
+    ensures outcome { IfOk result (IsRun options.now images.0.items images.1.items) }
 {
     let report = match options.path {
         Path::Link => run_session(*rt, rt.alloc(), options, images, err),

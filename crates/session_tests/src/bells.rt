@@ -8,7 +8,7 @@ use std::thread;
 use std::thread::Threads;
 use std::time::{Clock, Duration, Instant};
 
-/// So many looks that a wait is the longest sleep, of 16 milliseconds.
+/// Looks after which a wait is the longest sleep, of 16 milliseconds.
 const LOOKS: u32 = 24;
 
 /// A wait that took less, in milliseconds, did not end by itself. A ring ends a sleep of these tests after about one.

@@ -10,7 +10,7 @@ use std::ops::Range;
 use std::process::Abort;
 use std::thread;
 use volume::Runtime;
-use wire_session::{Sink, Source, Way, WireSession};
+use wire_session::{Sink, Source, Unknown, Way, WireSession};
 
 /// The number of bytes after which a stream that never fails would fail.
 const NEVER: u64 = u64::MAX;
@@ -77,7 +77,9 @@ fn over_ways<R: Abort + Runtime, W: Sink, D: Source, V: Sink, E: Source>(
 ) -> Result<Outcome, Refusal> {
     let parts = case.parts(alloc).expect(&rt, "settings");
     let (local, peer) = (memory(&rt, alloc, false), memory(&rt, alloc, false));
-    match WireSession::start_over(rt, alloc, local, peer, parts, ways) {
+    match WireSession::<R, Unknown, MemStore, MemStore>::start_over(
+        rt, alloc, local, peer, parts, ways,
+    ) {
         Ok(session) => {
             let signals = Signals::new();
             let answers = carry_out(&rt, alloc, session.mirror(), &signals, case.work);

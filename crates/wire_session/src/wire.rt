@@ -1,5 +1,9 @@
 //! A session whose frames go over streams of bytes, such as sockets.
-ghost use Rattle.std.specs.Prelude.{◌<◌, ◌≤◌, None, IfOk};
+ghost use Rattle.std.specs.Prelude.{◌≡◌, ◌<◌, ◌≤◌, false, slice_get, unwrap_or, IfOk, IfSome};
+ghost use Rattle.halves.specs.Opening.{opening_of};
+ghost use Rattle.model.specs.Primary.{primary_opening};
+ghost use Rattle.model.specs.Secondary.{secondary_opening};
+ghost use Rattle.model.specs.Theorems.{primary_at, secondary_at};
 ghost use Rattle.session_nodes.specs.Primaries.{PrimaryIsHad};
 ghost use Rattle.session_nodes.specs.Secondaries.{SecondaryIsHad};
 
@@ -10,7 +14,7 @@ use primary::Primary;
 use ruled_link::{RuledIn, RuledOut};
 use secondary::Secondary;
 use session_link::check_numbers;
-use session_nodes::Unknown;
+use session_nodes::Beginning;
 use session_threads::{Mirror, PumpEnds, Running, Sink, Source, Way, half_rows};
 use std::alloc::Global;
 use std::sync::Wait;
@@ -18,13 +22,13 @@ use std::thread::Threads;
 use std::time::Clock;
 
 /// The primary's half of a session over streams.
-pub type WireLocal<R, S> = LocalHalf<R, Unknown, RuledOut<R>, RuledIn<R>, S>;
+pub type WireLocal<R, B, S> = LocalHalf<R, B, RuledOut<R>, RuledIn<R>, S>;
 
 /// The secondary's half of a session over streams.
-pub type WirePeer<R, T> = PeerHalf<R, Unknown, RuledOut<R>, RuledIn<R>, T>;
+pub type WirePeer<R, B, T> = PeerHalf<R, B, RuledOut<R>, RuledIn<R>, T>;
 
 /// The mirror of a session over streams, which any number of threads may share.
-pub type WireMirror<R, S, T> = Mirror<R, WireLocal<R, S>, WirePeer<R, T>>;
+pub type WireMirror<R, B, S, T> = Mirror<R, WireLocal<R, B, S>, WirePeer<R, B, T>>;
 
 /// The primary of a session over streams.
 pub type WirePrimary<R, S> = Primary<RuledOut<R>, RuledIn<R>, S>;
@@ -33,17 +37,18 @@ pub type WirePrimary<R, S> = Primary<RuledOut<R>, RuledIn<R>, S>;
 pub type WireSecondary<R, T> = Secondary<RuledOut<R>, RuledIn<R>, T>;
 
 /// A running session over streams. It has one connection. It cannot be dropped: whoever starts it has to finish it.
-pub struct WireSession<R: Threads + Wait + Drop, S: Store + Drop, T: Store + Drop> {
-    running: Running<R, WireLocal<R, S>, WirePeer<R, T>>,
+pub struct WireSession<R: Threads + Wait + Drop, B: Beginning, S: Store + Drop, T: Store + Drop> {
+    running: Running<R, WireLocal<R, B, S>, WirePeer<R, B, T>>,
 }
 
 impl<
     R: Threads + Wait + Clock + Copy + Drop + Send + Sync + 'static,
+    B: Beginning + Send + Sync + 'static,
     S: Store + Drop + Send + 'static,
     T: Store + Drop + Send + 'static,
-> WireSession<R, S, T> {
-    /// Starts a session over two disks and two ways, one for each direction of its link: starts a pump at each end of a
-    /// way, exchanges the hellos, and starts the threads. A pump that ends drops its writer or reader, and then both
+> WireSession<R, B, S, T> {
+    /// Starts a session over two disks and two ways, one for each direction of its link, whose parts are its beginning if that is
+    /// known: starts a pump at each end of a way, exchanges the hellos, and starts the threads. A pump that ends drops its writer or reader, and then both
     /// ends of the link close.
     ///
     /// `BadSetting` (15), `UsedIdentifier` (33) and the refusals of the hello (30 to 33) come as for the nodes;
@@ -57,7 +62,9 @@ impl<
         peer: T,
         parts: Parts,
         ways: (Way<W, D>, Way<V, E>),
-    ) -> Result<WireSession<R, S, T>, Refusal> {
+    ) -> Result<WireSession<R, B, S, T>, Refusal>
+        requires opening { IfSome B.opening (λ opening. opening ≡ opening_of parts (slice_get (S.contents local)) (slice_get (T.contents peer))) }
+    {
         parts.settings.check()?;
         let words = (parts.sync, parts.loss);
         let settings = parts.settings;
@@ -86,7 +93,7 @@ impl<
 }
 
 // Creates the primary's half over rows of its own. Returns it with the pumps' ends of these.
-fn open_local<R: Wait + Copy + Drop, S: Store + Drop>(
+fn open_local<R: Wait + Copy + Drop, B: Beginning, S: Store + Drop>(
     rt: R,
     alloc: Global,
     settings: Settings,
@@ -94,8 +101,10 @@ fn open_local<R: Wait + Copy + Drop, S: Store + Drop>(
     tuple: Tuple,
     marks: Vec<bool>,
     words: (u64, u64),
-) -> Result<(WireLocal<R, S>, PumpEnds<R>), Refusal>
-    requires { 0 < settings.link }
+) -> Result<(WireLocal<R, B, S>, PumpEnds<R>), Refusal>
+    requires link { 0 < settings.link }
+    requires began { IfSome B.opening (λ opening. primary_opening settings (slice_get (S.contents store)) tuple (λ block. unwrap_or (slice_get marks.items block) false)
+        ≡ primary_at opening) }
 {
     let (ends, rows) = half_rows(rt, alloc, settings.link)?;
     match LocalHalf::open(rt, alloc, settings, store, tuple, marks, ends, words) {
@@ -105,14 +114,15 @@ fn open_local<R: Wait + Copy + Drop, S: Store + Drop>(
 }
 
 // Creates the secondary's half like `open_local`.
-fn open_peer<R: Wait + Copy + Drop, T: Store + Drop>(
+fn open_peer<R: Wait + Copy + Drop, B: Beginning, T: Store + Drop>(
     rt: R,
     alloc: Global,
     settings: Settings,
     store: T,
     tuple: Tuple,
-) -> Result<(WirePeer<R, T>, PumpEnds<R>), Refusal>
-    requires { 0 < settings.link }
+) -> Result<(WirePeer<R, B, T>, PumpEnds<R>), Refusal>
+    requires link { 0 < settings.link }
+    requires began { IfSome B.opening (λ opening. secondary_opening settings (slice_get (T.contents store)) tuple ≡ secondary_at opening) }
 {
     let (ends, rows) = half_rows(rt, alloc, settings.link)?;
     match PeerHalf::open(rt, alloc, settings, store, tuple, ends) {
@@ -121,20 +131,25 @@ fn open_peer<R: Wait + Copy + Drop, T: Store + Drop>(
     }
 }
 
-impl<R: Threads + Wait + Clock + Drop, S: Store + Drop, T: Store + Drop> WireSession<R, S, T> {
+impl<R: Threads + Wait + Clock + Drop, B: Beginning, S: Store + Drop, T: Store + Drop> WireSession<
+    R,
+    B,
+    S,
+    T,
+> {
     /// Returns the mirror, which any number of threads may share.
-    pub fn mirror(&self) -> &WireMirror<R, S, T> {
+    pub fn mirror(&self) -> &WireMirror<R, B, S, T> {
         self.running.mirror()
     }
 
     /// Ends the session: closes both ends, lets the disks finish all pending work, stops the threads, and returns both
     /// nodes. `NotDrained` (36) if a thread still shares a node.
     ///
-    /// Each node has a history whose connections all used its own ends. Whether what one took begins what the other
-    /// pushed depends on the streams, and no contract can speak of them. No connection of the secondary has a number
-    /// above the primary's last one; else 36 is returned, which no session brings about.
+    /// Each node has a history that began as the session did, and whose connections all used its own ends. Whether what one took
+    /// begins what the other pushed depends on the streams, and no contract can speak of them. No connection of the secondary has
+    /// a number above the primary's last one; else 36 is returned, which no session brings about.
     pub fn finish(self) -> Result<(WirePrimary<R, S>, WireSecondary<R, T>), Refusal>
-        ensures had { IfOk result (λ nodes. PrimaryIsHad None nodes.0 × SecondaryIsHad None nodes.1) }
+        ensures had { IfOk result (λ nodes. PrimaryIsHad B.opening nodes.0 × SecondaryIsHad B.opening nodes.1) }
         ensures numbered { IfOk result (λ nodes. nodes.1.core.number ≤ nodes.0.core.connections) }
     {
         let WireSession { running } = self;

@@ -18,7 +18,7 @@ use std::net::{Net, TcpListener, TcpStream};
 use std::time::{Duration, Instant};
 use std::{fmt, thread};
 use volume::{Device, Linked, Parts, Runtime, Session};
-use wire_session::{Socket, WireSession, loopback};
+use wire_session::{Socket, Unknown, WireSession, loopback};
 
 /// Blocks of the device of a session: 32 MiB.
 pub(crate) const BLOCKS: u32 = 8_192;
@@ -124,7 +124,9 @@ fn run_over<R: Runtime>(
     ways: (Socket, Socket),
 ) -> Result<Report, Refusal> {
     let (parts, (local, peer)) = parts(alloc, plan)?;
-    let session = WireSession::start_over(rt, alloc, local, peer, parts, ways)?;
+    let session = WireSession::<R, Unknown, MemStore, MemStore>::start_over(
+        rt, alloc, local, peer, parts, ways,
+    )?;
     let report = measured(&rt, alloc, session.mirror(), plan);
     end(session.finish())?;
     report
