@@ -5,9 +5,9 @@
 mod accept;
 mod answer;
 mod client;
-mod doors;
 mod keeper;
 mod limited_stream;
+mod listeners;
 mod outbox;
 mod page;
 mod piece;
@@ -24,7 +24,7 @@ mod timed_writer;
 mod waiting;
 mod workers;
 
-pub use doors::{Doors, Unbound};
+pub use listeners::{ListenFault, Listeners};
 pub use service::Service;
-pub use threads::{Unstarted, start_threads};
+pub use threads::{StartFault, start_threads};
 pub use workers::work;

@@ -24,7 +24,7 @@ struct Line {
 }
 
 impl Line {
-    // Creates a line of which nothing has come.
+    // Creates an empty line.
     fn new() -> Line {
         Line {
             bytes: [0; MOST_BYTES],

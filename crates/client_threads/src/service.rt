@@ -1,4 +1,6 @@
 //! The state that all threads of a server share.
+ghost use Rattle.std.specs.Prelude.{◌≡◌, IfOk};
+
 use crate::reports::Reports;
 use crate::request::Job;
 use crate::sync_queue::SyncQueue;
@@ -46,7 +48,9 @@ impl Service {
         blocks: u32,
         protocol: Protocol,
         requests: Requests,
-    ) -> Result<Service, Refusal> {
+    ) -> Result<Service, Refusal>
+        ensures { IfOk result (λ service. (service.protocol ≡ protocol) × (service.blocks ≡ blocks)) }
+    {
         let (jobs, queue) = bounded(alloc, QUEUE)?;
         let reports = Reports::new(alloc)?;
         Ok(Service {

@@ -1,6 +1,6 @@
 //! The start of a server's threads.
 use crate::accept::let_in;
-use crate::doors::{Door, Doors};
+use crate::listeners::{Listener, Listeners};
 use crate::page::serve_page;
 use crate::quit::wait_for_quit;
 use crate::service::Service;
@@ -15,7 +15,7 @@ use std::{fmt, io, thread};
 
 /// Why the threads of a server could not be started.
 #[derive(Drop)]
-pub enum Unstarted {
+pub enum StartFault {
     /// There were no random bytes for the secret keys of the status page.
     NoKeys(io::Error),
     /// The system gave no thread.
@@ -24,19 +24,19 @@ pub enum Unstarted {
     NoMemory,
 }
 
-impl fmt::Display for Unstarted {
+impl fmt::Display for StartFault {
     fn fmt<W: fmt::Write>(&self, f: &mut fmt::Formatter<W>) -> fmt::Result {
         match self {
-            Unstarted::NoKeys(error) => write!(f, "the system gives no random bytes: {error}"),
-            Unstarted::Unthreaded => f.write_str("a thread could not be started"),
-            Unstarted::NoMemory => f.write_str("there was no memory for a thread"),
+            StartFault::NoKeys(error) => write!(f, "the system gives no random bytes: {error}"),
+            StartFault::Unthreaded => f.write_str("a thread could not be started"),
+            StartFault::NoMemory => f.write_str("there was no memory for a thread"),
         }
     }
 }
 
-impl From<AllocError> for Unstarted {
-    fn from(_: AllocError) -> Unstarted {
-        Unstarted::NoMemory
+impl From<AllocError> for StartFault {
+    fn from(_: AllocError) -> StartFault {
+        StartFault::NoMemory
     }
 }
 
@@ -46,20 +46,25 @@ impl From<AllocError> for Unstarted {
 pub fn start_threads<
     H: Runtime + Net<Listener = TcpListener, Stream = TcpStream> + RandomSource,
     I: Read + Drop + Send + 'static,
->(rt: &H, service: &Arc<Service, Global>, doors: Doors, input: I) -> Result<(), Unstarted> {
+>(
+    rt: &H,
+    service: &Arc<Service, Global>,
+    listeners: Listeners,
+    input: I,
+) -> Result<(), StartFault> {
     let rt = *rt;
-    let addresses = (doors.client_address(), doors.page_address());
-    let Doors { clients, page } = doors;
+    let addresses = (listeners.client_address(), listeners.page_address());
+    let Listeners { clients, page } = listeners;
     if let Some(page) = page {
         start_page(&rt, service, page)?;
     }
     let waiting = Arc::try_clone(service)?;
     let letting = Arc::try_clone(service)?;
     if thread::spawn(&rt, move || wait_for_quit(&rt, &waiting, input, addresses)).is_err() {
-        return Err(Unstarted::Unthreaded);
+        return Err(StartFault::Unthreaded);
     }
-    if thread::spawn(&rt, move || let_in(rt, &letting, &clients.listener)).is_err() {
-        return Err(Unstarted::Unthreaded);
+    if thread::spawn(&rt, move || let_in(rt, &letting, &clients.socket)).is_err() {
+        return Err(StartFault::Unthreaded);
     }
     Ok(())
 }
@@ -68,16 +73,16 @@ pub fn start_threads<
 fn start_page<H: Runtime + RandomSource>(
     rt: &H,
     service: &Arc<Service, Global>,
-    page: Door,
-) -> Result<(), Unstarted> {
+    page: Listener,
+) -> Result<(), StartFault> {
     let rt = *rt;
     let keys = match RandomState::new(&rt) {
         Ok(keys) => keys,
-        Err(error) => return Err(Unstarted::NoKeys(error)),
+        Err(error) => return Err(StartFault::NoKeys(error)),
     };
     let service = Arc::try_clone(service)?;
-    if thread::spawn(&rt, move || serve_page(&rt, &service, keys, &page.listener)).is_err() {
-        return Err(Unstarted::Unthreaded);
+    if thread::spawn(&rt, move || serve_page(&rt, &service, keys, &page.socket)).is_err() {
+        return Err(StartFault::Unthreaded);
     }
     Ok(())
 }

@@ -70,7 +70,7 @@ fn work_if_kept<R: Runtime>(
     device: &(impl Device + Sync),
     is_kept: &AtomicBool,
 ) -> Result<Vec<Receipt>, Refusal> {
-    if !comes(rt, is_kept) {
+    if !keeper_comes(rt, is_kept) {
         return Err(Refusal::NoMemory);
     }
     let done = do_requests(rt, service, device);
@@ -79,7 +79,7 @@ fn work_if_kept<R: Runtime>(
 }
 
 // Waits until the thread that keeps the link up says that it runs. Returns whether it did in time.
-fn comes<R: Clock>(rt: &R, is_kept: &AtomicBool) -> bool {
+fn keeper_comes<R: Clock>(rt: &R, is_kept: &AtomicBool) -> bool {
     for _ in 0..LOOKS_FOR_KEEPER {
         if is_kept.load(Ordering::SeqCst) {
             return true;

@@ -1,3 +1,4 @@
--- Over which link a server's sessions go, and what they leave.
+-- Over which link a server's sessions go, what they leave, and what a server comes to.
 pub mod Links
 pub mod Sessions
+pub mod Served

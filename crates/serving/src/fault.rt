@@ -1,6 +1,9 @@
 //! Failures of a server.
+ghost use Rattle.std.specs.Prelude.{◌≡◌};
+ghost use Rattle.numbers.specs.declared.status.SessionStatus.TheVariants as status;
+
 use blocks::{BLOCK_BYTES, MAX_BLOCKS, Refusal};
-use client_threads::{Unbound, Unstarted};
+use client_threads::{ListenFault, StartFault};
 use image_store::OpenFault;
 use numbers::SessionStatus;
 use std::{fmt, io};
@@ -13,11 +16,11 @@ pub(crate) enum Fault<'a> {
     /// No device has as many bytes as the image.
     NoDevice(&'a str),
     /// Nothing can listen at the address.
-    Unbound(Unbound),
+    Unbound(ListenFault),
     /// The session was refused, or there was no memory (7).
     Refused(Refusal),
     /// Its threads could not be started.
-    Unstarted(Unstarted),
+    Unstarted(StartFault),
     /// The disks differ on this many blocks without a mark.
     Unmarked(u32),
     /// This many blocks are still marked, so the peer's image may not have them.
@@ -34,7 +37,9 @@ pub(crate) enum Fault<'a> {
 
 impl Fault<'_> {
     /// Returns how the session ends with it.
-    pub(crate) fn status(&self) -> SessionStatus {
+    pub(crate) fn status(&self) -> SessionStatus
+        ensures { result ≡ status.Done → ⊥ }
+    {
         match self {
             Fault::Refused(refusal) => SessionStatus::of(*refusal),
             _ => SessionStatus::Failed,
@@ -50,9 +55,9 @@ impl fmt::Display for Fault<'_> {
                 f,
                 "{file}: an image has 1 to {MAX_BLOCKS} blocks of {BLOCK_BYTES} bytes"
             ),
-            Fault::Unbound(unbound) => write!(f, "{unbound}"),
+            Fault::Unbound(fault) => write!(f, "{fault}"),
             Fault::Refused(refusal) => write!(f, "refused {}: {refusal}", refusal.number()),
-            Fault::Unstarted(unstarted) => write!(f, "{unstarted}"),
+            Fault::Unstarted(fault) => write!(f, "{fault}"),
             Fault::Unmarked(count) => write!(f, "{count} blocks differ without a mark"),
             Fault::Marked(count) => write!(
                 f,
@@ -75,17 +80,17 @@ impl fmt::Display for Fault<'_> {
     }
 }
 
-impl<'a> From<Unbound> for Fault<'a> {
-    fn from(unbound: Unbound) -> Fault<'a> {
-        Fault::Unbound(unbound)
+impl<'a> From<ListenFault> for Fault<'a> {
+    fn from(fault: ListenFault) -> Fault<'a> {
+        Fault::Unbound(fault)
     }
 }
 
-impl<'a> From<Unstarted> for Fault<'a> {
-    fn from(unstarted: Unstarted) -> Fault<'a> {
-        match unstarted {
-            Unstarted::NoMemory => Fault::Refused(Refusal::NoMemory),
-            unstarted => Fault::Unstarted(unstarted),
+impl<'a> From<StartFault> for Fault<'a> {
+    fn from(fault: StartFault) -> Fault<'a> {
+        match fault {
+            StartFault::NoMemory => Fault::Refused(Refusal::NoMemory),
+            fault => Fault::Unstarted(fault),
         }
     }
 }

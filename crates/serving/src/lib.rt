@@ -2,12 +2,14 @@
 //! number of clients at a time read and write one export, while the session mirrors it.
 #![tactic(auto)]
 
+mod end;
 mod fault;
-mod printing;
+mod images;
 mod rest;
+mod server;
 mod session;
 mod sessions;
 
 pub use options::ServeOptions;
-pub use printing::serve;
+pub use server::serve;
 pub use volume::Host;

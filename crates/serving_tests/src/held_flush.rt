@@ -3,7 +3,7 @@ use crate::clients::{Order, ZERO_BLOCK, ask, free_addresses, reply};
 use crate::flushes::{LateDevice, requests_under};
 use crate::slow_reader::{gets, open};
 use blocks::{Protocol, Refusal};
-use client_threads::{Doors, Service, start_threads, work};
+use client_threads::{Listeners, Service, start_threads, work};
 use primary::Receipt;
 use serving::Host;
 use std::alloc::Global;
@@ -85,7 +85,7 @@ fn serve_device<
 >(rt: H) {
     let alloc = rt.alloc();
     let (address, _) = free_addresses(&rt);
-    let doors = Doors::open(&rt, address, None)
+    let listeners = Listeners::open(&rt, address, None)
         .ok()
         .expect(&rt, "a listener");
     let requests = requests_under(&rt, Protocol::A, "flushed_held");
@@ -97,7 +97,7 @@ fn serve_device<
         is_done: Arc::try_clone(&is_done).expect(&rt, "memory"),
         is_given: false,
     };
-    start_threads(&rt, &service, doors, order)
+    start_threads(&rt, &service, listeners, order)
         .ok()
         .expect(&rt, "threads");
     let device = LateDevice::new(alloc, u64::MAX);

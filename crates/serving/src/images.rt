@@ -1,0 +1,132 @@
+//! The images of a server: their locks, their disks, and what became of them.
+ghost use Rattle.std.specs.Prelude.{◌≡◌, ◌<◌, ◌≤◌, None, Some, IfErr, IfOk, IfSome, IsOk};
+ghost use Rattle.requests.specs.declared.sync_fault.Side.TheVariants.{Local, Peer};
+
+use crate::fault::Fault;
+use crate::rest::Disks;
+use blocks::{BLOCK_BYTES, MAX_BLOCKS, Refusal};
+use image_store::{ImageLock, ImageStore, OpenFault, SyncHandle};
+use options::ServeOptions;
+use requests::{Side, SyncFault};
+use std::fs::File;
+use std::rt::Files;
+use std::{fs, io};
+
+/// An opened image, and the handle by which it is synced.
+type Opened = (ImageStore<File>, SyncHandle<File>);
+
+/// Returns the image whose sync failed, with the reason.
+pub(crate) fn unsynced_image<'a>(
+    options: &ServeOptions<'a>,
+    synced: Result<(), SyncFault>,
+) -> Option<(&'a str, io::Error)>
+    ensures none { result ≡ None → IsOk synced }
+    ensures local { IfErr synced (λ fault. fault.side ≡ Local → result ≡ Some (options.now.local, fault.error)) }
+    ensures peer { IfErr synced (λ fault. fault.side ≡ Peer → result ≡ Some (options.now.peer, fault.error)) }
+{
+    let fault = synced.err()?;
+    let file = match fault.side {
+        Side::Local => options.local,
+        Side::Peer => options.peer,
+    };
+    Some((file, fault.error))
+}
+
+/// Returns the image that may have kept parts of a write that failed, the local one first.
+pub(crate) fn torn_image<'a>(options: &ServeOptions<'a>, disks: &Disks) -> Option<&'a str> {
+    if disks.0.is_torn() {
+        return Some(options.local);
+    }
+    if disks.1.is_torn() {
+        return Some(options.peer);
+    }
+    None
+}
+
+/// Returns the device's size in blocks: as many as are asked for, else those of the local image.
+pub(crate) fn blocks_of<'a, H: Files>(rt: &H, options: &ServeOptions<'a>) -> Result<u32, Fault<'a>>
+    ensures range { IfOk result (λ blocks. (0 < blocks) × (blocks ≤ 262144)) }
+    ensures asked { IfOk result (λ blocks. IfSome options.now.blocks (λ asked. blocks ≡ asked)) }
+{
+    let blocks = match options.blocks {
+        Some(blocks) => u64::from(blocks),
+        None => match fs::metadata(rt, options.local) {
+            Ok(metadata) => metadata.len() / BLOCK_BYTES as u64,
+            Err(error) => return Err(Fault::Unopened(options.local, OpenFault::Unread(error))),
+        },
+    };
+    if blocks == 0 || blocks > u64::from(MAX_BLOCKS) {
+        return Err(match options.blocks {
+            Some(_) => Fault::Refused(Refusal::BadSetting),
+            None => Fault::NoDevice(options.local),
+        });
+    }
+    Ok(blocks as u32)
+}
+
+/// Checks that a locked image is still the file at its path, and an image of the device.
+pub(crate) fn check_kept<'a, H: Files<File = File>>(
+    rt: &H,
+    lock: &ImageLock,
+    file: &'a str,
+    blocks: u32,
+) -> Result<(), Fault<'a>> {
+    if lock.is_kept(rt, file, u64::from(blocks) * BLOCK_BYTES as u64) {
+        Ok(())
+    } else {
+        Err(Fault::Changed(file))
+    }
+}
+
+/// Locks both images, the local one first.
+pub(crate) fn lock_both<'a, H: Files<File = File>>(
+    rt: &H,
+    options: &ServeOptions<'a>,
+) -> Result<(ImageLock, ImageLock), Fault<'a>> {
+    match lock(rt, options.local) {
+        Ok(local) => match lock(rt, options.peer) {
+            Ok(peer) => Ok((local, peer)),
+            Err(fault) => Err(fault),
+        },
+        Err(fault) => Err(fault),
+    }
+}
+
+// Locks an image.
+fn lock<'a, H: Files<File = File>>(rt: &H, file: &'a str) -> Result<ImageLock, Fault<'a>> {
+    match ImageLock::take(rt, file) {
+        Ok(lock) => Ok(lock),
+        Err(fault) => Err(Fault::Unopened(file, fault)),
+    }
+}
+
+/// Opens both images as disks of `blocks` blocks, the local one first.
+pub(crate) fn open_both<'a, H: Files<File = File> + AllocGlobal>(
+    rt: &H,
+    options: &ServeOptions<'a>,
+    blocks: u32,
+) -> Result<(Opened, Opened), Fault<'a>>
+    requires { (0 < blocks) × (blocks ≤ 262144) }
+{
+    match open(rt, options.local, blocks) {
+        Ok(local) => match open(rt, options.peer, blocks) {
+            Ok(peer) => Ok((local, peer)),
+            Err(fault) => Err(fault),
+        },
+        Err(fault) => Err(fault),
+    }
+}
+
+// Opens an image as a disk of `blocks` blocks.
+fn open<'a, H: Files<File = File> + AllocGlobal>(
+    rt: &H,
+    file: &'a str,
+    blocks: u32,
+) -> Result<Opened, Fault<'a>>
+    requires { (0 < blocks) × (blocks ≤ 262144) }
+{
+    match ImageStore::open(rt, file, blocks) {
+        Ok(opened) => Ok(opened),
+        Err(fault) => Err(Fault::Unopened(file, fault)),
+    }
+}

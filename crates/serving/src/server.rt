@@ -1,0 +1,166 @@
+//! A server, from its images to the lines that it prints.
+ghost use Rattle.std.specs.Prelude.{◌≡◌, IfOk, OnOk};
+ghost use Rattle.blocks.specs.SettingsRange.{standard};
+ghost use Rattle.numbers.specs.declared.status.SessionStatus.TheVariants as status;
+ghost use Rattle.serving.specs.Served.{HasEnded, HasServed, CameTo};
+
+use crate::end::End;
+use crate::fault::Fault;
+use crate::images::{blocks_of, check_kept, lock_both, open_both, torn_image, unsynced_image};
+use crate::rest::Disks;
+use crate::sessions::run_sessions;
+use blocks::Refusal;
+use client_threads::{Listeners, Service, start_threads};
+use image_store::{ImageLock, SyncHandle};
+use numbers::SessionStatus;
+use options::ServeOptions;
+use requests::Requests;
+use std::alloc::Global;
+use std::fs::File;
+use std::io::{Read, Write};
+use std::net::{Net, TcpListener, TcpStream};
+use std::random::RandomSource;
+use std::rt::Files;
+use std::sync::Arc;
+use volume::{Host, Runtime};
+
+/// Serves both images to block clients until `input` has a line `quit`, and prints `completed X`, `settled X` and
+/// `unmarked 0`, X being the number of ranges that clients wrote. Locks both images meanwhile. Returns how it ended:
+/// `Done` if all is done, both disks are one, and both images are on stable storage; `Failed` if a file, a sync, an address,
+/// the output, memory or a thread failed, an image is in use, was changed by others or may have kept parts of a write that
+/// failed, the disks differ without a mark, or blocks are still marked; `Refused` for any other refusal. For the last two a
+/// line on `err` says why. The end of `input` is no order to end.
+pub fn serve<
+    H: Host + Files<File = File> + Net<Listener = TcpListener, Stream = TcpStream> + RandomSource,
+    I: Read + Drop + Send + 'static,
+    W: Write,
+    E: Write,
+>(rt: &H, options: &ServeOptions<'_>, input: I, out: &mut W, err: &mut E) -> SessionStatus
+    ensures { result ≡ status.Done → HasServed options.now }
+{
+    match serve_images(rt, options, input, out, err) {
+        Ok(()) => SessionStatus::Done,
+        Err(fault) => {
+            let _ = writeln!(err, "{fault}");
+            fault.status()
+        }
+    }
+}
+
+// Serves both images under their locks, and prints what came of it.
+fn serve_images<
+    'a,
+    H: Host + Files<File = File> + Net<Listener = TcpListener, Stream = TcpStream> + RandomSource,
+    I: Read + Drop + Send + 'static,
+    W: Write,
+    E: Write,
+>(rt: &H, options: &ServeOptions<'a>, input: I, out: &mut W, err: &mut E) -> Result<(), Fault<'a>>
+    ensures { OnOk result (HasServed options.now) }
+{
+    let (local, peer) = lock_both(rt, options)?;
+    let served = serve_locked(rt, options, (&local, &peer), input, err);
+    drop(local);
+    drop(peer);
+    served?.print(out)
+}
+
+// Serves both images. Returns how this ended, if the images are still the files that were locked.
+fn serve_locked<
+    'a,
+    H: Host + Files<File = File> + Net<Listener = TcpListener, Stream = TcpStream> + RandomSource,
+    I: Read + Drop + Send + 'static,
+    E: Write,
+>(
+    rt: &H,
+    options: &ServeOptions<'a>,
+    locks: (&ImageLock, &ImageLock),
+    input: I,
+    err: &mut E,
+) -> Result<End<'a>, Fault<'a>>
+    ensures { IfOk result (λ end. HasEnded options.now end.totals) }
+{
+    let blocks = blocks_of(rt, options)?;
+    let listeners = Listeners::open(rt, options.listen, options.status)?;
+    match open_both(rt, options, blocks) {
+        Ok(((local, local_sync), (peer, peer_sync))) => {
+            match begin(
+                rt,
+                options,
+                blocks,
+                (local_sync, peer_sync),
+                listeners,
+                input,
+                err,
+            ) {
+                Ok(service) => {
+                    let end = finish(rt, &service, options, (local, peer))?;
+                    check_kept(rt, locks.0, options.local, blocks)?;
+                    check_kept(rt, locks.1, options.peer, blocks)?;
+                    Ok(end)
+                }
+                Err(fault) => Err(fault),
+            }
+        }
+        Err(fault) => Err(fault),
+    }
+}
+
+// Starts the threads of a server of `blocks` blocks, and prints its addresses.
+fn begin<
+    'a,
+    H: Host + Net<Listener = TcpListener, Stream = TcpStream> + RandomSource,
+    I: Read + Drop + Send + 'static,
+    E: Write,
+>(
+    rt: &H,
+    options: &ServeOptions<'a>,
+    blocks: u32,
+    syncs: (SyncHandle<File>, SyncHandle<File>),
+    listeners: Listeners,
+    input: I,
+    err: &mut E,
+) -> Result<Arc<Service, Global>, Fault<'a>>
+    ensures { IfOk result (λ service. (service.value.protocol ≡ options.now.protocol) × (service.value.blocks ≡ blocks)) }
+{
+    let (local, peer) = syncs;
+    let requests = Requests::new(rt.alloc(), options.protocol, local, peer);
+    let service = shared(Service::new(rt.alloc(), blocks, options.protocol, requests)?)?;
+    let (clients, page) = (listeners.client_address(), listeners.page_address());
+    start_threads(rt, &service, listeners, input)?;
+    let _ = writeln!(err, "{clients} is an export of {blocks} blocks");
+    if let Some(page) = page {
+        let _ = writeln!(err, "http://{page}/ tells its status");
+    }
+    Ok(service)
+}
+
+// Runs the sessions of a server until it ends, and puts both images on stable storage.
+fn finish<'a, H: Runtime>(
+    rt: &H,
+    service: &Service,
+    options: &ServeOptions<'a>,
+    disks: Disks,
+) -> Result<End<'a>, Fault<'a>>
+    ensures { IfOk result (λ end. CameTo (record standard { protocol = service.now.protocol; blocks = service.now.blocks }) disks.0.disk disks.1.disk end.totals) }
+{
+    let ran = run_sessions(*rt, service, options.cut_every, disks);
+    let synced = service.requests.sync_images(rt);
+    match ran {
+        Ok(rest) => Ok(End {
+            totals: rest.totals,
+            torn: torn_image(options, &rest.disks),
+            unsynced: unsynced_image(options, synced),
+        }),
+        Err(refusal) => Err(Fault::Refused(refusal)),
+    }
+}
+
+// Moves what all threads share to memory of its own.
+fn shared(service: Service) -> Result<Arc<Service, Global>, Refusal>
+    ensures { IfOk result (λ shared. shared.value ≡ service) }
+{
+    match Arc::new(service.alloc, service) {
+        Ok(service) => Ok(service),
+        Err(_) => Err(Refusal::NoMemory),
+    }
+}
