@@ -11,10 +11,10 @@ use primary::Receipt;
 pub trait Device {
     ghost use Rattle.std.specs.Prelude.{ℕ, List};
 
-    /// That the device has accepted a write under this number, of these bytes from this block on.
+    /// `accepts number first bytes`: the device accepted a write under this number, of these bytes from block `first` on.
     ghost accepts: { ℕ → ℕ → List ℕ → Type 0 };
 
-    /// That the local disk has held these bytes, in so many blocks from this one on.
+    /// `holds first count bytes`: the local disk held these bytes in `count` blocks from block `first` on.
     ghost holds: { ℕ → ℕ → List ℕ → Type 0 };
 
     /// Writes whole blocks from `first` on, and returns the receipt once the write is completed as the protocol says.

@@ -14,10 +14,10 @@ use turns::{LocalRole, Turn};
 pub trait PrimaryHalf {
     ghost use Rattle.std.specs.Prelude.{ℕ, List};
 
-    /// That the primary has accepted a write under this number, of these bytes from this block on.
+    /// `accepts number first bytes`: the primary accepted a write under this number, of these bytes from block `first` on.
     ghost accepts: { ℕ → ℕ → List ℕ → Type 0 };
 
-    /// That the primary's disk has held these bytes, in so many blocks from this one on.
+    /// `holds first count bytes`: the primary's disk held these bytes in `count` blocks from block `first` on.
     ghost holds: { ℕ → ℕ → List ℕ → Type 0 };
 
     /// Accepts a write and returns its number.

@@ -15,7 +15,7 @@ pub record CameTo (chosen : Settings) (local peer : List (List ℕ)) (totals : T
   pub results : totals ≡ rest.totals
   pub alike : totals.unmarked ≡ 0 → totals.marked ≡ 0 → rest.disks.0.disk ≡ rest.disks.1.disk
 
--- A server with these options came to these totals, over two disks of so many blocks as the options ask for, if they do.
+-- A server with these options came to these totals, over two disks of `blocks` blocks, as many as the options ask for if they do.
 pub record HasEnded (options : ServeOptions) (totals : Totals) : Type 0 where
   pub blocks : ℕ
   pub asked : IfSome options.blocks (λ asked. blocks ≡ asked)

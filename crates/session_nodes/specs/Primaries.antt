@@ -68,8 +68,8 @@ pub record PrimaryTakes (result : Result Done Refusal) (v w : PrimaryView) : Typ
   pub frame : Option Received
   pub step : PrimarySteps (Takes frame (is_none frame && is_out_of_memory result)) v (replied reply.Ok result) w
 
--- Some primary that began with this opening accepted a write of these bytes, from this block on, under this number: such was the
--- model's step.
+-- Some primary that began with this opening accepted a write of these bytes from block `first` on, under this number, by the model's
+-- step (this project's rule).
 pub record HasAccepted (opening : Option Opening) (number first : ℕ) (bytes : List ℕ) : Type 0 where
   pub before : PrimaryHistory
   pub began : PrimaryBegan opening before
@@ -77,7 +77,7 @@ pub record HasAccepted (opening : Option Opening) (number first : ℕ) (bytes : 
   pub replied : (primary_step (Submits first (whole_blocks bytes) false) before).0 ≡ reply.Ok done
   pub write : done.what ≡ what.Write number
 
--- the disk of some primary that began with this opening held these bytes, in so many blocks from this one on
+-- the disk of some primary that began with this opening held these bytes in `count` blocks from block `first` on
 pub record HasHeld (opening : Option Opening) (first count : ℕ) (bytes : List ℕ) : Type 0 where
   pub history : PrimaryHistory
   pub began : PrimaryBegan opening history
