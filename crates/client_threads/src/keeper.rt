@@ -1,8 +1,8 @@
 //! The thread that keeps the link up.
 use crate::service::Service;
 use crate::standstill::Standstill;
-use blocks::Refusal;
 use halves::Device;
+use status_lines::LinkState;
 use status_page::{Report, Resync};
 use std::sync::Wait;
 use std::sync::atomic::{AtomicBool, Ordering};
@@ -68,10 +68,8 @@ fn is_cut_due(cut_every: Option<u32>, looks: u64) -> bool {
 
 // Gives a report on the session if one is asked for.
 fn give_report<R: Wait>(rt: &R, service: &Service, device: &impl Device, most: u32) {
-    if service.reports.is_asked(rt)
-        && let Ok(report) = report(device, most)
-    {
-        service.reports.give(rt, report);
+    if service.reports.is_asked(rt) {
+        service.reports.give(rt, report(device, most));
     }
 }
 
@@ -81,19 +79,18 @@ fn most_since(most: u32, marks: u32) -> u32 {
 }
 
 // Returns the session's report on its nodes. While blocks are marked and the link is up, a resync goes on.
-fn report(device: &impl Device, most: u32) -> Result<Report, Refusal> {
-    let (primary, secondary) = device.status()?;
-    let resync = if primary.as_str().starts_with("cs:SyncSource ") {
-        Some(Resync {
+fn report(device: &impl Device, most: u32) -> Report {
+    let (primary, secondary) = device.status();
+    let resync = match primary.words.link {
+        LinkState::SyncSource => Some(Resync {
             left: device.marks(),
             all: most,
-        })
-    } else {
-        None
+        }),
+        _ => None,
     };
-    Ok(Report {
+    Report {
         primary,
         secondary,
         resync,
-    })
+    }
 }

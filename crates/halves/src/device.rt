@@ -6,16 +6,22 @@ use crate::Begun;
 use blocks::Refusal;
 use bytes::Bytes;
 use primary::Receipt;
+use status_lines::{PrimaryLine, SecondaryLine};
 
 /// A mirrored device, over any session. Any number of threads may call it at a time.
 pub trait Device {
     ghost use Rattle.std.specs.Prelude.{ℕ, List};
+    ghost use Rattle.status_lines.specs.declared.lines.PrimaryLine.{PrimaryLine};
+    ghost use Rattle.status_lines.specs.declared.lines.SecondaryLine.{SecondaryLine};
 
     /// `accepts number first bytes`: the device accepted a write under this number, of these bytes from block `first` on.
     ghost accepts: { ℕ → ℕ → List ℕ → Type 0 };
 
     /// `holds first count bytes`: the local disk held these bytes in `count` blocks from block `first` on.
     ghost holds: { ℕ → ℕ → List ℕ → Type 0 };
+
+    /// `shows own other`: the primary's status line was `own`, and the secondary's was `other`.
+    ghost shows: { PrimaryLine → SecondaryLine → Type 0 };
 
     /// Writes whole blocks from `first` on, and returns the receipt once the write is completed as the protocol says.
     /// Any number of writers may call it at a time.
@@ -68,9 +74,10 @@ pub trait Device {
     /// primary closes again before its stream began, and the number is used up.
     fn reconnect(&self, sync: u64, loss: u64) -> Result<u32, Refusal>;
 
-    /// Returns the status lines of the primary and of the secondary, without newlines. Each is its node's at a moment
-    /// of the call, and these are two moments. `NoMemory` (7) if there is no memory for them.
-    fn status(&self) -> Result<(String, String), Refusal>;
+    /// Returns what the status lines of the primary and of the secondary show. Each is its node's at a moment of the call,
+    /// and these are two moments.
+    fn status(&self) -> (PrimaryLine, SecondaryLine)
+        ensures shown { shows result.0 result.1 };
 
     /// Returns how many blocks the primary has marked.
     fn marks(&self) -> u32;

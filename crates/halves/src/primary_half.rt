@@ -6,19 +6,23 @@ use bell::Bell;
 use blocks::{Done, Refusal};
 use bytes::Bytes;
 use primary::Receipt;
-use std::alloc::Global;
+use status_lines::PrimaryLine;
 use turns::{LocalRole, Turn};
 
 /// The primary's half of a session, over any link and disk. Each call locks the node, does what it says, and unlocks
 /// the node. Its refusals are those of the node's call of the same name.
 pub trait PrimaryHalf {
     ghost use Rattle.std.specs.Prelude.{ℕ, List};
+    ghost use Rattle.status_lines.specs.declared.lines.PrimaryLine.{PrimaryLine};
 
     /// `accepts number first bytes`: the primary accepted a write under this number, of these bytes from block `first` on.
     ghost accepts: { ℕ → ℕ → List ℕ → Type 0 };
 
     /// `holds first count bytes`: the primary's disk held these bytes in `count` blocks from block `first` on.
     ghost holds: { ℕ → ℕ → List ℕ → Type 0 };
+
+    /// `shows line`: the primary's status line was this one.
+    ghost shows: { PrimaryLine → Type 0 };
 
     /// Accepts a write and returns its number.
     fn submit(&self, first: u64, bytes: &Bytes) -> Result<u64, Refusal>
@@ -68,8 +72,9 @@ pub trait PrimaryHalf {
     /// Returns how many blocks are marked.
     fn marks(&self) -> u32;
 
-    /// Returns the node's status line, without a newline. `NoMemory` (7) if there is no memory for it.
-    fn status_line(&self, alloc: Global) -> Result<String, Refusal>;
+    /// Returns what the node's status line shows.
+    fn status(&self) -> PrimaryLine
+        ensures shown { shows result };
 
     /// Returns the bell that the half's threads wait on.
     fn work(&self) -> &Bell;

@@ -1,12 +1,17 @@
 //! The secondary's half.
 use bell::Bell;
 use blocks::{Done, Refusal};
-use std::alloc::Global;
+use status_lines::SecondaryLine;
 use turns::{PeerRole, Turn};
 
 /// The secondary's half of a session, over any link and disk. Each call locks the node, does what it says, and unlocks
 /// the node. Its refusals are those of the node's call of the same name.
 pub trait SecondaryHalf {
+    ghost use Rattle.status_lines.specs.declared.lines.SecondaryLine.{SecondaryLine};
+
+    /// `shows line`: the secondary's status line was this one.
+    ghost shows: { SecondaryLine → Type 0 };
+
     /// Takes the next frame.
     fn receive(&self) -> Result<Done, Refusal>;
 
@@ -34,8 +39,9 @@ pub trait SecondaryHalf {
     /// Returns how many items of the last connection the disk has done.
     fn applied(&self) -> u32;
 
-    /// Returns the node's status line, without a newline. `NoMemory` (7) if there is no memory for it.
-    fn status_line(&self, alloc: Global) -> Result<String, Refusal>;
+    /// Returns what the node's status line shows.
+    fn status(&self) -> SecondaryLine
+        ensures shown { shows result };
 
     /// Returns the bell that the half's threads wait on.
     fn work(&self) -> &Bell;

@@ -13,6 +13,7 @@ use link::{FrameIn, FrameOut};
 use node_lines::primary_line;
 use primary::{Primary, Receipt};
 use session_nodes::{Beginning, Local};
+use status_lines::PrimaryLine;
 use std::alloc::Global;
 use std::sync::{Mutex, Wait};
 use turns::{LocalRole, Turn};
@@ -84,11 +85,14 @@ impl<
     I: FrameIn + Drop,
     S: Store + Drop,
 > PrimaryHalf for LocalHalf<R, B, O, I, S> {
+    ghost use Rattle.locked_halves.specs.Shown.{PrimaryHasShown};
     ghost use Rattle.session_nodes.specs.Primaries.{HasAccepted, HasHeld};
 
     ghost accepts = { HasAccepted B.opening };
 
     ghost holds = { HasHeld B.opening };
+
+    ghost shows = { PrimaryHasShown B.opening };
 
     fn submit(&self, first: u64, bytes: &Bytes) -> Result<u64, Refusal> {
         let (number, _) = self.node.lock(&self.rt).submit(first, bytes)?;
@@ -153,8 +157,8 @@ impl<
         self.node.lock(&self.rt).node().marks()
     }
 
-    fn status_line(&self, alloc: Global) -> Result<String, Refusal> {
-        primary_line(alloc, self.node.lock(&self.rt).node())
+    fn status(&self) -> PrimaryLine {
+        primary_line(self.node.lock(&self.rt).node())
     }
 
     fn work(&self) -> &Bell {

@@ -12,6 +12,7 @@ use link::{FrameIn, FrameOut};
 use node_lines::secondary_line;
 use secondary::Secondary;
 use session_nodes::{Beginning, Peer};
+use status_lines::SecondaryLine;
 use std::alloc::Global;
 use std::sync::{Mutex, Wait};
 use turns::{PeerRole, Turn};
@@ -78,6 +79,10 @@ impl<
     I: FrameIn + Drop,
     S: Store + Drop,
 > SecondaryHalf for PeerHalf<R, B, O, I, S> {
+    ghost use Rattle.locked_halves.specs.Shown.{SecondaryHasShown};
+
+    ghost shows = { SecondaryHasShown B.opening };
+
     fn receive(&self) -> Result<Done, Refusal> {
         self.node.lock(&self.rt).receive()
     }
@@ -114,8 +119,8 @@ impl<
         self.node.lock(&self.rt).node().items_applied()
     }
 
-    fn status_line(&self, alloc: Global) -> Result<String, Refusal> {
-        secondary_line(alloc, self.node.lock(&self.rt).node())
+    fn status(&self) -> SecondaryLine {
+        secondary_line(self.node.lock(&self.rt).node())
     }
 
     fn work(&self) -> &Bell {

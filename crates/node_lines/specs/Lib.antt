@@ -1,4 +1,1 @@
-pub mod Lines
-pub mod Text
 pub mod StatusWords
-pub mod Words

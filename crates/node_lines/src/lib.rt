@@ -1,8 +1,6 @@
-//! The status line of each node.
+//! What the status line of each node shows.
 #![tactic(auto)]
 
-mod lines;
 mod nodes;
-mod words;
 
 pub use nodes::{primary_line, secondary_line};

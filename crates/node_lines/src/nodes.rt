@@ -1,7 +1,5 @@
 //! The line of each node.
-ghost use Rattle.std.specs.Prelude.{◌≡◌, IfOk, IfErr};
-ghost use Rattle.std.specs.String.{string_bytes};
-ghost use Rattle.blocks.specs.declared.refusal.Refusal.TheVariants.{NoMemory};
+ghost use Rattle.std.specs.Prelude.{◌≡◌};
 ghost use Rattle.model.specs.Primary.{PrimaryHistory};
 ghost use Rattle.model.specs.Secondary.{SecondaryHistory};
 ghost use Rattle.model.specs.Status.{primary_line, secondary_line};
@@ -9,48 +7,22 @@ ghost use Rattle.primary.specs.State as here;
 ghost use Rattle.primary_protocol.specs.Node as local;
 ghost use Rattle.secondary.specs.State as there;
 ghost use Rattle.secondary_protocol.specs.Node as peer;
-ghost use Rattle.node_lines.specs.Lines.{primary_line_of, secondary_line_of};
-ghost use Rattle.node_lines.specs.Text.{primary_text, secondary_text};
 ghost use Rattle.node_lines.specs.StatusWords.{primary_words_by, secondary_words_by};
-ghost use Rattle.node_lines.specs.Words.{words_of};
+ghost use Rattle.status_lines.specs.Lines.{primary_line_of, secondary_line_of};
+ghost use Rattle.status_lines.specs.Words.{words_of};
 
-use crate::lines::{PrimaryLine, SecondaryLine};
-use crate::words::{DiskState, LinkState, Role, Words};
-use blocks::{Refusal, Store};
+use blocks::Store;
 use link::{FrameIn, FrameOut};
 use primary::Primary;
 use secondary::Secondary;
-use std::alloc::Global;
+use status_lines::{DiskState, LinkState, PrimaryLine, Role, SecondaryLine, Words};
 
 /// KiB in a block.
 const BLOCK_KIB: u64 = 4;
 
-/// Returns the primary's status line, without a newline. `NoMemory` (7) if there is no room for it.
+/// Returns what the primary's line shows: the words by its end, its connection and its resync, and the numbers by its log and its
+/// bitmap.
 pub fn primary_line<O: FrameOut + Drop, I: FrameIn + Drop, S: Store + Drop>(
-    alloc: Global,
-    primary: &Primary<O, I, S>,
-) -> Result<String, Refusal>
-    ensures line { IfOk result (λ line. (h : PrimaryHistory) → local.NodeHas (here.node primary.now) h → string_bytes line ≡ primary_text (primary_line h)) }
-    ensures refused { IfErr result (λ e. e ≡ NoMemory) }
-{
-    let line = primary_state(primary);
-    Ok(format!(in alloc; "{line}")?)
-}
-
-/// Returns the secondary's status line, without a newline. `NoMemory` (7) if there is no room for it.
-pub fn secondary_line<O: FrameOut + Drop, I: FrameIn + Drop, S: Store + Drop>(
-    alloc: Global,
-    secondary: &Secondary<O, I, S>,
-) -> Result<String, Refusal>
-    ensures line { IfOk result (λ line. (h : SecondaryHistory) → peer.NodeHas (there.node secondary.now) h → string_bytes line ≡ secondary_text (secondary_line h)) }
-    ensures refused { IfErr result (λ e. e ≡ NoMemory) }
-{
-    let line = secondary_state(secondary);
-    Ok(format!(in alloc; "{line}")?)
-}
-
-// Returns what the primary's line shows.
-fn primary_state<O: FrameOut + Drop, I: FrameIn + Drop, S: Store + Drop>(
     primary: &Primary<O, I, S>,
 ) -> PrimaryLine
     ensures { (h : PrimaryHistory) → local.NodeHas (here.node primary.now) h → primary_line_of result ≡ primary_line h }
@@ -69,8 +41,8 @@ fn primary_state<O: FrameOut + Drop, I: FrameIn + Drop, S: Store + Drop>(
     }
 }
 
-// Returns what the secondary's line shows.
-fn secondary_state<O: FrameOut + Drop, I: FrameIn + Drop, S: Store + Drop>(
+/// Returns what the secondary's line shows: the words by its end, its hello and its data, and how many items its disk has to do.
+pub fn secondary_line<O: FrameOut + Drop, I: FrameIn + Drop, S: Store + Drop>(
     secondary: &Secondary<O, I, S>,
 ) -> SecondaryLine
     ensures { (h : SecondaryHistory) → peer.NodeHas (there.node secondary.now) h → secondary_line_of result ≡ secondary_line h }

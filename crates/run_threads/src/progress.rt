@@ -1,6 +1,7 @@
 //! Progress lines of a run.
 use halves::Device;
 use options::RunOptions;
+use status_lines::{PrimaryLine, SecondaryLine};
 use std::io;
 use std::io::Write;
 use std::sync::atomic::{AtomicU64, Ordering};
@@ -86,9 +87,7 @@ fn print_progress<E: Write>(
         write!(err, "{EMPTY_LINE}")?;
     }
     if options.live.status {
-        if let Ok(lines) = device.status() {
-            print_status(&lines, err)?;
-        }
+        print_status(device.status(), err)?;
     }
     if options.live.progress {
         let completed = progress.completed.load(Ordering::SeqCst);
@@ -103,7 +102,10 @@ fn print_progress<E: Write>(
 }
 
 /// Writes the status lines of both nodes, each with a newline.
-pub fn print_status<E: Write>(lines: &(String, String), err: &mut E) -> io::Result<()> {
-    writeln!(err, "{}", lines.0)?;
-    writeln!(err, "{}", lines.1)
+pub fn print_status<E: Write>(
+    (primary, secondary): (PrimaryLine, SecondaryLine),
+    err: &mut E,
+) -> io::Result<()> {
+    writeln!(err, "{primary}")?;
+    writeln!(err, "{secondary}")
 }

@@ -1,4 +1,5 @@
 //! Tests of what a FLUSH and a request with FUA wait for, over a device whose writes are released late.
+use crate::page::resync_lines;
 use blocks::{BLOCK_BYTES, Protocol, Refusal};
 use bytes::Bytes;
 use halves::{Begun, Device};
@@ -6,6 +7,7 @@ use image_store::ImageStore;
 use nbd::{Command, Request};
 use primary::Receipt;
 use requests::Requests;
+use status_lines::{PrimaryLine, SecondaryLine};
 use std::alloc::Global;
 use std::fs::{self, File, Files, OpenFile};
 use std::process::Abort;
@@ -61,6 +63,9 @@ impl Device for LateDevice {
     // It has no disk.
     ghost holds = { λ first count bytes. Unit {0} };
 
+    // It has no nodes.
+    ghost shows = { λ own other. Unit {0} };
+
     fn write(&self, _first: u64, _bytes: &Bytes) -> Result<Receipt, Refusal> {
         Err(Refusal::NotConnected)
     }
@@ -89,8 +94,8 @@ impl Device for LateDevice {
         Err(Refusal::NotConnected)
     }
 
-    fn status(&self) -> Result<(String, String), Refusal> {
-        Err(Refusal::NoMemory)
+    fn status(&self) -> (PrimaryLine, SecondaryLine) {
+        resync_lines()
     }
 
     fn marks(&self) -> u32 {

@@ -1,21 +1,41 @@
 //! Tests of the texts of the status page, written out by hand.
+use blocks::Protocol;
+use status_lines::{DiskState, LinkState, PrimaryLine, Role, SecondaryLine, Words};
 use status_page::{Report, Resync, answer_one};
-use std::alloc::{AllocError, Global};
 use std::hash::RandomState;
 use std::process::Abort;
 use std::random::RandomSource;
 
-/// Returns the report of both nodes while a resync has copied one of four blocks.
-fn report(alloc: Global) -> Result<Report, AllocError> {
-    let primary =
-        "cs:SyncSource ro:Primary/Secondary ds:UpToDate/Inconsistent pr:C pe:0 ap:1 ep:2 oos:12";
-    let secondary =
-        "cs:SyncTarget ro:Secondary/Primary ds:Inconsistent/UpToDate pr:C pending:3 use:No whole:1";
-    Ok(Report {
-        primary: String::from_str(alloc, primary)?,
-        secondary: String::from_str(alloc, secondary)?,
-        resync: Some(Resync { left: 3, all: 4 }),
-    })
+/// Returns what both nodes' lines show while a resync has copied one of four blocks.
+pub(crate) fn resync_lines() -> (PrimaryLine, SecondaryLine) {
+    let primary = PrimaryLine {
+        words: Words {
+            link: LinkState::SyncSource,
+            own_role: Role::Primary,
+            other_role: Role::Secondary,
+            own_disk: DiskState::UpToDate,
+            other_disk: DiskState::Inconsistent,
+        },
+        protocol: Protocol::C,
+        pe: 0,
+        ap: 1,
+        ep: 2,
+        oos: 12,
+    };
+    let secondary = SecondaryLine {
+        words: Words {
+            link: LinkState::SyncTarget,
+            own_role: Role::Secondary,
+            other_role: Role::Primary,
+            own_disk: DiskState::Inconsistent,
+            other_disk: DiskState::UpToDate,
+        },
+        protocol: Protocol::C,
+        pending: 3,
+        usable: false,
+        whole: 1,
+    };
+    (primary, secondary)
 }
 
 const LINES: &str =
@@ -46,7 +66,12 @@ fn is_answered(
 
 #[test]
 fn a_client_is_answered(rt: HostRuntime) {
-    let report = report(rt.alloc()).expect(&rt, "memory");
+    let (primary, secondary) = resync_lines();
+    let report = Report {
+        primary,
+        secondary,
+        resync: Some(Resync { left: 3, all: 4 }),
+    };
     let cases: [(&str, &str, &str); 4] = [
         ("GET /", "HTTP/1.1 200 OK", LINES),
         ("GET /status.json", "HTTP/1.1 200 OK", JSON),

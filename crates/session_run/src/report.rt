@@ -10,7 +10,7 @@ use options::RunOptions;
 use primary::{Primary, Receipt};
 use secondary::Secondary;
 use settle::{Settled, settle};
-use std::alloc::Global;
+use status_lines::{PrimaryLine, SecondaryLine};
 
 /// The outcome of a session, with both disks.
 #[derive(Drop)]
@@ -21,8 +21,8 @@ pub(crate) struct Report {
     pub(crate) confirmed: u64,
     /// Blocks without a mark on which the disks differ.
     pub(crate) unmarked: u32,
-    /// The status lines of both nodes at the end, if the options ask for them.
-    pub(crate) status: Option<(String, String)>,
+    /// What the status lines of both nodes show at the end, if the options ask for them.
+    pub(crate) status: Option<(PrimaryLine, SecondaryLine)>,
     pub(crate) local: MemStore,
     pub(crate) peer: MemStore,
 }
@@ -40,15 +40,13 @@ impl Report {
 }
 
 /// Returns the outcome of a session whose writers have the receipts `worked`, and whose nodes at rest are `ended`. If a
-/// write was refused, returns that refusal; else those of the end and of `settle`, and `NoMemory` (7) if there is no
-/// memory for the status lines.
+/// write was refused, returns that refusal; else those of the end and of `settle`.
 pub(crate) fn conclude<
     O: FrameOut + Drop,
     I: FrameIn + Drop,
     P: FrameOut + Drop,
     J: FrameIn + Drop,
 >(
-    alloc: Global,
     options: &RunOptions,
     worked: Result<Vec<Receipt>, Refusal>,
     ended: Result<(Primary<O, I, MemStore>, Secondary<P, J, MemStore>), Refusal>,
@@ -68,14 +66,14 @@ pub(crate) fn conclude<
         Err(refusal) => return Err(worked.err().unwrap_or(refusal)),
     };
     let settled = settled_by(&mut primary, &mut secondary, worked);
-    let status = status(alloc, options, &primary, &secondary);
+    let status = status(options, &primary, &secondary);
     let (local, peer) = (primary.into_store(), secondary.into_store());
     let (completed, settled) = settled?;
     Ok(Report {
         completed,
         confirmed: settled.confirmed,
         unmarked: settled.unmarked,
-        status: status?,
+        status,
         local,
         peer,
     })
@@ -100,18 +98,14 @@ fn settled_by<O: FrameOut + Drop, I: FrameIn + Drop, P: FrameOut + Drop, J: Fram
     Ok((receipts.len() as u64, settled))
 }
 
-// Returns the status lines of both nodes if the options ask for them.
+// Returns what the status lines of both nodes show, if the options ask for them.
 fn status<O: FrameOut + Drop, I: FrameIn + Drop, P: FrameOut + Drop, J: FrameIn + Drop>(
-    alloc: Global,
     options: &RunOptions,
     primary: &Primary<O, I, MemStore>,
     secondary: &Secondary<P, J, MemStore>,
-) -> Result<Option<(String, String)>, Refusal> {
+) -> Option<(PrimaryLine, SecondaryLine)> {
     if !options.live.status {
-        return Ok(None);
+        return None;
     }
-    Ok(Some((
-        primary_line(alloc, primary)?,
-        secondary_line(alloc, secondary)?,
-    )))
+    Some((primary_line(primary), secondary_line(secondary)))
 }

@@ -62,7 +62,7 @@ fn run_named<L: Linked + Send + Sync + 'static, R: Runtime, E: Write + Send>(
     match Session::<R, L, MemStore, MemStore>::start(rt, alloc, there, back, local, peer, parts) {
         Ok(session) => {
             let worked = work(&rt, alloc, session.mirror(), options, err);
-            conclude(alloc, options, worked, session.finish())
+            conclude(options, worked, session.finish())
         }
         Err(refusal) => Err(refusal),
     }

@@ -58,7 +58,7 @@ fn run_begun<B: Beginning + Send + Sync + 'static, R: Runtime, E: Write + Send>(
     match WireSession::<R, B, MemStore, MemStore>::start_over(rt, alloc, local, peer, parts, ways) {
         Ok(session) => {
             let worked = work(&rt, alloc, session.mirror(), options, err);
-            conclude(alloc, options, worked, session.finish())
+            conclude(options, worked, session.finish())
         }
         Err(refusal) => Err(refusal),
     }

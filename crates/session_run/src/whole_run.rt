@@ -67,7 +67,7 @@ fn run_images<
     let peer_image = LockedImage::take(rt, images.peer, "peer-new")?;
     let peer = load(rt, &peer_image, options.blocks)?;
     let mut report = run_disks(rt, options, (local, peer), err)?;
-    if let Some(lines) = &report.status {
+    if let Some(lines) = report.status {
         let _ = print_status(lines, err);
     }
     report.check_marks()?;

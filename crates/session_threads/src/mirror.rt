@@ -6,6 +6,7 @@ use blocks::{BLOCK_BYTES, Refusal};
 use bytes::Bytes;
 use halves::{Begun, Device, PrimaryHalf, SecondaryHalf};
 use primary::Receipt;
+use status_lines::{PrimaryLine, SecondaryLine};
 use std::alloc::Global;
 use std::sync::{Arc, Wait};
 use std::time::Clock;
@@ -22,6 +23,8 @@ impl<R: Wait + Clock, A: PrimaryHalf, B: SecondaryHalf> Device for Mirror<R, A, 
     ghost accepts = { A.accepts };
 
     ghost holds = { A.holds };
+
+    ghost shows = { λ own other. A.shows own × B.shows other };
 
     fn write(&self, first: u64, bytes: &Bytes) -> Result<Receipt, Refusal> {
         let begun = self.begin(first, bytes.clone()?)?;
@@ -66,10 +69,8 @@ impl<R: Wait + Clock, A: PrimaryHalf, B: SecondaryHalf> Device for Mirror<R, A, 
         Ok(number)
     }
 
-    fn status(&self) -> Result<(String, String), Refusal> {
-        let local = self.shared.local.status_line(self.alloc)?;
-        let peer = self.shared.peer.status_line(self.alloc)?;
-        Ok((local, peer))
+    fn status(&self) -> (PrimaryLine, SecondaryLine) {
+        (self.shared.local.status(), self.shared.peer.status())
     }
 
     fn marks(&self) -> u32 {

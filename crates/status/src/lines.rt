@@ -4,7 +4,7 @@ ghost use Rattle.std.specs.String.{string_bytes};
 ghost use Rattle.blocks.specs.declared.refusal.Refusal.TheVariants.{NoMemory};
 ghost use Rattle.model.specs.Pair.{PairHistory};
 ghost use Rattle.model.specs.Status.{primary_line, secondary_line};
-ghost use Rattle.node_lines.specs.Text.{primary_text, secondary_text};
+ghost use Rattle.status_lines.specs.Text.{primary_text, secondary_text};
 ghost use Rattle.pair.specs.State.{state};
 ghost use Rattle.pair_protocol.specs.State.{PairHas};
 
@@ -19,7 +19,7 @@ pub fn line(alloc: Global, pair: &Pair) -> Result<String, Refusal>
     ensures lines { IfOk result (λ lines. (h : PairHistory) → PairHas (state pair.now) h → string_bytes lines ≡ primary_text (primary_line h.primary) ++ 10 ∷ (secondary_text (secondary_line h.secondary) ++ 10 ∷ [])) }
     ensures refused { IfErr result (λ e. e ≡ NoMemory) }
 {
-    let own = primary_line(alloc, pair.primary())?;
-    let other = secondary_line(alloc, pair.secondary())?;
+    let own = primary_line(pair.primary());
+    let other = secondary_line(pair.secondary());
     Ok(format!(in alloc; "{own}\n{other}\n")?)
 }

@@ -1,4 +1,5 @@
 //! The report of a server on its nodes.
+use status_lines::{PrimaryLine, SecondaryLine};
 use std::alloc::{AllocError, Global};
 
 /// A resync that goes on.
@@ -18,12 +19,11 @@ impl Resync {
     }
 }
 
-/// The state of a server's nodes: the status line of each, without a newline, and the progress of a resync, if one goes
-/// on.
-#[derive(Debug, Drop)]
+/// The state of a server's nodes: what the status line of each shows, and the progress of a resync, if one goes on.
+#[derive(Clone, Copy, Debug, PartialEq, Eq)]
 pub struct Report {
-    pub primary: String,
-    pub secondary: String,
+    pub primary: PrimaryLine,
+    pub secondary: SecondaryLine,
     pub resync: Option<Resync>,
 }
 

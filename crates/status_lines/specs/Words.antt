@@ -1,12 +1,12 @@
 -- What the words of a line stand for.
 use Rattle.model.specs.Status as model
-use Rattle.node_lines.specs.declared.words.LinkState.{LinkState}
-use Rattle.node_lines.specs.declared.words.LinkState.TheVariants as link
-use Rattle.node_lines.specs.declared.words.Role.{Role}
-use Rattle.node_lines.specs.declared.words.Role.TheVariants as role
-use Rattle.node_lines.specs.declared.words.DiskState.{DiskState}
-use Rattle.node_lines.specs.declared.words.DiskState.TheVariants as disk
-use Rattle.node_lines.specs.declared.words.Words.{Words}
+use Rattle.status_lines.specs.declared.words.LinkState.{LinkState}
+use Rattle.status_lines.specs.declared.words.LinkState.TheVariants as link
+use Rattle.status_lines.specs.declared.words.Role.{Role}
+use Rattle.status_lines.specs.declared.words.Role.TheVariants as role
+use Rattle.status_lines.specs.declared.words.DiskState.{DiskState}
+use Rattle.status_lines.specs.declared.words.DiskState.TheVariants as disk
+use Rattle.status_lines.specs.declared.words.Words.{Words}
 
 -- the state of an end
 abbrev pub link_of : LinkState → model.LinkState

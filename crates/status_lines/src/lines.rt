@@ -1,33 +1,38 @@
-//! A node's line: its words and numbers, and how they are printed.
+//! What the line of each node shows, and how it is printed.
 ghost use Rattle.std.specs.Prelude.{◌≡◌, Some};
-ghost use Rattle.node_lines.specs.Text.{counts_text, primary_text, protocol_text, secondary_text, usable_text, usage_text};
-ghost use Rattle.node_lines.specs.Lines.{primary_line_of, secondary_line_of};
+ghost use Rattle.status_lines.specs.Text.{counts_text, primary_text, protocol_text, secondary_text, usable_text, usage_text};
+ghost use Rattle.status_lines.specs.Lines.{primary_line_of, secondary_line_of};
 
 use crate::words::Words;
 use blocks::Protocol;
 use std::fmt;
 
-/// The primary's line: `pe` writes wait for the peer's answer, `ap` are neither completed nor failed, `ep`
-/// epochs are not acknowledged, and `oos` KiB are out of sync (DRBD User's Guide, "Performance indicators").
-#[derive(Clone, Copy)]
-pub(crate) struct PrimaryLine {
-    pub(crate) words: Words,
-    pub(crate) protocol: Protocol,
-    pub(crate) pe: u64,
-    pub(crate) ap: u64,
-    pub(crate) ep: u64,
-    pub(crate) oos: u64,
+/// What the primary's line shows (DRBD User's Guide, "Performance indicators").
+#[derive(Clone, Copy, Debug, PartialEq, Eq)]
+pub struct PrimaryLine {
+    pub words: Words,
+    pub protocol: Protocol,
+    /// Writes that wait for the peer's answer.
+    pub pe: u64,
+    /// Writes that are neither completed nor failed.
+    pub ap: u64,
+    /// Epochs that are not acknowledged.
+    pub ep: u64,
+    /// KiB that are out of sync.
+    pub oos: u64,
 }
 
-/// The secondary's line: how many items are pending, whether the data may be used as they are, and up to which
-/// epoch of the connection they are whole.
-#[derive(Clone, Copy)]
-pub(crate) struct SecondaryLine {
-    pub(crate) words: Words,
-    pub(crate) protocol: Protocol,
-    pub(crate) pending: u64,
-    pub(crate) usable: bool,
-    pub(crate) whole: u64,
+/// What the secondary's line shows.
+#[derive(Clone, Copy, Debug, PartialEq, Eq)]
+pub struct SecondaryLine {
+    pub words: Words,
+    pub protocol: Protocol,
+    /// Items that wait for the disk.
+    pub pending: u64,
+    /// Whether the data may be used as they are.
+    pub usable: bool,
+    /// The epoch of the connection up to which the data are whole.
+    pub whole: u64,
 }
 
 impl fmt::Display for PrimaryLine {
@@ -35,7 +40,7 @@ impl fmt::Display for PrimaryLine {
 
     fn fmt<W: fmt::Write>(&self, f: &mut fmt::Formatter<W>) -> fmt::Result {
         let words = self.words;
-        let protocol = protocol_word(self.protocol);
+        let protocol = protocol_name(self.protocol);
         let counts = Counts(*self);
         write!(f, "{words} pr:{protocol}{counts}")
     }
@@ -46,7 +51,7 @@ impl fmt::Display for SecondaryLine {
 
     fn fmt<W: fmt::Write>(&self, f: &mut fmt::Formatter<W>) -> fmt::Result {
         let words = self.words;
-        let protocol = protocol_word(self.protocol);
+        let protocol = protocol_name(self.protocol);
         let usage = Usage(*self);
         write!(f, "{words} pr:{protocol}{usage}")
     }
@@ -90,8 +95,8 @@ impl fmt::Display for Usage {
     }
 }
 
-// Returns the letter of a replication protocol.
-fn protocol_word(protocol: Protocol) -> &'static str
+/// Returns the letter of a replication protocol.
+pub fn protocol_name(protocol: Protocol) -> &'static str
     ensures { result.now ≡ protocol_text protocol }
 {
     match protocol {

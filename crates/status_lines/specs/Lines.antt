@@ -1,8 +1,8 @@
 -- What a line stands for.
 use Rattle.model.specs.Status as model
-use Rattle.node_lines.specs.Words.{words_of}
-use Rattle.node_lines.specs.declared.lines.PrimaryLine.{PrimaryLine}
-use Rattle.node_lines.specs.declared.lines.SecondaryLine.{SecondaryLine}
+use Rattle.status_lines.specs.Words.{words_of}
+use Rattle.status_lines.specs.declared.lines.PrimaryLine.{PrimaryLine}
+use Rattle.status_lines.specs.declared.lines.SecondaryLine.{SecondaryLine}
 
 -- the primary's
 abbrev pub primary_line_of : PrimaryLine → model.PrimaryLine

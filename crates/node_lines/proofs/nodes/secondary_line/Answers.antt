@@ -1,5 +1,5 @@
 use Rattle.std.proofs.Common.{rules}
-use Rattle.node_lines.proofs.nodes.secondary_state.Goals as goal
+use Rattle.node_lines.proofs.nodes.secondary_line.Goals as goal
 
 pub returns : goal.returns
 returns g c = search rules
