@@ -1,6 +1,7 @@
 //! The primary under its lock.
 ghost use Rattle.std.specs.Prelude.{◌≡◌, false, slice_get, unwrap_or, IfSome};
 ghost use Rattle.endpoint.specs.Calls.{IsNewIn, IsNewOut};
+ghost use Rattle.locked_halves.specs.Shown.{PrimaryHasShown};
 ghost use Rattle.model.specs.Primary.{primary_opening};
 ghost use Rattle.model.specs.Theorems.{primary_at};
 ghost use Rattle.session_nodes.specs.Primaries.{PrimaryIsHad};
@@ -158,7 +159,7 @@ impl<
     }
 
     fn status(&self) -> PrimaryLine {
-        primary_line(self.node.lock(&self.rt).node())
+        line_of(&self.node.lock(&self.rt))
     }
 
     fn work(&self) -> &Bell {
@@ -172,4 +173,13 @@ impl<
     fn sent(&self) -> &Bell {
         &self.sent
     }
+}
+
+// Returns what the line of a locked node shows.
+fn line_of<B: Beginning, O: FrameOut + Drop, I: FrameIn + Drop, S: Store + Drop>(
+    local: &Local<B, O, I, S>,
+) -> PrimaryLine
+    ensures { PrimaryHasShown B.opening result }
+{
+    primary_line(local.node())
 }

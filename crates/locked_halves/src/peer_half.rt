@@ -1,6 +1,7 @@
 //! The secondary under its lock.
 ghost use Rattle.std.specs.Prelude.{◌≡◌, slice_get, IfSome};
 ghost use Rattle.endpoint.specs.Calls.{IsNewIn, IsNewOut};
+ghost use Rattle.locked_halves.specs.Shown.{SecondaryHasShown};
 ghost use Rattle.model.specs.Secondary.{secondary_opening};
 ghost use Rattle.model.specs.Theorems.{secondary_at};
 ghost use Rattle.session_nodes.specs.Secondaries.{SecondaryIsHad};
@@ -120,7 +121,7 @@ impl<
     }
 
     fn status(&self) -> SecondaryLine {
-        secondary_line(self.node.lock(&self.rt).node())
+        line_of(&self.node.lock(&self.rt))
     }
 
     fn work(&self) -> &Bell {
@@ -130,4 +131,13 @@ impl<
     fn sent(&self) -> &Bell {
         &self.sent
     }
+}
+
+// Returns what the line of a locked node shows.
+fn line_of<B: Beginning, O: FrameOut + Drop, I: FrameIn + Drop, S: Store + Drop>(
+    peer: &Peer<B, O, I, S>,
+) -> SecondaryLine
+    ensures { SecondaryHasShown B.opening result }
+{
+    secondary_line(peer.node())
 }

@@ -18,7 +18,7 @@ use crate::syncs::asks_for_sync;
 use crate::under_way::UnderWay;
 use blocks::Protocol;
 use halves::{Begun, Device};
-use image_store::SyncHandle;
+use image_store::{Both, SyncHandle};
 use nbd::{Command, Errno, Ranges, Request};
 use primary::Receipt;
 use std::alloc::Global;
@@ -37,17 +37,12 @@ pub struct Requests {
 }
 
 impl Requests {
-    /// Creates the requests over sessions under this protocol, of two images that these handles sync.
-    pub fn new(
-        alloc: Global,
-        protocol: Protocol,
-        local: SyncHandle<File>,
-        peer: SyncHandle<File>,
-    ) -> Requests {
+    /// Creates the requests over sessions under `protocol`, of two images that the handles `syncs` sync.
+    pub fn new(alloc: Global, protocol: Protocol, syncs: Both<SyncHandle<File>>) -> Requests {
         Requests {
             alloc,
             protocol,
-            storage: StableStorage::new(local, peer),
+            storage: StableStorage::new(syncs),
             writes: AtomicU64::new(0),
         }
     }

@@ -1,6 +1,6 @@
 //! Stable storage of both images.
 use crate::sync_fault::{Side, SyncFault};
-use image_store::SyncHandle;
+use image_store::{Both, SyncHandle};
 use std::fs::File;
 use std::sync::atomic::{AtomicU64, Ordering};
 use std::sync::{Mutex, Wait};
@@ -13,8 +13,7 @@ use std::sync::{Mutex, Wait};
 /// later one fails too.
 #[derive(Drop)]
 pub(crate) struct StableStorage {
-    local: SyncHandle<File>,
-    peer: SyncHandle<File>,
+    images: Both<SyncHandle<File>>,
     // The last round that began.
     begun: AtomicU64,
     // The last round that was ready for its sync.
@@ -26,11 +25,10 @@ pub(crate) struct StableStorage {
 }
 
 impl StableStorage {
-    /// Creates the stable storage of two images that these handles sync, with no failed sync.
-    pub(crate) fn new(local: SyncHandle<File>, peer: SyncHandle<File>) -> StableStorage {
+    /// Creates the stable storage of two images that the handles `images` sync, with no failed sync.
+    pub(crate) fn new(images: Both<SyncHandle<File>>) -> StableStorage {
         StableStorage {
-            local,
-            peer,
+            images,
             begun: AtomicU64::new(0),
             ready: AtomicU64::new(0),
             synced: AtomicU64::new(0),
@@ -76,7 +74,7 @@ impl StableStorage {
 
     // Syncs both images, also if the first sync fails. Returns the first that failed.
     fn sync_both(&self) -> Option<SyncFault> {
-        match (self.local.sync(), self.peer.sync()) {
+        match (self.images.local.sync(), self.images.peer.sync()) {
             (Err(error), _) => Some(SyncFault {
                 side: Side::Local,
                 error,

@@ -93,8 +93,8 @@ all-same (x ∷ xs) (y ∷ ys) each =
 
 -- Where a session leaves no mark and no difference without one, the disks are one.
 pub ends-alike : (o : Opening) (before : Totals) (rest : Rest) → IsSession o before rest → rest.totals.unmarked ≡ 0 → rest.totals.marked ≡ 0
-    → rest.disks.0.disk ≡ rest.disks.1.disk
-ends-alike o before rest session none clean = all-same rest.disks.0.disk rest.disks.1.disk (λ block. session.local block
+    → rest.disks.local.disk ≡ rest.disks.peer.disk
+ends-alike o before rest session none clean = all-same rest.disks.local.disk rest.disks.peer.disk (λ block. session.local block
     ∙ same-there p s rest.parts.settings.blocks (ap (λ x. x.blocks) session.comes.left.settings) session.comes.sound.local session.comes.sound.peer
     (sym (ap (λ n. n.unmarked) session.comes.settles.exact) ∙ sym session.comes.unmarked ∙ none) (sym session.comes.marked ∙ clean) block
     ∙ sym (session.peer block))
@@ -122,8 +122,8 @@ pub given : (worked : Result (Vec Receipt Global) Refusal) (receipts : Vec Recei
 given worked receipts Q is holds = subst (λ (w : Result (Vec Receipt Global) Refusal). IfOk w (λ all. Q all.items)) (sym is) holds
 
 -- honest identifiers are so over the same disks
-honest-over : (rest : Rest) (p : PrimaryHistory) (s : SecondaryHistory) → ((block : ℕ) → slice_get rest.disks.0.disk block ≡ local_map p block)
-    → ((block : ℕ) → slice_get rest.disks.1.disk block ≡ secondary_map s block)
+honest-over : (rest : Rest) (p : PrimaryHistory) (s : SecondaryHistory) → ((block : ℕ) → slice_get rest.disks.local.disk block ≡ local_map p block)
+    → ((block : ℕ) → slice_get rest.disks.peer.disk block ≡ secondary_map s block)
     → WasHonest (opening_of rest.parts (local_map p) (secondary_map s)) → WasHonest (opening rest)
 honest-over rest p s local peer = subst WasHonest (λ i. opening_of rest.parts (λ block. sym (local block) i) (λ block. sym (peer block) i))
 
@@ -131,7 +131,7 @@ honest-over rest p s local peer = subst WasHonest (λ i. opening_of rest.parts (
 pub session-of : (o : Opening) (before : Totals) (result : Result Rest Refusal) (worked : Result (Vec Receipt Global) Refusal) (a : PrimaryView)
     (b : SecondaryView) → WasHonest o → IsUnparted o → PrimaryIsHad (Some o) a × SecondaryIsHad (Some o) b
     → ((p : PrimaryHistory) (s : SecondaryHistory) → PrimaryHas a p → SecondaryHas b s → IsJoined p s) → b.core.number ≤ a.core.connections
-    → IfOk result (λ _. IsOk worked) → IfOk result (λ rest. (rest.disks.0.disk ≡ a.disk) × (rest.disks.1.disk ≡ b.disk))
+    → IfOk result (λ _. IsOk worked) → IfOk result (λ rest. (rest.disks.local.disk ≡ a.disk) × (rest.disks.peer.disk ≡ b.disk))
     → IfOk result (λ rest. IfOk worked (λ receipts. NodesComeTo a b receipts.items before rest.totals rest.parts))
     → IfOk result (λ rest. IsSession o before rest)
 session-of o before (Err refusal) worked a b honest unparted had joined numbered done disks comes = tt
@@ -144,9 +144,9 @@ session-of o before (Ok rest) (Ok receipts) a b honest unparted had joined numbe
     let joins = joined (primary_run p.began.0 (primary_at o)) (secondary_run s.began.0 (secondary_at o)) here there in
     let left = comes numbered (primary_run p.began.0 (primary_at o)) (secondary_run s.began.0 (secondary_at o)) here.has there.has joins
     (were-honest o p.began.0 s.began.0 honest) in
-    let local : (block : ℕ) → slice_get rest.disks.0.disk block ≡ local_map (primary_run p.began.0 (primary_at o)) block =
+    let local : (block : ℕ) → slice_get rest.disks.local.disk block ≡ local_map (primary_run p.began.0 (primary_at o)) block =
     λ block. ap (λ (l : List (List ℕ)). slice_get l block) disks.0 ∙ here.has.leaves.disk block in
-    let peer : (block : ℕ) → slice_get rest.disks.1.disk block ≡ secondary_map (secondary_run s.began.0 (secondary_at o)) block =
+    let peer : (block : ℕ) → slice_get rest.disks.peer.disk block ≡ secondary_map (secondary_run s.began.0 (secondary_at o)) block =
     λ block. ap (λ (l : List (List ℕ)). slice_get l block) disks.1 ∙ there.has.leaves.disk block in
     let opens : (primary_run p.began.0 (primary_at o)).opening_tuple.current ≡ (secondary_run s.began.0 (secondary_at o)).opening_tuple.current
     → (primary_run p.began.0 (primary_at o)).opening_tuple.bitmap ≡ 0

@@ -13,7 +13,7 @@ pub record CameTo (chosen : Settings) (local peer : List (List ℕ)) (totals : T
   pub rest : Rest
   pub served : IsServed chosen local peer rest
   pub results : totals ≡ rest.totals
-  pub alike : totals.unmarked ≡ 0 → totals.marked ≡ 0 → rest.disks.0.disk ≡ rest.disks.1.disk
+  pub alike : totals.unmarked ≡ 0 → totals.marked ≡ 0 → rest.disks.local.disk ≡ rest.disks.peer.disk
 
 -- A server with these options came to these totals, over two disks of `blocks` blocks, as many as the options ask for if they do.
 pub record HasEnded (options : ServeOptions) (totals : Totals) : Type 0 where
@@ -27,4 +27,4 @@ pub record HasEnded (options : ServeOptions) (totals : Totals) : Type 0 where
 pub record HasServed (options : ServeOptions) : Type 0 where
   pub totals : Totals
   pub ended : HasEnded options totals
-  pub alike : ended.all.rest.disks.0.disk ≡ ended.all.rest.disks.1.disk
+  pub alike : ended.all.rest.disks.local.disk ≡ ended.all.rest.disks.peer.disk

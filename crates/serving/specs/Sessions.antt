@@ -23,7 +23,7 @@ use Rattle.halves.specs.declared.parts.Parts.{Parts}
 
 -- the opening of the session that starts from here
 abbrev pub opening : Rest → Opening
-opening rest = opening_of rest.parts (slice_get rest.disks.0.disk) (slice_get rest.disks.1.disk)
+opening rest = opening_of rest.parts (slice_get rest.disks.local.disk) (slice_get rest.disks.peer.disk)
 
 -- the sum of two counts, as far as 64 bits count
 abbrev pub counted : ℕ → ℕ → ℕ
@@ -60,8 +60,8 @@ pub record IsSession (o : Opening) (before : Totals) (rest : Rest) : Type 0 wher
   pub receipts : List Receipt
   pub joined : IsJoined (primary_run here (primary_at o)) (secondary_run there (secondary_at o))
   pub comes : ComesTo (primary_run here (primary_at o)) (secondary_run there (secondary_at o)) receipts before rest.totals rest.parts
-  pub local : (block : ℕ) → slice_get rest.disks.0.disk block ≡ local_map (primary_run here (primary_at o)) block
-  pub peer : (block : ℕ) → slice_get rest.disks.1.disk block ≡ secondary_map (secondary_run there (secondary_at o)) block
+  pub local : (block : ℕ) → slice_get rest.disks.local.disk block ≡ local_map (primary_run here (primary_at o)) block
+  pub peer : (block : ℕ) → slice_get rest.disks.peer.disk block ≡ secondary_map (secondary_run there (secondary_at o)) block
   pub honest : WasHonest (opening rest)
   pub unparted : IsUnparted (opening rest)
   pub order : list_any (λ accepted. is_failed accepted.outcome) (primary_run here (primary_at o)).writes ≡ false
@@ -75,7 +75,7 @@ pub record IsFirst (chosen : Settings) (local peer : List (List ℕ)) (first : R
   pub other : (local ≡ peer → ⊥) → first.parts.peer ≡ unknown
   pub marks : (block : ℕ) → unwrap_or (slice_get first.parts.marks.items block) false ≡ false
   pub totals : first.totals ≡ record { completed = 0; confirmed = 0; unmarked = 0; marked = 0 }
-  pub disks : (first.disks.0.disk ≡ local) × (first.disks.1.disk ≡ peer)
+  pub disks : (first.disks.local.disk ≡ local) × (first.disks.peer.disk ≡ peer)
   pub honest : WasHonest (opening first)
 
 -- Sessions led from the first start to this one; between them are the starts of those after the first, the latest first.

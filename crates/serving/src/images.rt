@@ -5,7 +5,7 @@ ghost use Rattle.requests.specs.declared.sync_fault.Side.TheVariants.{Local, Pee
 use crate::fault::Fault;
 use crate::rest::Disks;
 use blocks::{BLOCK_BYTES, MAX_BLOCKS, Refusal};
-use image_store::{ImageLock, ImageStore, OpenFault, SyncHandle};
+use image_store::{Both, ImageLock, ImageStore, OpenFault, SyncHandle};
 use options::ServeOptions;
 use requests::{Side, SyncFault};
 use std::fs::File;
@@ -34,10 +34,10 @@ pub(crate) fn unsynced_image<'a>(
 
 /// Returns the image that may have kept parts of a write that failed, the local one first.
 pub(crate) fn torn_image<'a>(options: &ServeOptions<'a>, disks: &Disks) -> Option<&'a str> {
-    if disks.0.is_torn() {
+    if disks.local.is_torn() {
         return Some(options.local);
     }
-    if disks.1.is_torn() {
+    if disks.peer.is_torn() {
         return Some(options.peer);
     }
     None
@@ -82,10 +82,10 @@ pub(crate) fn check_kept<'a, H: Files<File = File>>(
 pub(crate) fn lock_both<'a, H: Files<File = File>>(
     rt: &H,
     options: &ServeOptions<'a>,
-) -> Result<(ImageLock, ImageLock), Fault<'a>> {
+) -> Result<Both<ImageLock>, Fault<'a>> {
     match lock(rt, options.local) {
         Ok(local) => match lock(rt, options.peer) {
-            Ok(peer) => Ok((local, peer)),
+            Ok(peer) => Ok(Both { local, peer }),
             Err(fault) => Err(fault),
         },
         Err(fault) => Err(fault),
@@ -100,17 +100,23 @@ fn lock<'a, H: Files<File = File>>(rt: &H, file: &'a str) -> Result<ImageLock, F
     }
 }
 
-/// Opens both images as disks of `blocks` blocks, the local one first.
+/// Opens both images as disks of `blocks` blocks, the local one first. Returns the disks, and the handles that sync them.
 pub(crate) fn open_both<'a, H: Files<File = File> + AllocGlobal>(
     rt: &H,
     options: &ServeOptions<'a>,
     blocks: u32,
-) -> Result<(Opened, Opened), Fault<'a>>
+) -> Result<(Disks, Both<SyncHandle<File>>), Fault<'a>>
     requires { (0 < blocks) × (blocks ≤ 262144) }
 {
     match open(rt, options.local, blocks) {
-        Ok(local) => match open(rt, options.peer, blocks) {
-            Ok(peer) => Ok((local, peer)),
+        Ok((local, local_sync)) => match open(rt, options.peer, blocks) {
+            Ok((peer, peer_sync)) => {
+                let syncs = Both {
+                    local: local_sync,
+                    peer: peer_sync,
+                };
+                Ok((Both { local, peer }, syncs))
+            }
             Err(fault) => Err(fault),
         },
         Err(fault) => Err(fault),

@@ -5,7 +5,7 @@ ghost use Rattle.serving.specs.Sessions.{NodesComeTo, counted};
 use blocks::{Refusal, Store};
 use client_threads::Service;
 use handover::parts_after;
-use image_store::ImageStore;
+use image_store::{Both, ImageStore};
 use link::{FrameIn, FrameOut};
 use primary::{Primary, Receipt};
 use secondary::Secondary;
@@ -14,7 +14,7 @@ use std::fs::File;
 use volume::Parts;
 
 /// The disks of both nodes.
-pub(crate) type Disks = (ImageStore<File>, ImageStore<File>);
+pub(crate) type Disks = Both<ImageStore<File>>;
 
 /// The results of a server's sessions.
 #[derive(Clone, Copy, Debug, PartialEq, Eq)]
@@ -71,13 +71,16 @@ pub(crate) fn bring_together(
     secondary: Secondary<impl FrameOut + Drop, impl FrameIn + Drop, ImageStore<File>>,
     worked: Result<Vec<Receipt>, Refusal>,
 ) -> Result<Rest, Refusal>
-    ensures disks { IfOk result (λ rest. (rest.disks.0.disk ≡ primary.disk) × (rest.disks.1.disk ≡ secondary.disk)) }
+    ensures disks { IfOk result (λ rest. (rest.disks.local.disk ≡ primary.disk) × (rest.disks.peer.disk ≡ secondary.disk)) }
     ensures done { IfOk result (λ _. IsOk worked) }
     ensures comes { IfOk result (λ rest. IfOk worked (λ receipts. NodesComeTo primary secondary receipts.items totals rest.totals rest.parts)) }
 {
     let (mut primary, mut secondary) = (primary, secondary);
     let compared = compare(service, totals, &mut primary, &mut secondary, worked);
-    let disks = (primary.into_store(), secondary.into_store());
+    let disks = Both {
+        local: primary.into_store(),
+        peer: secondary.into_store(),
+    };
     match compared {
         Ok((parts, totals)) => Ok(Rest {
             disks,

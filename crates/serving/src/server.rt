@@ -11,7 +11,7 @@ use crate::rest::Disks;
 use crate::sessions::run_sessions;
 use blocks::Refusal;
 use client_threads::{Listeners, Service, start_threads};
-use image_store::{ImageLock, SyncHandle};
+use image_store::{Both, ImageLock, SyncHandle};
 use numbers::SessionStatus;
 use options::ServeOptions;
 use requests::Requests;
@@ -57,10 +57,9 @@ fn serve_images<
 >(rt: &H, options: &ServeOptions<'a>, input: I, out: &mut W, err: &mut E) -> Result<(), Fault<'a>>
     ensures { OnOk result (HasServed options.now) }
 {
-    let (local, peer) = lock_both(rt, options)?;
-    let served = serve_locked(rt, options, (&local, &peer), input, err);
-    drop(local);
-    drop(peer);
+    let locks = lock_both(rt, options)?;
+    let served = serve_locked(rt, options, &locks, input, err);
+    drop(locks);
     served?.print(out)
 }
 
@@ -73,7 +72,7 @@ fn serve_locked<
 >(
     rt: &H,
     options: &ServeOptions<'a>,
-    locks: (&ImageLock, &ImageLock),
+    locks: &Both<ImageLock>,
     input: I,
     err: &mut E,
 ) -> Result<End<'a>, Fault<'a>>
@@ -82,25 +81,15 @@ fn serve_locked<
     let blocks = blocks_of(rt, options)?;
     let listeners = Listeners::open(rt, options.listen, options.status)?;
     match open_both(rt, options, blocks) {
-        Ok(((local, local_sync), (peer, peer_sync))) => {
-            match begin(
-                rt,
-                options,
-                blocks,
-                (local_sync, peer_sync),
-                listeners,
-                input,
-                err,
-            ) {
-                Ok(service) => {
-                    let end = finish(rt, &service, options, (local, peer))?;
-                    check_kept(rt, locks.0, options.local, blocks)?;
-                    check_kept(rt, locks.1, options.peer, blocks)?;
-                    Ok(end)
-                }
-                Err(fault) => Err(fault),
+        Ok((disks, syncs)) => match begin(rt, options, blocks, syncs, listeners, input, err) {
+            Ok(service) => {
+                let end = finish(rt, &service, options, disks)?;
+                check_kept(rt, &locks.local, options.local, blocks)?;
+                check_kept(rt, &locks.peer, options.peer, blocks)?;
+                Ok(end)
             }
-        }
+            Err(fault) => Err(fault),
+        },
         Err(fault) => Err(fault),
     }
 }
@@ -115,15 +104,14 @@ fn begin<
     rt: &H,
     options: &ServeOptions<'a>,
     blocks: u32,
-    syncs: (SyncHandle<File>, SyncHandle<File>),
+    syncs: Both<SyncHandle<File>>,
     listeners: Listeners,
     input: I,
     err: &mut E,
 ) -> Result<Arc<Service, Global>, Fault<'a>>
     ensures { IfOk result (λ service. (service.value.protocol ≡ options.now.protocol) × (service.value.blocks ≡ blocks)) }
 {
-    let (local, peer) = syncs;
-    let requests = Requests::new(rt.alloc(), options.protocol, local, peer);
+    let requests = Requests::new(rt.alloc(), options.protocol, syncs);
     let service = shared(Service::new(rt.alloc(), blocks, options.protocol, requests)?)?;
     let (clients, page) = (listeners.client_address(), listeners.page_address());
     start_threads(rt, &service, listeners, input)?;
@@ -141,7 +129,7 @@ fn finish<'a, H: Runtime>(
     options: &ServeOptions<'a>,
     disks: Disks,
 ) -> Result<End<'a>, Fault<'a>>
-    ensures { IfOk result (λ end. CameTo (record standard { protocol = service.now.protocol; blocks = service.now.blocks }) disks.0.disk disks.1.disk end.totals) }
+    ensures { IfOk result (λ end. CameTo (record standard { protocol = service.now.protocol; blocks = service.now.blocks }) disks.local.disk disks.peer.disk end.totals) }
 {
     let ran = run_sessions(*rt, service, options.cut_every, disks);
     let synced = service.requests.sync_images(rt);

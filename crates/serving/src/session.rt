@@ -11,7 +11,7 @@ ghost use Rattle.volume.specs.Opening.{opening_of};
 use crate::rest::{Disks, Rest, Totals, bring_together};
 use blocks::{Refusal, Settings};
 use client_threads::{Service, work};
-use image_store::ImageStore;
+use image_store::{Both, ImageStore};
 use ruled_link::{RuledIn, RuledOut, ruled};
 use std::alloc::Global;
 use std::fs::File;
@@ -76,12 +76,12 @@ fn run_named<L: Linked + Send + Sync + 'static, R: Runtime>(
 ) -> Result<Rest, Refusal>
     requires there { AreEndsOf L.link names.There there }
     requires back { AreEndsOf L.link names.Back back }
-    requires opening { L.opening ≡ opening_of parts (slice_get disks.0.disk) (slice_get disks.1.disk) }
+    requires opening { L.opening ≡ opening_of parts (slice_get disks.local.disk) (slice_get disks.peer.disk) }
     requires honest { WasHonest L.opening }
     requires unparted { IsUnparted L.opening }
     ensures session { IfOk result (λ next. IsSession L.opening totals next) }
 {
-    let (local, peer) = disks;
+    let Both { local, peer } = disks;
     match Session::<R, L, ImageStore<File>, ImageStore<File>>::start(
         rt,
         service.alloc,

@@ -17,8 +17,8 @@ pub(crate) fn run_sessions<R: Runtime>(
     cut_every: Option<u32>,
     disks: Disks,
 ) -> Result<Rest, Refusal>
-    ensures served { IfOk result (IsServed (record standard { protocol = service.now.protocol; blocks = service.now.blocks }) disks.0.disk disks.1.disk) }
-    ensures alike { IfOk result (λ rest. rest.totals.unmarked ≡ 0 → rest.totals.marked ≡ 0 → rest.disks.0.disk ≡ rest.disks.1.disk) }
+    ensures served { IfOk result (IsServed (record standard { protocol = service.now.protocol; blocks = service.now.blocks }) disks.local.disk disks.peer.disk) }
+    ensures alike { IfOk result (λ rest. rest.totals.unmarked ≡ 0 → rest.totals.marked ≡ 0 → rest.disks.local.disk ≡ rest.disks.peer.disk) }
 {
     let mut rest = first_rest(service, disks)?;
     for _ in rt.forever() {
@@ -35,7 +35,7 @@ pub(crate) fn run_sessions<R: Runtime>(
 // Returns what the first session over these disks starts from: no block is marked, and if the disks differ, the peer's has
 // the identifiers of an unknown disk (0,0,0,0).
 fn first_rest(service: &Service, disks: Disks) -> Result<Rest, Refusal>
-    ensures { IfOk result (IsFirst (record standard { protocol = service.now.protocol; blocks = service.now.blocks }) disks.0.disk disks.1.disk) }
+    ensures { IfOk result (IsFirst (record standard { protocol = service.now.protocol; blocks = service.now.blocks }) disks.local.disk disks.peer.disk) }
 {
     let mut disks = disks;
     let first = Tuple::new(1, 0, 0, 0);
@@ -81,16 +81,16 @@ fn first_parts(service: &Service, own: Tuple, peer: Tuple) -> Result<Parts, Refu
 
 // Returns whether both disks have the same blocks.
 fn are_alike(disks: &mut Disks) -> bool
-    ensures alike { IsTrue result → disks.old.0.disk ≡ disks.old.1.disk }
-    ensures same { (disks.new.0.disk ≡ disks.old.0.disk) × (disks.new.1.disk ≡ disks.old.1.disk) }
+    ensures alike { IsTrue result → disks.old.local.disk ≡ disks.old.peer.disk }
+    ensures same { (disks.new.local.disk ≡ disks.old.local.disk) × (disks.new.peer.disk ≡ disks.old.peer.disk) }
 {
-    let blocks = disks.0.blocks();
+    let blocks = disks.local.blocks();
     for number in 0..blocks {
-        if !is_alike(&mut disks.0, &mut disks.1, Block(u64::from(number))) {
+        if !is_alike(&mut disks.local, &mut disks.peer, Block(u64::from(number))) {
             return false;
         }
     }
-    disks.1.blocks() == blocks
+    disks.peer.blocks() == blocks
 }
 
 // Returns whether both disks have this block, with the same bytes.

@@ -3,7 +3,7 @@ use crate::page::resync_lines;
 use blocks::{BLOCK_BYTES, Protocol, Refusal};
 use bytes::Bytes;
 use halves::{Begun, Device};
-use image_store::ImageStore;
+use image_store::{Both, ImageStore};
 use nbd::{Command, Request};
 use primary::Receipt;
 use requests::Requests;
@@ -135,7 +135,7 @@ pub(crate) fn requests_under(
     let (_, local) = ImageStore::open(rt, image, 1).expect(rt, "an image");
     let (_, peer) = ImageStore::open(rt, image, 1).expect(rt, "an image");
     fs::remove_file(rt, image).expect(rt, "a file");
-    Requests::new(rt.alloc(), protocol, local, peer)
+    Requests::new(rt.alloc(), protocol, Both { local, peer })
 }
 
 // Begins a request `count` times over a device, ends one after another, and then finishes one after another.

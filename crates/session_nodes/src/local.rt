@@ -196,7 +196,8 @@ impl<B: Beginning, O: FrameOut + Drop, I: FrameIn + Drop, S: Store + Drop> Local
 
     /// Returns the node for reading.
     pub fn node(&self) -> &Primary<O, I, S>
-        ensures { result.now ≡ self.now }
+        ensures node { result.now ≡ self.now }
+        ensures had { PrimaryIsHad B.opening result.now }
     {
         &self.node
     }

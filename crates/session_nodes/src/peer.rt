@@ -159,7 +159,8 @@ impl<B: Beginning, O: FrameOut + Drop, I: FrameIn + Drop, S: Store + Drop> Peer<
 
     /// Returns the node for reading.
     pub fn node(&self) -> &Secondary<O, I, S>
-        ensures { result.now ≡ self.now }
+        ensures node { result.now ≡ self.now }
+        ensures had { SecondaryIsHad B.opening result.now }
     {
         &self.node
     }

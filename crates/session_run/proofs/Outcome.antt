@@ -56,7 +56,7 @@ pub outcome-of : (options : RunOptions) (o : Opening) (result : Result Report Re
     → IfOk result (λ report. IfOk worked (λ receipts. IfOk ended (λ nodes. IsNumber (λ n. n.unmarked) nodes.0 nodes.1 receipts.items report.unmarked)))
     → IfOk result (λ report. IfOk worked (λ receipts. IfOk ended (λ nodes. nodes.1.core.number ≤ nodes.0.core.connections
     → HasSettled nodes.0 nodes.1 receipts.items report.confirmed report.unmarked)))
-    → IfOk result (λ report. IfOk ended (λ nodes. (report.local ≡ nodes.0.disk) × (report.peer ≡ nodes.1.disk)))
+    → IfOk result (λ report. IfOk ended (λ nodes. (report.disks.local ≡ nodes.0.disk) × (report.disks.peer ≡ nodes.1.disk)))
     → IfOk ended (λ nodes. PrimaryIsHad (Some o) nodes.0 × SecondaryIsHad (Some o) nodes.1)
     → IfOk ended (λ nodes. nodes.1.core.number ≤ nodes.0.core.connections) → IfOk result (IsOutcome options o)
 outcome-of options o (Err refusal) worked ended honest unparted done planned count confirmed unmarked settles disks had numbered = tt
@@ -98,7 +98,7 @@ pub linked-of : (options : RunOptions) (o : Opening) (result : Result Report Ref
     → IfOk result (λ report. IfOk worked (λ receipts. IfOk ended (λ nodes. IsNumber (λ n. n.unmarked) nodes.0 nodes.1 receipts.items report.unmarked)))
     → IfOk result (λ report. IfOk worked (λ receipts. IfOk ended (λ nodes. nodes.1.core.number ≤ nodes.0.core.connections
     → HasSettled nodes.0 nodes.1 receipts.items report.confirmed report.unmarked)))
-    → IfOk result (λ report. IfOk ended (λ nodes. (report.local ≡ nodes.0.disk) × (report.peer ≡ nodes.1.disk)))
+    → IfOk result (λ report. IfOk ended (λ nodes. (report.disks.local ≡ nodes.0.disk) × (report.disks.peer ≡ nodes.1.disk)))
     → IfOk ended (λ nodes. PrimaryIsHad (Some o) nodes.0 × SecondaryIsHad (Some o) nodes.1)
     → IfOk ended (λ nodes. nodes.1.core.number ≤ nodes.0.core.connections)
     → IfOk ended (λ nodes. (p : PrimaryHistory) (s : SecondaryHistory) → PrimaryHas nodes.0 p → SecondaryHas nodes.1 s → IsJoined p s)

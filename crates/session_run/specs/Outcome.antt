@@ -73,8 +73,8 @@ pub record IsOutcome (options : RunOptions) (o : Opening) (report : Report) : Ty
   pub order : IsJoined (primary_run here (primary_at o)) (secondary_run there (secondary_at o))
       → list_any (λ accepted. is_failed accepted.outcome) (primary_run here (primary_at o)).writes ≡ false
       → KeepsWriteOrder (primary_run here (primary_at o)) (secondary_run there (secondary_at o))
-  pub local : (block : ℕ) → slice_get report.local block ≡ local_map (primary_run here (primary_at o)) block
-  pub peer : (block : ℕ) → slice_get report.peer block ≡ secondary_map (secondary_run there (secondary_at o)) block
+  pub local : (block : ℕ) → slice_get report.disks.local block ≡ local_map (primary_run here (primary_at o)) block
+  pub peer : (block : ℕ) → slice_get report.disks.peer block ≡ secondary_map (secondary_run there (secondary_at o)) block
 
 -- such an outcome of two runs that are joined
 pub record IsLinked (options : RunOptions) (o : Opening) (report : Report) : Type 0 where

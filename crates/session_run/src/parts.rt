@@ -7,12 +7,13 @@ ghost use Rattle.settle.specs.Settled.{WasHonest};
 ghost use Rattle.volume.specs.Opening.{opening_of};
 
 use blocks::{MemStore, Refusal, Tuple};
+use image_store::Both;
 use options::RunOptions;
 use std::alloc::Global;
 use volume::Parts;
 
 /// The disks of both nodes.
-pub(crate) type Disks = (MemStore, MemStore);
+pub(crate) type Disks = Both<MemStore>;
 
 /// Returns what a session of these options over these images starts from, with the disks that hold the images: no block
 /// is marked, and if the images differ, the peer's disk has the identifiers of an unknown disk (0,0,0,0). `BadSetting`
@@ -21,13 +22,13 @@ pub(crate) type Disks = (MemStore, MemStore);
 pub(crate) fn parts(
     alloc: Global,
     options: &RunOptions,
-    images: (Vec<u8>, Vec<u8>),
+    images: Both<Vec<u8>>,
 ) -> Result<(Parts, Disks), Refusal>
     ensures some_blocks { IfOk result (λ _. 0 < options.now.blocks) }
-    ensures opens { IfOk result (λ made. IsOpening (record standard { protocol = options.now.protocol; blocks = options.now.blocks }) images.0.items images.1.items
-        (opening_of made.0 (slice_get made.1.0) (slice_get made.1.1))) }
-    ensures honest { IfOk result (λ made. WasHonest (opening_of made.0 (slice_get made.1.0) (slice_get made.1.1))) }
-    ensures disks { IfOk result (λ made. (made.1.0 ≡ blocks_of 4096 images.0.items) × (made.1.1 ≡ blocks_of 4096 images.1.items)) }
+    ensures opens { IfOk result (λ made. IsOpening (record standard { protocol = options.now.protocol; blocks = options.now.blocks }) images.local.items images.peer.items
+        (opening_of made.0 (slice_get made.1.local) (slice_get made.1.peer))) }
+    ensures honest { IfOk result (λ made. WasHonest (opening_of made.0 (slice_get made.1.local) (slice_get made.1.peer))) }
+    ensures disks { IfOk result (λ made. (made.1.local ≡ blocks_of 4096 images.local.items) × (made.1.peer ≡ blocks_of 4096 images.peer.items)) }
 {
     let settings = options.settings();
     settings.check()?;
@@ -36,12 +37,16 @@ pub(crate) fn parts(
     let parts = Parts {
         settings,
         own: first,
-        peer: if images.0 == images.1 { first } else { unknown },
+        peer: if images.local == images.peer {
+            first
+        } else {
+            unknown
+        },
         marks: Vec::from_elem(alloc, false, settings.blocks as usize)?,
         sync: 2,
         loss: 3,
     };
-    let local = MemStore::from_image(images.0)?;
-    let peer = MemStore::from_image(images.1)?;
-    Ok((parts, (local, peer)))
+    let local = MemStore::from_image(images.local)?;
+    let peer = MemStore::from_image(images.peer)?;
+    Ok((parts, Both { local, peer }))
 }

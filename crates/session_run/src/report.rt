@@ -3,7 +3,9 @@ ghost use Rattle.std.specs.Prelude.{◌≡◌, ◌≤◌, ◌*◌, ◌↔◌, ve
 ghost use Rattle.session_run.specs.Outcome.{HasSettled, IsNumber};
 
 use crate::fault::Fault;
+use crate::parts::Disks;
 use blocks::{MemStore, Refusal};
+use image_store::Both;
 use link::{FrameIn, FrameOut};
 use node_lines::{primary_line, secondary_line};
 use options::RunOptions;
@@ -23,8 +25,7 @@ pub(crate) struct Report {
     pub(crate) unmarked: u32,
     /// What the status lines of both nodes show at the end, if the options ask for them.
     pub(crate) status: Option<(PrimaryLine, SecondaryLine)>,
-    pub(crate) local: MemStore,
-    pub(crate) peer: MemStore,
+    pub(crate) disks: Disks,
 }
 
 impl Report {
@@ -59,7 +60,7 @@ pub(crate) fn conclude<
     ensures unmarked { IfOk result (λ report. IfOk worked (λ receipts. IfOk ended (λ nodes. IsNumber (λ n. n.unmarked) nodes.0 nodes.1 receipts.items report.unmarked))) }
     ensures settles { IfOk result (λ report. IfOk worked (λ receipts. IfOk ended (λ nodes. nodes.1.core.number ≤ nodes.0.core.connections
         → HasSettled nodes.0 nodes.1 receipts.items report.confirmed report.unmarked))) }
-    ensures disks { IfOk result (λ report. IfOk ended (λ nodes. (report.local ≡ nodes.0.disk) × (report.peer ≡ nodes.1.disk))) }
+    ensures disks { IfOk result (λ report. IfOk ended (λ nodes. (report.disks.local ≡ nodes.0.disk) × (report.disks.peer ≡ nodes.1.disk))) }
 {
     let (mut primary, mut secondary) = match ended {
         Ok(nodes) => nodes,
@@ -67,15 +68,17 @@ pub(crate) fn conclude<
     };
     let settled = settled_by(&mut primary, &mut secondary, worked);
     let status = status(options, &primary, &secondary);
-    let (local, peer) = (primary.into_store(), secondary.into_store());
+    let disks = Both {
+        local: primary.into_store(),
+        peer: secondary.into_store(),
+    };
     let (completed, settled) = settled?;
     Ok(Report {
         completed,
         confirmed: settled.confirmed,
         unmarked: settled.unmarked,
         status,
-        local,
-        peer,
+        disks,
     })
 }
 

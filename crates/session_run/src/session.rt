@@ -9,6 +9,7 @@ ghost use Rattle.volume.specs.Opening.{opening_of};
 use crate::parts::{Disks, parts};
 use crate::report::{Report, conclude};
 use blocks::{MemStore, Refusal};
+use image_store::Both;
 use options::RunOptions;
 use ruled_link::{RuledIn, RuledOut, ruled};
 use run_threads::work;
@@ -26,11 +27,11 @@ pub(crate) fn run_session<R: Runtime, E: Write + Send>(
     rt: R,
     alloc: Global,
     options: &RunOptions,
-    images: (Vec<u8>, Vec<u8>),
+    images: Both<Vec<u8>>,
     err: &mut E,
 ) -> Result<Report, Refusal>
     ensures completed { IfOk result (λ report. report.completed ≡ options.now.writers * options.now.writes) }
-    ensures outcome { IfOk result (IsRun options.now images.0.items images.1.items) }
+    ensures outcome { IfOk result (IsRun options.now images.local.items images.peer.items) }
 {
     let (parts, disks) = parts(alloc, options, images)?;
     let there = ruled(rt, alloc, parts.settings.link)?;
@@ -52,13 +53,13 @@ fn run_named<L: Linked + Send + Sync + 'static, R: Runtime, E: Write + Send>(
     requires blocks { 0 < options.now.blocks }
     requires there { AreEndsOf L.link names.There there }
     requires back { AreEndsOf L.link names.Back back }
-    requires opening { L.opening ≡ opening_of parts (slice_get disks.0) (slice_get disks.1) }
+    requires opening { L.opening ≡ opening_of parts (slice_get disks.local) (slice_get disks.peer) }
     requires honest { WasHonest L.opening }
     requires unparted { L.opening.own.bitmap ≡ 0 }
     ensures completed { IfOk result (λ report. report.completed ≡ options.now.writers * options.now.writes) }
     ensures outcome { IfOk result (IsLinked options.now L.opening) }
 {
-    let (local, peer) = disks;
+    let Both { local, peer } = disks;
     match Session::<R, L, MemStore, MemStore>::start(rt, alloc, there, back, local, peer, parts) {
         Ok(session) => {
             let worked = work(&rt, alloc, session.mirror(), options, err);

@@ -8,6 +8,7 @@ ghost use Rattle.volume.specs.Opening.{opening_of};
 use crate::parts::{Disks, parts};
 use crate::report::{Report, conclude};
 use blocks::{MemStore, Refusal};
+use image_store::Both;
 use options::RunOptions;
 use run_threads::work;
 use std::alloc::Global;
@@ -25,13 +26,13 @@ pub(crate) fn run_over<R: Runtime, E: Write + Send>(
     rt: R,
     alloc: Global,
     options: &RunOptions,
-    images: (Vec<u8>, Vec<u8>),
+    images: Both<Vec<u8>>,
     ways: (Socket, Socket),
     err: &mut E,
 ) -> Result<Report, Refusal>
     requires { options.now.path ≡ path.Sockets }
     ensures completed { IfOk result (λ report. report.completed ≡ options.now.writers * options.now.writes) }
-    ensures outcome { IfOk result (IsRun options.now images.0.items images.1.items) }
+    ensures outcome { IfOk result (IsRun options.now images.local.items images.peer.items) }
 {
     let (parts, disks) = parts(alloc, options, images)?;
     run_begun::<Brand, R, E>(rt, alloc, options, ways, disks, parts, err)
@@ -48,13 +49,13 @@ fn run_begun<B: Beginning + Send + Sync + 'static, R: Runtime, E: Write + Send>(
     err: &mut E,
 ) -> Result<Report, Refusal>
     requires blocks { 0 < options.now.blocks }
-    requires opening { B.opening ≡ Some (opening_of parts (slice_get disks.0) (slice_get disks.1)) }
-    requires honest { WasHonest (opening_of parts (slice_get disks.0) (slice_get disks.1)) }
+    requires opening { B.opening ≡ Some (opening_of parts (slice_get disks.local) (slice_get disks.peer)) }
+    requires honest { WasHonest (opening_of parts (slice_get disks.local) (slice_get disks.peer)) }
     requires unparted { parts.own.bitmap ≡ 0 }
     ensures completed { IfOk result (λ report. report.completed ≡ options.now.writers * options.now.writes) }
-    ensures outcome { IfOk result (IsOutcome options.now (opening_of parts (slice_get disks.0) (slice_get disks.1))) }
+    ensures outcome { IfOk result (IsOutcome options.now (opening_of parts (slice_get disks.local) (slice_get disks.peer))) }
 {
-    let (local, peer) = disks;
+    let Both { local, peer } = disks;
     match WireSession::<R, B, MemStore, MemStore>::start_over(rt, alloc, local, peer, parts, ways) {
         Ok(session) => {
             let worked = work(&rt, alloc, session.mirror(), options, err);

@@ -11,6 +11,7 @@ use crate::saving::save;
 use crate::session::run_session;
 use crate::sockets::run_over;
 use blocks::Refusal;
+use image_store::Both;
 use numbers::SessionStatus;
 use options::{Images, Path, RunOptions};
 use run_threads::print_status;
@@ -66,12 +67,16 @@ fn run_images<
     let local = load(rt, &local_image, options.blocks)?;
     let peer_image = LockedImage::take(rt, images.peer, "peer-new")?;
     let peer = load(rt, &peer_image, options.blocks)?;
-    let mut report = run_disks(rt, options, (local, peer), err)?;
+    let mut report = run_disks(rt, options, Both { local, peer }, err)?;
     if let Some(lines) = report.status {
         let _ = print_status(lines, err);
     }
     report.check_marks()?;
-    save(rt, (local_image, peer_image), &mut report)?;
+    let locked = Both {
+        local: local_image,
+        peer: peer_image,
+    };
+    save(rt, locked, &mut report)?;
     match print(&report, out) {
         Ok(()) => Ok(()),
         Err(error) => Err(Fault::Unwritten(error)),
@@ -82,11 +87,11 @@ fn run_images<
 fn run_disks<'a, H: Host + Net<Listener = TcpListener, Stream = TcpStream>, E: Write + Send>(
     rt: &H,
     options: &RunOptions,
-    images: (Vec<u8>, Vec<u8>),
+    images: Both<Vec<u8>>,
     err: &mut E,
 ) -> Result<Report, Fault<'a>>
     ensures completed { IfOk result (λ report. report.completed ≡ options.now.writers * options.now.writes) }
-    ensures outcome { IfOk result (IsRun options.now images.0.items images.1.items) }
+    ensures outcome { IfOk result (IsRun options.now images.local.items images.peer.items) }
 {
     let report = match options.path {
         Path::Link => run_session(*rt, rt.alloc(), options, images, err),

@@ -24,7 +24,11 @@ use wire_session::{Socket, Unknown, WireSession, loopback};
 pub(crate) const BLOCKS: u32 = 8_192;
 
 /// The disks of both nodes.
-type Disks = (MemStore, MemStore);
+#[derive(Drop)]
+struct Disks {
+    local: MemStore,
+    peer: MemStore,
+}
 
 /// How frames go from one node to the other.
 #[derive(Clone, Copy, Debug, PartialEq, Eq)]
@@ -82,7 +86,7 @@ fn parts(alloc: Global, plan: Plan) -> Result<(Parts, Disks), Refusal> {
     };
     let local = MemStore::zeroed(alloc, BLOCKS)?;
     let peer = MemStore::zeroed(alloc, BLOCKS)?;
-    Ok((parts, (local, peer)))
+    Ok((parts, Disks { local, peer }))
 }
 
 // Runs a session over a link.
@@ -105,9 +109,9 @@ fn run_named<L: Linked + Send + Sync + 'static, R: Runtime>(
 ) -> Result<Report, Refusal>
     requires there { AreEndsOf L.link names.There there }
     requires back { AreEndsOf L.link names.Back back }
-    requires opening { L.opening ≡ opening_of parts (slice_get disks.0) (slice_get disks.1) }
+    requires opening { L.opening ≡ opening_of parts (slice_get disks.local) (slice_get disks.peer) }
 {
-    let (local, peer) = disks;
+    let Disks { local, peer } = disks;
     let session = Session::<R, L, MemStore, MemStore>::start(
         rt, alloc, there, back, local, peer, parts,
     )?;
@@ -123,7 +127,7 @@ fn run_over<R: Runtime>(
     plan: Plan,
     ways: (Socket, Socket),
 ) -> Result<Report, Refusal> {
-    let (parts, (local, peer)) = parts(alloc, plan)?;
+    let (parts, Disks { local, peer }) = parts(alloc, plan)?;
     let session = WireSession::<R, Unknown, MemStore, MemStore>::start_over(
         rt, alloc, local, peer, parts, ways,
     )?;

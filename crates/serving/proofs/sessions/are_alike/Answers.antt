@@ -6,7 +6,7 @@ use Rattle.serving.proofs.sessions.are_alike.Goals as goal
 pub returns-clause-alike : goal.returns-clause-alike
 returns-clause-alike c = λ same.
     let equal : c.blocks-2.result ≡ c.blocks-blocks.result = eqb-true _ _ same in
-    let local : c.blocks-blocks.result ≡ length c.args.disks.now.0.disk = c.blocks-blocks.ensures in
-    let peer : c.blocks-2.result ≡ length c.args.disks.now.1.disk = c.blocks-2.ensures ∙ ap (λ (l : List (List ℕ)). length l) c.loop-number.invariant.peer in
+    let local : c.blocks-blocks.result ≡ length c.args.disks.now.local.disk = c.blocks-blocks.ensures in
+    let peer : c.blocks-2.result ≡ length c.args.disks.now.peer.disk = c.blocks-2.ensures ∙ ap (λ (l : List (List ℕ)). length l) c.loop-number.invariant.peer in
     let end : c.blocks-blocks.result ≤ c.loop-number.number = c.loop-number-test.false in
     same-lists _ _ (omega (arith, equal, local, peer)) (λ k less. c.loop-number.invariant.alike k (omega (arith, less, local, end)))

@@ -12,6 +12,6 @@ invariant-loop g l = record {
   honest : WasHonest (opening l.rest);
   unparted : IsUnparted (opening l.rest);
   came : (first : Rest) × (earlier : List Rest)
-      × (IsFirst (record standard { protocol = l.fn.service.protocol; blocks = l.fn.service.blocks }) l.fn.disks.0.disk l.fn.disks.1.disk first
+      × (IsFirst (record standard { protocol = l.fn.service.protocol; blocks = l.fn.service.blocks }) l.fn.disks.local.disk l.fn.disks.peer.disk first
       × HasCome first earlier l.rest);
 }

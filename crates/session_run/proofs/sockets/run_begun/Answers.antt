@@ -9,7 +9,7 @@ use Rattle.volume.specs.Opening.{opening_of}
 
 pub returns-in-Ok-clause-outcome : goal.returns-in-Ok-clause-outcome
 returns-in-Ok-clause-outcome g c =
-    outcome-of c.args.options.now (opening_of c.args.parts (slice_get c.args.disks.0) (slice_get c.args.disks.1)) c.conclude.result
+    outcome-of c.args.options.now (opening_of c.args.parts (slice_get c.args.disks.local) (slice_get c.args.disks.peer)) c.conclude.result
     c.work-worked.result c.finish.result c.requires.honest c.requires.unparted c.conclude.ensures.done
     (subst (λ o. IfOk c.work-worked.result (λ receipts. AreOfPlan (HasAccepted o) c.args.options.now receipts.items)) c.requires.opening
     c.work-worked.ensures.plan)

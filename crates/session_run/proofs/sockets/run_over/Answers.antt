@@ -5,5 +5,6 @@ use Rattle.volume.specs.Opening.{opening_of}
 
 pub returns-clause-outcome : goal.returns-clause-outcome
 returns-clause-outcome g c =
-    wire-run c.args.options.now c.run_begun.result (opening_of c.in_ok-parts.parts (slice_get c.in_ok-parts.disks.0) (slice_get c.in_ok-parts.disks.1)) _ _
+    wire-run c.args.options.now c.run_begun.result
+    (opening_of c.in_ok-parts.parts (slice_get c.in_ok-parts.disks.local) (slice_get c.in_ok-parts.disks.peer)) _ _
     c.requires c.in_ok-parts.ensures.opens c.run_begun.ensures.outcome

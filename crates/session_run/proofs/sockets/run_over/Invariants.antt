@@ -4,4 +4,4 @@ use Rattle.volume.specs.Opening.{opening_of}
 
 -- the opening that these parts and disks are
 abbrev pub ghosts-run_begun : goal.ghosts-run_begun
-ghosts-run_begun g a = record { opening = Some (opening_of a.parts (slice_get a.disks.0) (slice_get a.disks.1)) }
+ghosts-run_begun g a = record { opening = Some (opening_of a.parts (slice_get a.disks.local) (slice_get a.disks.peer)) }
