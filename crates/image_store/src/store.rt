@@ -1,5 +1,5 @@
 //! The disk over an image file.
-ghost use Rattle.std.specs.Prelude.{◌≡◌, ◌+◌, ◌*◌, ◌<◌, ◌≤◌, length, slice_get, Some, IsOk, IfOk, IfErr, OnOk, OnErr};
+ghost use Rattle.std.specs.Prelude.{◌≡◌, ◌+◌, ◌*◌, ◌<◌, ◌≤◌, false, length, slice_get, true, Some, IsOk, IfOk, IfErr, OnOk, OnErr};
 ghost use Rattle.blocks.specs.Contents.{blocks_of, overwritten, IsTorn};
 ghost use Rattle.blocks.specs.declared.block.TheConstants.{BLOCK_BYTES};
 ghost use Rattle.image_store.specs.Faults.{IsWrongFor};
@@ -27,7 +27,7 @@ impl<F> Model for ImageStore<F> {
 
     ghost Value = { ImageState };
 
-    ghost view = { λ s. record { disk = s.memory; faults = s.faults.count } };
+    ghost view = { λ s. record { disk = s.memory; faults = s.faults.count; torn = s.is_torn } };
 
     ghost invariant = { λ s. length s.memory ≤ 262144 };
 }
@@ -37,7 +37,7 @@ impl<F: FileExt> ImageStore<F> {
     /// whatever is read and written at places will do. Takes no memory.
     pub fn over(file: F, memory: MemStore) -> ImageStore<F>
         requires { length memory ≤ 262144 }
-        ensures { result ≡ record { disk = memory; faults = 0 } }
+        ensures { result ≡ record { disk = memory; faults = 0; torn = false } }
     {
         ImageStore {
             file,
@@ -50,7 +50,9 @@ impl<F: FileExt> ImageStore<F> {
     /// Returns whether the file may have kept a part of a write that it refused: the store could not write back what
     /// memory has there, nor read it from the file. Memory, from which all reads are served, has nothing of that write. A
     /// later write to the same place does not change the answer.
-    pub fn is_torn(&self) -> bool {
+    pub fn is_torn(&self) -> bool
+        ensures { result ≡ self.now.torn }
+    {
         self.is_torn
     }
 }
@@ -72,6 +74,7 @@ impl<F: FileExt + OpenFile + Drop> ImageStore<F> {
         requires few { blocks ≤ 262144 }
         ensures size { IfOk result (λ opened. length opened.0.disk ≡ blocks) }
         ensures no_faults { IfOk result (λ opened. opened.0.faults ≡ 0) }
+        ensures untorn { IfOk result (λ opened. opened.0.torn ≡ false) }
         ensures wrong_length { IfErr result (IsWrongFor blocks) }
     {
         let file = OpenOptions::new()
@@ -103,7 +106,8 @@ impl<F: FileExt> Store for ImageStore<F> {
           disk =
               overwritten self.old.disk range.first.0 (blocks_of BLOCK_BYTES bytes.now);
         }) }
-        ensures kept { OnErr result (self.new ≡ record self.old { faults = self.old.faults + 1 }) }
+        ensures kept { OnErr result (self.new ≡ record self.old { faults = self.old.faults + 1; torn = self.new.torn }) }
+        ensures stays { self.old.torn ≡ true → self.new.torn ≡ true }
         ensures torn { OnErr result (IsTorn self.old.disk range.first.0
             (blocks_of BLOCK_BYTES bytes.now) self.new.disk) }
         ensures size { length self.new.disk ≡ length self.old.disk }

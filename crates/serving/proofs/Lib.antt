@@ -1,3 +1,4 @@
 -- When two disks are alike, and what sessions leave.
 pub mod Alike
 pub mod Ended
+pub mod Succeeding

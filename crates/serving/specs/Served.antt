@@ -1,30 +1,40 @@
 -- What a server comes to.
-use Rattle.std.specs.Prelude.{ℕ, ◌≡◌, List, IfSome}
+use Rattle.std.specs.Prelude.{ℕ, ◌≡◌, ◌<◌, ◌≤◌, false, List, None, IfSome}
 use Rattle.blocks.specs.SettingsRange.{standard}
 use Rattle.blocks.specs.declared.settings.Settings.{Settings}
 use Rattle.options.specs.declared.serve.ServeOptions.{ServeOptions}
 use Rattle.serving.specs.Sessions.{IsServed}
+use Rattle.serving.specs.declared.end.End.{End}
 use Rattle.serving.specs.declared.rest.Rest.{Rest}
-use Rattle.serving.specs.declared.rest.Totals.{Totals}
 
--- Sessions with these settings went over these disks, and came to these totals. If these tell of no block that differs or is marked,
--- both disks are one.
-pub record CameTo (chosen : Settings) (local peer : List (List ℕ)) (totals : Totals) : Type 0 where
+-- the options ask for no size, or for one that a device has
+abbrev pub AreInRange : ServeOptions → Type 0
+AreInRange options = IfSome options.blocks (λ asked. (0 < asked) × (asked ≤ 262144))
+
+-- no image may have kept a part of a write that failed
+abbrev pub AreWhole : Rest → Type 0
+AreWhole rest = (rest.disks.local.torn ≡ false) × (rest.disks.peer.torn ≡ false)
+
+-- Sessions with these settings went over these disks, and came to this end. If its totals tell of no block that differs or is marked,
+-- both disks are one, and if it names no torn image, there is none.
+pub record CameTo (chosen : Settings) (local peer : List (List ℕ)) (end : End) : Type 0 where
   pub rest : Rest
   pub served : IsServed chosen local peer rest
-  pub results : totals ≡ rest.totals
-  pub alike : totals.unmarked ≡ 0 → totals.marked ≡ 0 → rest.disks.local.disk ≡ rest.disks.peer.disk
+  pub results : end.totals ≡ rest.totals
+  pub alike : end.totals.unmarked ≡ 0 → end.totals.marked ≡ 0 → rest.disks.local.disk ≡ rest.disks.peer.disk
+  pub whole : end.torn ≡ None → AreWhole rest
 
--- A server with these options came to these totals, over two disks of `blocks` blocks, as many as the options ask for if they do.
-pub record HasEnded (options : ServeOptions) (totals : Totals) : Type 0 where
+-- A server with these options came to this end, over two disks of `blocks` blocks, as many as the options ask for if they do.
+pub record HasEnded (options : ServeOptions) (end : End) : Type 0 where
   pub blocks : ℕ
   pub asked : IfSome options.blocks (λ asked. blocks ≡ asked)
   pub local : List (List ℕ)
   pub peer : List (List ℕ)
-  pub all : CameTo (record standard { protocol = options.protocol; blocks = blocks }) local peer totals
+  pub all : CameTo (record standard { protocol = options.protocol; blocks = blocks }) local peer end
 
--- such a server, whose disks are one at the end
+-- such a server, whose disks are one at the end, and whose images are whole
 pub record HasServed (options : ServeOptions) : Type 0 where
-  pub totals : Totals
-  pub ended : HasEnded options totals
+  pub end : End
+  pub ended : HasEnded options end
   pub alike : ended.all.rest.disks.local.disk ≡ ended.all.rest.disks.peer.disk
+  pub whole : AreWhole ended.all.rest

@@ -1,6 +1,11 @@
 //! Failures of a server.
 ghost use Rattle.std.specs.Prelude.{◌≡◌};
+ghost use Rattle.blocks.specs.declared.refusal.Refusal.{Refusal};
+ghost use Rattle.blocks.specs.declared.refusal.Refusal.TheVariants as refusal;
+ghost use Rattle.client_threads.specs.declared.threads.StartFault.TheVariants.{NoMemory};
+ghost use Rattle.numbers.specs.Statuses.{status_of};
 ghost use Rattle.numbers.specs.declared.status.SessionStatus.TheVariants as status;
+ghost use Rattle.serving.specs.declared.fault.Fault.TheVariants.{Refused, Unbound, Unstarted};
 
 use blocks::{BLOCK_BYTES, MAX_BLOCKS, Refusal};
 use client_threads::{ListenFault, StartFault};
@@ -38,7 +43,8 @@ pub(crate) enum Fault<'a> {
 impl Fault<'_> {
     /// Returns how the session ends with it.
     pub(crate) fn status(&self) -> SessionStatus
-        ensures { result ≡ status.Done → ⊥ }
+        ensures done { result ≡ status.Done → ⊥ }
+        ensures refused { (refusal : Refusal) → self.now ≡ Refused refusal → result ≡ status_of refusal }
     {
         match self {
             Fault::Refused(refusal) => SessionStatus::of(*refusal),
@@ -81,13 +87,18 @@ impl fmt::Display for Fault<'_> {
 }
 
 impl<'a> From<ListenFault> for Fault<'a> {
-    fn from(fault: ListenFault) -> Fault<'a> {
+    fn from(fault: ListenFault) -> Fault<'a>
+        ensures { result ≡ Unbound fault }
+    {
         Fault::Unbound(fault)
     }
 }
 
 impl<'a> From<StartFault> for Fault<'a> {
-    fn from(fault: StartFault) -> Fault<'a> {
+    fn from(fault: StartFault) -> Fault<'a>
+        ensures memory { fault ≡ NoMemory → result ≡ Refused refusal.NoMemory }
+        ensures other { (fault ≡ NoMemory → ⊥) → result ≡ Unstarted fault }
+    {
         match fault {
             StartFault::NoMemory => Fault::Refused(Refusal::NoMemory),
             fault => Fault::Unstarted(fault),
@@ -96,7 +107,9 @@ impl<'a> From<StartFault> for Fault<'a> {
 }
 
 impl<'a> From<Refusal> for Fault<'a> {
-    fn from(refusal: Refusal) -> Fault<'a> {
+    fn from(refusal: Refusal) -> Fault<'a>
+        ensures { result ≡ Refused refusal }
+    {
         Fault::Refused(refusal)
     }
 }

@@ -1,6 +1,8 @@
 //! The images of a server: their locks, their disks, and what became of them.
-ghost use Rattle.std.specs.Prelude.{◌≡◌, ◌<◌, ◌≤◌, None, Some, IfErr, IfOk, IfSome, IsOk};
+ghost use Rattle.std.specs.Prelude.{◌≡◌, ◌<◌, ◌≤◌, ◌↔◌, false, true, None, Some, IfErr, IfOk, IfSome, IsOk};
+ghost use Rattle.blocks.specs.declared.refusal.Refusal.TheVariants.{BadSetting};
 ghost use Rattle.requests.specs.declared.sync_fault.Side.TheVariants.{Local, Peer};
+ghost use Rattle.serving.specs.Served.{AreInRange};
 
 use crate::fault::Fault;
 use crate::rest::Disks;
@@ -33,7 +35,11 @@ pub(crate) fn unsynced_image<'a>(
 }
 
 /// Returns the image that may have kept parts of a write that failed, the local one first.
-pub(crate) fn torn_image<'a>(options: &ServeOptions<'a>, disks: &Disks) -> Option<&'a str> {
+pub(crate) fn torn_image<'a>(options: &ServeOptions<'a>, disks: &Disks) -> Option<&'a str>
+    ensures none { result ≡ None → (disks.now.local.torn ≡ false) × (disks.now.peer.torn ≡ false) }
+    ensures local { disks.now.local.torn ≡ true → result ≡ Some options.now.local }
+    ensures peer { disks.now.local.torn ≡ false → disks.now.peer.torn ≡ true → result ≡ Some options.now.peer }
+{
     if disks.local.is_torn() {
         return Some(options.local);
     }
@@ -43,23 +49,32 @@ pub(crate) fn torn_image<'a>(options: &ServeOptions<'a>, disks: &Disks) -> Optio
     None
 }
 
+/// Checks that the options ask for no size, or for one that a device has. `BadSetting` (15) if they do not.
+pub(crate) fn check_size(options: &ServeOptions<'_>) -> Result<(), Refusal>
+    ensures accepted { IsOk result ↔ AreInRange options.now }
+    ensures refused { IfErr result (λ e. e ≡ BadSetting) }
+{
+    match options.blocks {
+        Some(blocks) if blocks == 0 || blocks > MAX_BLOCKS => Err(Refusal::BadSetting),
+        _ => Ok(()),
+    }
+}
+
 /// Returns the device's size in blocks: as many as are asked for, else those of the local image.
 pub(crate) fn blocks_of<'a, H: Files>(rt: &H, options: &ServeOptions<'a>) -> Result<u32, Fault<'a>>
+    requires { AreInRange options.now }
     ensures range { IfOk result (λ blocks. (0 < blocks) × (blocks ≤ 262144)) }
     ensures asked { IfOk result (λ blocks. IfSome options.now.blocks (λ asked. blocks ≡ asked)) }
 {
-    let blocks = match options.blocks {
-        Some(blocks) => u64::from(blocks),
-        None => match fs::metadata(rt, options.local) {
-            Ok(metadata) => metadata.len() / BLOCK_BYTES as u64,
-            Err(error) => return Err(Fault::Unopened(options.local, OpenFault::Unread(error))),
-        },
+    if let Some(blocks) = options.blocks {
+        return Ok(blocks);
+    }
+    let blocks = match fs::metadata(rt, options.local) {
+        Ok(metadata) => metadata.len() / BLOCK_BYTES as u64,
+        Err(error) => return Err(Fault::Unopened(options.local, OpenFault::Unread(error))),
     };
     if blocks == 0 || blocks > u64::from(MAX_BLOCKS) {
-        return Err(match options.blocks {
-            Some(_) => Fault::Refused(Refusal::BadSetting),
-            None => Fault::NoDevice(options.local),
-        });
+        return Err(Fault::NoDevice(options.local));
     }
     Ok(blocks as u32)
 }

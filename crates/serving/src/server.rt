@@ -1,12 +1,16 @@
 //! A server, from its images to the lines that it prints.
-ghost use Rattle.std.specs.Prelude.{◌≡◌, IfOk, OnOk};
+ghost use Rattle.std.specs.Prelude.{◌≡◌, Err, IfOk, OnOk};
 ghost use Rattle.blocks.specs.SettingsRange.{standard};
+ghost use Rattle.blocks.specs.declared.refusal.Refusal.TheVariants.{BadSetting};
 ghost use Rattle.numbers.specs.declared.status.SessionStatus.TheVariants as status;
-ghost use Rattle.serving.specs.Served.{HasEnded, HasServed, CameTo};
+ghost use Rattle.serving.specs.Served.{AreInRange, CameTo, HasEnded, HasServed};
+ghost use Rattle.serving.specs.declared.fault.Fault.TheVariants.{Refused};
 
 use crate::end::End;
 use crate::fault::Fault;
-use crate::images::{blocks_of, check_kept, lock_both, open_both, torn_image, unsynced_image};
+use crate::images::{
+    blocks_of, check_kept, check_size, lock_both, open_both, torn_image, unsynced_image,
+};
 use crate::rest::Disks;
 use crate::sessions::run_sessions;
 use blocks::Refusal;
@@ -29,14 +33,16 @@ use volume::{Host, Runtime};
 /// `Done` if all is done, both disks are one, and both images are on stable storage; `Failed` if a file, a sync, an address,
 /// the output, memory or a thread failed, an image is in use, was changed by others or may have kept parts of a write that
 /// failed, the disks differ without a mark, or blocks are still marked; `Refused` for any other refusal. For the last two a
-/// line on `err` says why. The end of `input` is no order to end.
+/// line on `err` says why; that the options ask for a size which no device has (15) comes before all else. The end of
+/// `input` is no order to end.
 pub fn serve<
     H: Host + Files<File = File> + Net<Listener = TcpListener, Stream = TcpStream> + RandomSource,
     I: Read + Drop + Send + 'static,
     W: Write,
     E: Write,
 >(rt: &H, options: &ServeOptions<'_>, input: I, out: &mut W, err: &mut E) -> SessionStatus
-    ensures { result ≡ status.Done → HasServed options.now }
+    ensures done { result ≡ status.Done → HasServed options.now }
+    ensures refused { (AreInRange options.now → ⊥) → result ≡ status.Refused }
 {
     match serve_images(rt, options, input, out, err) {
         Ok(()) => SessionStatus::Done,
@@ -47,7 +53,7 @@ pub fn serve<
     }
 }
 
-// Serves both images under their locks, and prints what came of it.
+// Serves both images if the options ask for no size, or for one that a device has.
 fn serve_images<
     'a,
     H: Host + Files<File = File> + Net<Listener = TcpListener, Stream = TcpStream> + RandomSource,
@@ -55,6 +61,24 @@ fn serve_images<
     W: Write,
     E: Write,
 >(rt: &H, options: &ServeOptions<'a>, input: I, out: &mut W, err: &mut E) -> Result<(), Fault<'a>>
+    ensures done { OnOk result (HasServed options.now) }
+    ensures refused { (AreInRange options.now → ⊥) → result ≡ Err (Refused BadSetting) }
+{
+    match check_size(options) {
+        Ok(()) => serve_sized(rt, options, input, out, err),
+        Err(refusal) => Err(Fault::Refused(refusal)),
+    }
+}
+
+// Serves both images under their locks, and prints what came of it.
+fn serve_sized<
+    'a,
+    H: Host + Files<File = File> + Net<Listener = TcpListener, Stream = TcpStream> + RandomSource,
+    I: Read + Drop + Send + 'static,
+    W: Write,
+    E: Write,
+>(rt: &H, options: &ServeOptions<'a>, input: I, out: &mut W, err: &mut E) -> Result<(), Fault<'a>>
+    requires { AreInRange options.now }
     ensures { OnOk result (HasServed options.now) }
 {
     let locks = lock_both(rt, options)?;
@@ -76,7 +100,8 @@ fn serve_locked<
     input: I,
     err: &mut E,
 ) -> Result<End<'a>, Fault<'a>>
-    ensures { IfOk result (λ end. HasEnded options.now end.totals) }
+    requires { AreInRange options.now }
+    ensures { IfOk result (HasEnded options.now) }
 {
     let blocks = blocks_of(rt, options)?;
     let listeners = Listeners::open(rt, options.listen, options.status)?;
@@ -129,7 +154,7 @@ fn finish<'a, H: Runtime>(
     options: &ServeOptions<'a>,
     disks: Disks,
 ) -> Result<End<'a>, Fault<'a>>
-    ensures { IfOk result (λ end. CameTo (record standard { protocol = service.now.protocol; blocks = service.now.blocks }) disks.local.disk disks.peer.disk end.totals) }
+    ensures { IfOk result (CameTo (record standard { protocol = service.now.protocol; blocks = service.now.blocks }) disks.local.disk disks.peer.disk) }
 {
     let ran = run_sessions(*rt, service, options.cut_every, disks);
     let synced = service.requests.sync_images(rt);

@@ -1,6 +1,10 @@
 //! Failures of a run.
 ghost use Rattle.std.specs.Prelude.{◌≡◌};
+ghost use Rattle.blocks.specs.declared.refusal.Refusal.{Refusal};
+ghost use Rattle.blocks.specs.declared.refusal.Refusal.TheVariants.{NoMemory};
+ghost use Rattle.numbers.specs.Statuses.{status_of};
 ghost use Rattle.numbers.specs.declared.status.SessionStatus.TheVariants as status;
+ghost use Rattle.session_run.specs.declared.fault.Fault.TheVariants.{Refused};
 
 use blocks::Refusal;
 use image_store::OpenFault;
@@ -41,7 +45,8 @@ pub(crate) enum Fault<'a> {
 impl Fault<'_> {
     /// Returns how the session ends with it.
     pub(crate) fn status(&self) -> SessionStatus
-        ensures { result ≡ status.Done → ⊥ }
+        ensures done { result ≡ status.Done → ⊥ }
+        ensures refused { (refusal : Refusal) → self.now ≡ Refused refusal → result ≡ status_of refusal }
     {
         match self {
             Fault::Refused(refusal) => SessionStatus::of(*refusal),
@@ -96,13 +101,17 @@ impl fmt::Display for Fault<'_> {
 }
 
 impl<'a> From<Refusal> for Fault<'a> {
-    fn from(refusal: Refusal) -> Fault<'a> {
+    fn from(refusal: Refusal) -> Fault<'a>
+        ensures { result ≡ Refused refusal }
+    {
         Fault::Refused(refusal)
     }
 }
 
 impl<'a> From<AllocError> for Fault<'a> {
-    fn from(_: AllocError) -> Fault<'a> {
+    fn from(_: AllocError) -> Fault<'a>
+        ensures { result ≡ Refused NoMemory }
+    {
         Fault::Refused(Refusal::NoMemory)
     }
 }

@@ -1,7 +1,10 @@
 //! A run, from its images to the lines that it prints.
-ghost use Rattle.std.specs.Prelude.{◌≡◌, ◌*◌, IfOk, OnOk};
+ghost use Rattle.std.specs.Prelude.{◌≡◌, ◌*◌, ◌≤◌, Err, IfOk, OnOk};
+ghost use Rattle.blocks.specs.SettingsRange.{IsInRange, standard};
+ghost use Rattle.blocks.specs.declared.refusal.Refusal.TheVariants.{BadSetting};
 ghost use Rattle.numbers.specs.declared.status.SessionStatus.TheVariants as status;
 ghost use Rattle.session_run.specs.Outcome.{HasRun, IsRun};
+ghost use Rattle.session_run.specs.declared.fault.Fault.TheVariants.{Refused};
 
 use crate::fault::Fault;
 use crate::images::load;
@@ -37,7 +40,8 @@ pub fn run<
     W: Write,
     E: Write + Send,
 >(rt: &H, options: &RunOptions, images: &Images<'_>, out: &mut W, err: &mut E) -> SessionStatus
-    ensures { result ≡ status.Done → HasRun options.now }
+    ensures done { result ≡ status.Done → HasRun options.now }
+    ensures refused { (IsInRange (record standard { protocol = options.now.protocol; blocks = options.now.blocks }) → ⊥) → result ≡ status.Refused }
 {
     match run_images(rt, options, images, out, err) {
         Ok(()) => SessionStatus::Done,
@@ -48,6 +52,7 @@ pub fn run<
     }
 }
 
+// Runs the session if the options are in their ranges.
 fn run_images<
     'a,
     H: Host + Files<File = File> + Net<Listener = TcpListener, Stream = TcpStream>,
@@ -60,9 +65,31 @@ fn run_images<
     out: &mut W,
     err: &mut E,
 ) -> Result<(), Fault<'a>>
+    ensures done { OnOk result (HasRun options.now) }
+    ensures refused { (IsInRange (record standard { protocol = options.now.protocol; blocks = options.now.blocks }) → ⊥) → result ≡ Err (Refused BadSetting) }
+{
+    match options.settings().check() {
+        Ok(()) => run_loaded(rt, options, images, out, err),
+        Err(refusal) => Err(Fault::Refused(refusal)),
+    }
+}
+
+// Loads both images, runs the session, saves both disks, and prints what came of it.
+fn run_loaded<
+    'a,
+    H: Host + Files<File = File> + Net<Listener = TcpListener, Stream = TcpStream>,
+    W: Write,
+    E: Write + Send,
+>(
+    rt: &H,
+    options: &RunOptions,
+    images: &Images<'a>,
+    out: &mut W,
+    err: &mut E,
+) -> Result<(), Fault<'a>>
+    requires { options.now.blocks ≤ 262144 }
     ensures { OnOk result (HasRun options.now) }
 {
-    options.settings().check()?;
     let local_image = LockedImage::take(rt, images.local, "local-new")?;
     let local = load(rt, &local_image, options.blocks)?;
     let peer_image = LockedImage::take(rt, images.peer, "peer-new")?;

@@ -2,4 +2,10 @@ use Rattle.std.proofs.Common.{refl}
 use Rattle.serving.proofs.server.finish.Goals as goal
 
 pub returns-in-Ok : goal.returns-in-Ok
-returns-in-Ok g c = record { rest = c.in-Ok.rest; served = c.in-Ok.ensures.served; results = refl; alike = c.in-Ok.ensures.alike }
+returns-in-Ok g c = record {
+  rest = c.in-Ok.rest;
+  served = c.in-Ok.ensures.served;
+  results = refl;
+  alike = c.in-Ok.ensures.alike;
+  whole = c.torn_image.ensures.none;
+}
