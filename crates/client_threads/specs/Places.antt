@@ -8,13 +8,13 @@ use Rattle.nbd.specs.declared.request.Request.{Request}
 abbrev pub places_for : ℕ → ℕ
 places_for block_count = max 1 (min ((block_count + 511) / 512) 16)
 
--- by the command: only a READ and a WRITE have data of their own
+-- by the command: a FLUSH has no data
 abbrev pub command_places : Command → ℕ → ℕ
 command_places Read block_count = places_for block_count
 command_places Write block_count = places_for block_count
 command_places Disconnect block_count = 1
 command_places Flush block_count = 1
-command_places WriteZeroes block_count = 1
+command_places WriteZeroes block_count = places_for block_count
 
 -- those of a request
 abbrev pub places_of : Request → ℕ

@@ -26,7 +26,6 @@ pub(crate) fn keep<R: Wait + Clock>(
     over: &AtomicBool,
 ) {
     let mut looks = 0u64;
-    let mut most = 0u32;
     let mut standstill = Standstill::new();
     let mut words = service.words();
     // A session starts with an open link. No block is copied from a cut by this thread to the next connection.
@@ -51,7 +50,7 @@ pub(crate) fn keep<R: Wait + Clock>(
             device.cut();
             is_up = false;
         }
-        most = most_since(most, marks);
+        let most = service.note_marks(marks);
         give_report(rt, service, device, most);
         thread::sleep(rt, Duration::from_millis(LOOK_MS));
         looks = looks.saturating_add(1);
@@ -71,11 +70,6 @@ fn give_report<R: Wait>(rt: &R, service: &Service, device: &impl Device, most: u
     if service.reports.is_asked(rt) {
         service.reports.give(rt, report(device, most));
     }
-}
-
-// Returns the most blocks that were marked since none was.
-fn most_since(most: u32, marks: u32) -> u32 {
-    if marks == 0 { 0 } else { most.max(marks) }
 }
 
 // Returns the session's report on its nodes. While blocks are marked and the link is up, a resync goes on.

@@ -6,8 +6,8 @@ use nbd::{Command, Request};
 use std::sync::{Condvar, Mutex, Wait};
 use std::time::{Clock, Duration};
 
-/// The places of a client. A request has one for each 2 MiB of its data, so those under way are 16 at most, with 32 MiB of
-/// data together.
+/// The places of a client. A request has one for each 2 MiB that it reads or writes, zeros too, so those under way are 16 at
+/// most, with 32 MiB of data together: one client's long WRITE_ZEROES do not take all threads for long.
 pub(crate) const PLACES: u32 = 16;
 
 /// Blocks of data for each place: 2 MiB.
@@ -59,13 +59,13 @@ impl Places {
     }
 }
 
-/// Returns how many places a request has: one for each 2 MiB begun of the data that it reads or writes, at least one.
+/// Returns how many places a request has: one for each 2 MiB begun that it reads or writes, at least one.
 pub(crate) fn places_of(request: &Request) -> u32
     ensures { result ≡ places_of request.now }
 {
     match request.command {
-        Command::Read | Command::Write => places_for(request.block_count),
-        Command::WriteZeroes | Command::Flush | Command::Disconnect => 1,
+        Command::Read | Command::Write | Command::WriteZeroes => places_for(request.block_count),
+        Command::Flush | Command::Disconnect => 1,
     }
 }
 

@@ -2,8 +2,9 @@
 use crate::service::Service;
 use std::io::{ErrorKind, Read};
 use std::net::{Net, SocketAddr, TcpStream};
-use std::str;
 use std::sync::Wait;
+use std::time::{Clock, Duration};
+use std::{str, thread};
 
 /// The order to end.
 const QUIT: &str = "quit";
@@ -11,6 +12,9 @@ const QUIT: &str = "quit";
 /// The most bytes of a line that may be the order: it, and white space around it. A longer line is not kept, since it may never
 /// end.
 const MOST_BYTES: usize = 64;
+
+/// The time between two looks at an input that has nothing yet and does not wait, in milliseconds.
+const LOOK_MS: u64 = 100;
 
 /// The most bytes that are read at once.
 const BUFFER_BYTES: usize = 512;
@@ -66,7 +70,7 @@ impl Line {
 
 /// Waits for a line `quit`, and then ends the server, which listens at these addresses. The end of the input is no such
 /// line.
-pub(crate) fn wait_for_quit<R: Wait + Net<Stream = TcpStream>, I: Read + Drop>(
+pub(crate) fn wait_for_quit<R: Wait + Clock + Net<Stream = TcpStream>, I: Read + Drop>(
     rt: &R,
     service: &Service,
     input: I,
@@ -84,7 +88,7 @@ pub(crate) fn wait_for_quit<R: Wait + Net<Stream = TcpStream>, I: Read + Drop>(
 }
 
 // Reads lines up to the order to end. Returns whether it came: not if the input ends before, or cannot be read.
-fn comes<R: Wait, I: Read + Drop>(rt: &R, input: I) -> bool {
+fn comes<R: Wait + Clock, I: Read + Drop>(rt: &R, input: I) -> bool {
     let mut input = input;
     let mut line = Line::new();
     let mut buffer = [0u8; BUFFER_BYTES];
@@ -98,6 +102,10 @@ fn comes<R: Wait, I: Read + Drop>(rt: &R, input: I) -> bool {
                 }
             }
             Err(error) if error.kind() == ErrorKind::Interrupted => {}
+            // Another program may have set the input to answer at once.
+            Err(error) if error.kind() == ErrorKind::WouldBlock => {
+                thread::sleep(rt, Duration::from_millis(LOOK_MS));
+            }
             Err(_) => return false,
         }
     }

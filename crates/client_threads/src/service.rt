@@ -39,6 +39,8 @@ pub struct Service {
     stop: AtomicBool,
     clients: AtomicU32,
     next_word: AtomicU64,
+    // The most blocks that were marked since none was.
+    most_marks: AtomicU32,
 }
 
 impl Service {
@@ -65,6 +67,7 @@ impl Service {
             stop: AtomicBool::new(false),
             clients: AtomicU32::new(0),
             next_word: AtomicU64::new(FIRST_WORD),
+            most_marks: AtomicU32::new(0),
         })
     }
 
@@ -96,6 +99,17 @@ impl Service {
     /// Returns how many clients there are.
     pub fn clients(&self) -> u32 {
         self.clients.load(Ordering::SeqCst)
+    }
+
+    /// Takes the number of marked blocks at a moment. Returns the most that were marked since none was, over all sessions.
+    pub(crate) fn note_marks(&self, marks: u32) -> u32 {
+        if marks == 0 {
+            self.most_marks.store(0, Ordering::SeqCst);
+            return 0;
+        }
+        self.most_marks
+            .fetch_max(marks, Ordering::SeqCst)
+            .max(marks)
     }
 
     /// Returns two fresh words, for a connection.

@@ -30,6 +30,9 @@ const LOOKS_TO_CUT: u32 = 20;
 /// seconds.
 const LOOKS_TO_LEAVE: u32 = 100;
 
+/// The same between two sessions of a server: one second. The next session copies the blocks that are still marked.
+const LOOKS_TO_GO_ON: u32 = 10;
+
 /// The most receipts of a session: one for each write that it has room for.
 const MOST_RECEIPTS: usize = 1_048_576;
 
@@ -74,7 +77,7 @@ fn work_if_kept<R: Runtime>(
         return Err(Refusal::NoMemory);
     }
     let done = do_requests(rt, service, device);
-    rest(rt, device);
+    rest(rt, device, service.is_over());
     done
 }
 
@@ -141,8 +144,14 @@ fn do_some<R: Wait + Clock>(
 // Waits until both disks are alike and the link has nothing more to do, or there is no progress. Blocks that are not copied, as
 // those of a write that failed while the link was up, are tried again over a new connection. If that does not help, as with a
 // disk that keeps failing, they stay marked: the next session copies them. Where no block is marked, the peer's disk may only be
-// slow, and a new connection would not help it.
-fn rest<R: Wait + Clock>(rt: &R, device: &impl Device) {
+// slow, and a new connection would not help it. A server that goes on has clients that wait meanwhile, so `is_last` says whether
+// this is its last session.
+fn rest<R: Wait + Clock>(rt: &R, device: &impl Device, is_last: bool) {
+    let most = if is_last {
+        LOOKS_TO_LEAVE
+    } else {
+        LOOKS_TO_GO_ON
+    };
     let mut marks = u32::MAX;
     let mut applied = u32::MAX;
     let mut looks = 0u32;
@@ -164,7 +173,7 @@ fn rest<R: Wait + Clock>(rt: &R, device: &impl Device) {
         if looks == LOOKS_TO_CUT && left > 0 {
             device.cut();
         }
-        if looks == LOOKS_TO_LEAVE {
+        if looks >= most {
             break;
         }
         thread::sleep(rt, Duration::from_millis(LOOK_MS));

@@ -13,7 +13,6 @@ use crate::ended::Ended;
 use crate::perform::{begin_write, begin_zeroes, read};
 use crate::release::wait_for_release;
 use crate::stable_storage::StableStorage;
-use crate::sync_fault::SyncFault;
 use crate::syncs::asks_for_sync;
 use crate::under_way::UnderWay;
 use blocks::Protocol;
@@ -23,6 +22,7 @@ use nbd::{Command, Errno, Ranges, Request};
 use primary::Receipt;
 use std::alloc::Global;
 use std::fs::File;
+use std::io;
 use std::sync::Wait;
 use std::sync::atomic::{AtomicU64, Ordering};
 use std::time::Clock;
@@ -158,9 +158,9 @@ impl Requests {
         }
     }
 
-    /// Syncs both images to stable storage, whether a request asks for it or not. Returns the first sync that failed, now or
-    /// before: the system then forgets the data that it could not store.
-    pub fn sync_images<R: Wait>(&self, rt: &R) -> Result<(), SyncFault> {
+    /// Syncs both images to stable storage, whether a request asks for it or not, and whether a sync has failed or not. Returns
+    /// for each image why its first sync failed, now or before: the system then forgets the data that it could not store.
+    pub fn sync_images<R: Wait>(&self, rt: &R) -> Both<Option<io::Error>> {
         let last = self.storage.last_round();
         self.storage.sync(rt, last, self.storage.begin_round())
     }
@@ -238,9 +238,12 @@ impl Requests {
         if self.protocol != Protocol::C {
             wait_for_release(rt, device);
         }
-        self.storage
-            .sync(rt, last, round)
-            .map_err(|_| Errno::InputOutput)
+        let failed = self.storage.sync(rt, last, round);
+        if failed.local.is_none() && failed.peer.is_none() {
+            Ok(())
+        } else {
+            Err(Errno::InputOutput)
+        }
     }
 }
 

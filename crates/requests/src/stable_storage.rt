@@ -1,7 +1,7 @@
 //! Stable storage of both images.
-use crate::sync_fault::{Side, SyncFault};
 use image_store::{Both, SyncHandle};
 use std::fs::File;
+use std::io;
 use std::sync::atomic::{AtomicU64, Ordering};
 use std::sync::{Mutex, Wait};
 
@@ -10,7 +10,7 @@ use std::sync::{Mutex, Wait};
 /// last one that is ready as it starts.
 ///
 /// The system reports a failed sync once, and then forgets the data that it could not store. So once a sync has failed, each
-/// later one fails too.
+/// later one fails too. It stores all the same what can be stored.
 #[derive(Drop)]
 pub(crate) struct StableStorage {
     images: Both<SyncHandle<File>>,
@@ -20,8 +20,8 @@ pub(crate) struct StableStorage {
     ready: AtomicU64,
     // The last round for which a sync succeeded. It changes under the lock of `failed`.
     synced: AtomicU64,
-    // The first sync that failed.
-    failed: Mutex<Option<SyncFault>>,
+    // The reason of the first sync of each image that failed.
+    failed: Mutex<Both<Option<io::Error>>>,
 }
 
 impl StableStorage {
@@ -32,7 +32,10 @@ impl StableStorage {
             begun: AtomicU64::new(0),
             ready: AtomicU64::new(0),
             synced: AtomicU64::new(0),
-            failed: Mutex::new(None),
+            failed: Mutex::new(Both {
+                local: None,
+                peer: None,
+            }),
         }
     }
 
@@ -52,38 +55,27 @@ impl StableStorage {
     }
 
     /// Syncs both images for the round `round`, which is ready, unless a sync for a round after `last` succeeds meanwhile.
-    /// Returns the first sync that failed, now or before. One sync at a time, so that none succeeds beside one that fails.
-    pub(crate) fn sync<R: Wait>(&self, rt: &R, last: u64, round: u64) -> Result<(), SyncFault> {
+    /// Returns for each image why its first sync failed, now or before. One sync at a time, so that none succeeds beside one
+    /// that fails.
+    pub(crate) fn sync<R: Wait>(&self, rt: &R, last: u64, round: u64) -> Both<Option<io::Error>> {
         self.ready.fetch_max(round, Ordering::SeqCst);
         let mut failed = self.failed.lock(rt);
         if self.is_synced_after(last) {
-            return Ok(());
+            return Both {
+                local: None,
+                peer: None,
+            };
         }
         let ready = self.ready.load(Ordering::SeqCst);
-        if failed.is_none() {
-            *failed = self.sync_both();
+        let (local, peer) = (self.images.local.sync(), self.images.peer.sync());
+        failed.local = failed.local.or(local.err());
+        failed.peer = failed.peer.or(peer.err());
+        if failed.local.is_none() && failed.peer.is_none() {
+            self.synced.store(ready, Ordering::SeqCst);
         }
-        match *failed {
-            Some(fault) => Err(fault),
-            None => {
-                self.synced.store(ready, Ordering::SeqCst);
-                Ok(())
-            }
-        }
-    }
-
-    // Syncs both images, also if the first sync fails. Returns the first that failed.
-    fn sync_both(&self) -> Option<SyncFault> {
-        match (self.images.local.sync(), self.images.peer.sync()) {
-            (Err(error), _) => Some(SyncFault {
-                side: Side::Local,
-                error,
-            }),
-            (_, Err(error)) => Some(SyncFault {
-                side: Side::Peer,
-                error,
-            }),
-            _ => None,
+        Both {
+            local: failed.local,
+            peer: failed.peer,
         }
     }
 }

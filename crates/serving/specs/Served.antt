@@ -1,5 +1,5 @@
 -- What a server comes to.
-use Rattle.std.specs.Prelude.{ℕ, ◌≡◌, ◌<◌, ◌≤◌, false, List, None, IfSome}
+use Rattle.std.specs.Prelude.{ℕ, ◌≡◌, ◌<◌, ◌≤◌, false, List, IfSome}
 use Rattle.blocks.specs.SettingsRange.{standard}
 use Rattle.blocks.specs.declared.settings.Settings.{Settings}
 use Rattle.options.specs.declared.serve.ServeOptions.{ServeOptions}
@@ -16,13 +16,13 @@ abbrev pub AreWhole : Rest → Type 0
 AreWhole rest = (rest.disks.local.torn ≡ false) × (rest.disks.peer.torn ≡ false)
 
 -- Sessions with these settings went over these disks, and came to this end. If its totals tell of no block that differs or is marked,
--- both disks are one, and if it names no torn image, there is none.
+-- both disks are one, and it tells which images are torn.
 pub record CameTo (chosen : Settings) (local peer : List (List ℕ)) (end : End) : Type 0 where
   pub rest : Rest
   pub served : IsServed chosen local peer rest
   pub results : end.totals ≡ rest.totals
   pub alike : end.totals.unmarked ≡ 0 → end.totals.marked ≡ 0 → rest.disks.local.disk ≡ rest.disks.peer.disk
-  pub whole : end.torn ≡ None → AreWhole rest
+  pub torn : (end.torn.local ≡ rest.disks.local.torn) × (end.torn.peer ≡ rest.disks.peer.torn)
 
 -- A server with these options came to this end, over two disks of `blocks` blocks, as many as the options ask for if they do.
 pub record HasEnded (options : ServeOptions) (end : End) : Type 0 where

@@ -1,7 +1,6 @@
 //! The images of a server: their locks, their disks, and what became of them.
-ghost use Rattle.std.specs.Prelude.{◌≡◌, ◌<◌, ◌≤◌, ◌↔◌, false, true, None, Some, IfErr, IfOk, IfSome, IsOk};
+ghost use Rattle.std.specs.Prelude.{◌≡◌, ◌<◌, ◌≤◌, ◌↔◌, IfErr, IfOk, IfSome, IsOk};
 ghost use Rattle.blocks.specs.declared.refusal.Refusal.TheVariants.{BadSetting};
-ghost use Rattle.requests.specs.declared.sync_fault.Side.TheVariants.{Local, Peer};
 ghost use Rattle.serving.specs.Served.{AreInRange};
 
 use crate::fault::Fault;
@@ -9,44 +8,21 @@ use crate::rest::Disks;
 use blocks::{BLOCK_BYTES, MAX_BLOCKS, Refusal};
 use image_store::{Both, ImageLock, ImageStore, OpenFault, SyncHandle};
 use options::ServeOptions;
-use requests::{Side, SyncFault};
+use std::fs;
 use std::fs::File;
 use std::rt::Files;
-use std::{fs, io};
 
 /// An opened image, and the handle by which it is synced.
 type Opened = (ImageStore<File>, SyncHandle<File>);
 
-/// Returns the image whose sync failed, with the reason.
-pub(crate) fn unsynced_image<'a>(
-    options: &ServeOptions<'a>,
-    synced: Result<(), SyncFault>,
-) -> Option<(&'a str, io::Error)>
-    ensures none { result ≡ None → IsOk synced }
-    ensures local { IfErr synced (λ fault. fault.side ≡ Local → result ≡ Some (options.now.local, fault.error)) }
-    ensures peer { IfErr synced (λ fault. fault.side ≡ Peer → result ≡ Some (options.now.peer, fault.error)) }
+/// Returns which images may have kept parts of a write that failed.
+pub(crate) fn torn_images(disks: &Disks) -> Both<bool>
+    ensures { (result.local ≡ disks.now.local.torn) × (result.peer ≡ disks.now.peer.torn) }
 {
-    let fault = synced.err()?;
-    let file = match fault.side {
-        Side::Local => options.local,
-        Side::Peer => options.peer,
-    };
-    Some((file, fault.error))
-}
-
-/// Returns the image that may have kept parts of a write that failed, the local one first.
-pub(crate) fn torn_image<'a>(options: &ServeOptions<'a>, disks: &Disks) -> Option<&'a str>
-    ensures none { result ≡ None → (disks.now.local.torn ≡ false) × (disks.now.peer.torn ≡ false) }
-    ensures local { disks.now.local.torn ≡ true → result ≡ Some options.now.local }
-    ensures peer { disks.now.local.torn ≡ false → disks.now.peer.torn ≡ true → result ≡ Some options.now.peer }
-{
-    if disks.local.is_torn() {
-        return Some(options.local);
+    Both {
+        local: disks.local.is_torn(),
+        peer: disks.peer.is_torn(),
     }
-    if disks.peer.is_torn() {
-        return Some(options.peer);
-    }
-    None
 }
 
 /// Checks that the options ask for no size, or for one that a device has. `BadSetting` (15) if they do not.

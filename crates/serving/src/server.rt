@@ -8,9 +8,7 @@ ghost use Rattle.serving.specs.declared.fault.Fault.TheVariants.{Refused};
 
 use crate::end::End;
 use crate::fault::Fault;
-use crate::images::{
-    blocks_of, check_kept, check_size, lock_both, open_both, torn_image, unsynced_image,
-};
+use crate::images::{blocks_of, check_kept, check_size, lock_both, open_both, torn_images};
 use crate::rest::Disks;
 use crate::sessions::run_sessions;
 use blocks::Refusal;
@@ -84,7 +82,7 @@ fn serve_sized<
     let locks = lock_both(rt, options)?;
     let served = serve_locked(rt, options, &locks, input, err);
     drop(locks);
-    served?.print(out)
+    served?.print(out, err)
 }
 
 // Serves both images. Returns how this ended, if the images are still the files that were locked.
@@ -157,12 +155,16 @@ fn finish<'a, H: Runtime>(
     ensures { IfOk result (CameTo (record standard { protocol = service.now.protocol; blocks = service.now.blocks }) disks.local.disk disks.peer.disk) }
 {
     let ran = run_sessions(*rt, service, options.cut_every, disks);
-    let synced = service.requests.sync_images(rt);
+    let unsynced = service.requests.sync_images(rt);
     match ran {
         Ok(rest) => Ok(End {
             totals: rest.totals,
-            torn: torn_image(options, &rest.disks),
-            unsynced: unsynced_image(options, synced),
+            files: Both {
+                local: options.local,
+                peer: options.peer,
+            },
+            torn: torn_images(&rest.disks),
+            unsynced,
         }),
         Err(refusal) => Err(Fault::Refused(refusal)),
     }

@@ -87,7 +87,7 @@ fn a_client_is_answered(rt: HostRuntime) {
     }
     let none = (
         "HTTP/1.1 503 Service Unavailable",
-        "no session answers: it gives way to the next, a disk hangs, or memory is short\n",
+        "no session answers: it gives way to the next, or a disk hangs\n",
     );
     is_answered(&rt, "GET /", None, none);
 }

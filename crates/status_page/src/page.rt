@@ -33,7 +33,7 @@ impl Service for Page<'_> {
             return fill(
                 response,
                 HeaderValue::from_static("text/plain; charset=utf-8"),
-                b"no session answers: it gives way to the next, a disk hangs, or memory is short\n",
+                b"no session answers: it gives way to the next, or a disk hangs\n",
             );
         };
         match request.uri().path() {

@@ -7,5 +7,5 @@ returns-in-Ok g c = record {
   served = c.in-Ok.ensures.served;
   results = refl;
   alike = c.in-Ok.ensures.alike;
-  whole = c.torn_image.ensures.none;
+  torn = c.torn_images.ensures;
 }
