@@ -12,8 +12,8 @@ const YIELDS: u32 = 20;
 /// How often a thread that found nothing waits like this before it sleeps.
 const LOOKS: u32 = 3;
 
-/// The longest sleep, as a power of two in milliseconds: 16 ms. A ring ends a sleep.
-const LONGEST_SLEEP: u32 = 4;
+/// How often the sleep of a millisecond is doubled at most: to 16. A ring ends a sleep.
+const MOST_DOUBLINGS: u32 = 4;
 
 /// A bell: threads sleep on it until there may be something for them. Nothing depends on a ring: each sleep ends by
 /// itself, and a thread that wakes looks again.
@@ -59,7 +59,7 @@ impl Bell {
     pub fn ring_one<R: Wait>(&self, rt: &R) {
         self.rings.fetch_add(1, Ordering::SeqCst);
         if self.needs_waking() {
-            drop(self.lock.lock(rt));
+            self.await_sleepers(rt);
             self.rung.notify_one();
         }
     }
@@ -68,7 +68,7 @@ impl Bell {
     pub fn ring_all<R: Wait>(&self, rt: &R) {
         self.rings.fetch_add(1, Ordering::SeqCst);
         if self.sleepers.load(Ordering::SeqCst) > 0 {
-            drop(self.lock.lock(rt));
+            self.await_sleepers(rt);
             self.rung.notify_all();
         }
     }
@@ -81,20 +81,27 @@ impl Bell {
             self.yield_until_rung(rings);
             return;
         }
-        let power = (looks - LOOKS).min(LONGEST_SLEEP);
+        let doublings = (looks - LOOKS).min(MOST_DOUBLINGS);
         self.sleepers.fetch_add(1, Ordering::SeqCst);
         // A ring may have come when no thread slept any more. A ring that came before now is seen below.
         self.waking.store(0, Ordering::SeqCst);
         let guard = self.lock.lock(rt);
         if self.rings.load(Ordering::SeqCst) == rings {
-            let sleep = Duration::from_millis(1u64 << power);
+            let sleep = Duration::from_millis(1u64 << doublings);
             let _ = self.rung.wait_timeout(rt, guard, sleep);
         }
         self.sleepers.fetch_sub(1, Ordering::SeqCst);
         self.waking.store(0, Ordering::SeqCst);
     }
 
-    // Returns whether all watchers sleep and none has been woken since.
+    // Waits until each thread that has not seen the ring sleeps: between its look at `rings` and its sleep it has the lock, and
+    // would not hear that it is woken.
+    fn await_sleepers<R: Wait>(&self, rt: &R) {
+        drop(self.lock.lock(rt));
+    }
+
+    // Returns whether as many threads sleep as there are watchers, and none has been woken since. A thread that sleeps and is no
+    // watcher counts too: then a watcher may be awake, and one is woken in vain.
     fn needs_waking(&self) -> bool {
         let sleepers = self.sleepers.load(Ordering::SeqCst);
         sleepers > 0

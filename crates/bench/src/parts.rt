@@ -4,11 +4,9 @@ ghost use Rattle.std.specs.Prelude.{◌≡◌, ◌<◌, ◌≤◌, ◌*◌, leng
 
 mod way;
 
+use blocks::BLOCK_BYTES;
 use std::time::{Duration, Instant};
 use way::Way;
-
-/// Bytes of a block.
-const BLOCK_BYTES: usize = 4096;
 
 /// Blocks of the buffer that copies are taken from: 256 MiB, several times what a processor's cache holds.
 const SOURCE_BLOCKS: usize = 65_536;

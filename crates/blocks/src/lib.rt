@@ -4,6 +4,7 @@
 
 mod block;
 mod command;
+mod connection_words;
 mod faulty;
 mod ghost_count;
 mod memory;
@@ -17,6 +18,7 @@ mod tuple;
 
 pub use block::{BLOCK_BYTES, Block, EXTENT_BLOCKS, Extent, MAX_BLOCKS};
 pub use command::Command;
+pub use connection_words::ConnectionWords;
 pub use faulty::FaultStore;
 pub use ghost_count::GhostCount;
 pub use memory::MemStore;

@@ -1,7 +1,7 @@
 //! Requests done together.
 use crate::client::Client;
+use crate::job::Job;
 use crate::places::places_of;
-use crate::request::Job;
 use crate::service::Service;
 use crate::sync_queue::Unsynced;
 use halves::Device;

@@ -17,7 +17,8 @@ const LOOKS_A_SECOND: u64 = 50;
 
 /// Reconnects the link whenever it is down, and gives reports when they are asked for, until the session is over. If
 /// `cut_every` is set, cuts the link each time that this many seconds have passed. Also cuts it when blocks are marked and none
-/// is copied for some time, so that a resync begins with the next connection.
+/// is copied for some time, so that a resync begins with the next connection. Once a sync of the peer's image has failed, keeps
+/// the link down.
 pub(crate) fn keep<R: Wait + Clock>(
     rt: &R,
     service: &Service,
@@ -34,13 +35,14 @@ pub(crate) fn keep<R: Wait + Clock>(
         if over.load(Ordering::SeqCst) {
             break;
         }
-        if is_cut_due(cut_every, looks) {
+        let is_peer_failed = service.requests.is_peer_failed();
+        if is_cut_due(cut_every, looks) || (is_peer_failed && is_up) {
             device.cut();
             is_up = false;
             looks = 0;
         }
         // While an end is open, or a disk has items to do, this is refused and changes nothing.
-        if device.reconnect(words.0, words.1).is_ok() {
+        if !is_peer_failed && device.reconnect(words.sync, words.loss).is_ok() {
             words = service.words();
             standstill.restart();
             is_up = true;

@@ -5,6 +5,7 @@
 mod accept;
 mod answer;
 mod client;
+mod job;
 mod keeper;
 mod limited_stream;
 mod listeners;
@@ -15,7 +16,6 @@ mod places;
 mod quit;
 mod reader;
 mod reports;
-mod request;
 mod service;
 mod standstill;
 mod sync_queue;

@@ -12,7 +12,7 @@ pub struct ListenFault {
 impl fmt::Display for ListenFault {
     fn fmt<W: fmt::Write>(&self, f: &mut fmt::Formatter<W>) -> fmt::Result {
         let ListenFault { address, error } = self;
-        write!(f, "{address} could not be listened at: {error}")
+        write!(f, "cannot listen at {address}: {error}")
     }
 }
 

@@ -1,20 +1,24 @@
 //! The thread of a client, which takes its requests.
 use crate::client::Client;
+use crate::job::Job;
 use crate::places::{PLACES, places_of};
-use crate::request::Job;
 use crate::service::Service;
 use crate::timed_writer::is_passing;
 use blocks::Refusal;
 use nbd::{Connection, Errno, Export, Output, greeting};
 use std::alloc::Global;
 use std::sync::{Arc, Wait};
-use std::time::Clock;
+use std::time::{Clock, Duration, Instant};
+
+/// How long a client has for its handshake, in seconds: as long as QEMU's server gives it. Without a limit 256 connections that
+/// ask for nothing would keep all other clients out.
+const HANDSHAKE_S: u64 = 10;
 
 /// The most bytes that are read at once: a request for the longest range and its payload.
 const BUFFER_BYTES: usize = 132 * 1024;
 
-/// Takes the requests of a client until it leaves or the server ends. When this returns without a refusal, all of its
-/// requests are answered.
+/// Takes the requests of a client until it leaves, or has not ended its handshake in time, or the server ends. When this returns
+/// without a refusal, all of its requests are answered.
 pub(crate) fn serve_client<R: Wait + Clock>(
     rt: &R,
     service: &Service,
@@ -24,9 +28,10 @@ pub(crate) fn serve_client<R: Wait + Clock>(
     let mut buffer = Vec::from_elem(alloc, 0u8, BUFFER_BYTES)?;
     let export = Export::new(String::new(alloc), service.blocks);
     let mut connection = Connection::new(alloc, export);
+    let start = Instant::now(rt).ok();
     client.send(rt, greeting().as_slice());
     for _ in rt.forever() {
-        if service.is_over() {
+        if service.is_over() || is_late(rt, &connection, start) {
             break;
         }
         client.send_late(rt);
@@ -42,6 +47,14 @@ pub(crate) fn serve_client<R: Wait + Clock>(
     // No request is under way once all places are taken.
     client.take_places(rt, PLACES);
     Ok(())
+}
+
+// Returns whether a client that came at `start` has had its time and is still in its handshake.
+fn is_late<R: Clock>(rt: &R, connection: &Connection, start: Option<Instant>) -> bool {
+    let Some(Ok(elapsed)) = start.map(|start| start.elapsed(rt)) else {
+        return false;
+    };
+    connection.is_negotiating() && elapsed >= Duration::from_secs(HANDSHAKE_S)
 }
 
 // Takes the client's next bytes. Returns whether the connection goes on. One read may have thousands of requests, so those

@@ -1,10 +1,10 @@
 //! The state that all threads of a server share.
 ghost use Rattle.std.specs.Prelude.{◌≡◌, IfOk};
 
+use crate::job::Job;
 use crate::reports::Reports;
-use crate::request::Job;
 use crate::sync_queue::SyncQueue;
-use blocks::{Protocol, Refusal};
+use blocks::{ConnectionWords, Protocol, Refusal};
 use crossbeam_channel::{Receiver, Sender, bounded};
 use requests::Requests;
 use std::alloc::Global;
@@ -113,8 +113,11 @@ impl Service {
     }
 
     /// Returns two fresh words, for a connection.
-    pub fn words(&self) -> (u64, u64) {
+    pub fn words(&self) -> ConnectionWords {
         let word = self.next_word.fetch_add(2, Ordering::SeqCst);
-        (word, word.wrapping_add(1))
+        ConnectionWords {
+            sync: word,
+            loss: word.wrapping_add(1),
+        }
     }
 }

@@ -33,12 +33,16 @@ const LOOKS_TO_LEAVE: u32 = 100;
 /// The same between two sessions of a server: one second. The next session copies the blocks that are still marked.
 const LOOKS_TO_GO_ON: u32 = 10;
 
+/// Looks after which a session gives way to the next one also if there is progress: ten seconds.
+const MOST_LOOKS_TO_GO_ON: u32 = 100;
+
 /// The most receipts of a session: one for each write that it has room for.
 const MOST_RECEIPTS: usize = 1_048_576;
 
-/// Does the requests of clients over this device until the server ends or the session has accepted about a million
-/// writes, and returns the receipts of all their writes. When it returns, both disks are alike and the link has nothing
-/// more to do, or for ten seconds no marked block was copied and the peer's disk did no item.
+/// Does the requests of clients over this device until the server ends or the session has accepted about a million writes,
+/// and returns the receipts of all their writes. After the last request it waits for the link to come to rest: until both disks
+/// are alike and the link has nothing to do, or a sync of the peer's image has failed, or ten seconds pass in which no marked
+/// block is copied and the peer's disk does no item. If another session follows it waits one such second, and ten in all.
 ///
 /// `NoMemory` (7) if there is no memory for the receipts, or if the thread that keeps the link up does not run within a
 /// second, as where it cannot be started: then no request is done, since nothing would reconnect the link.
@@ -77,7 +81,7 @@ fn work_if_kept<R: Runtime>(
         return Err(Refusal::NoMemory);
     }
     let done = do_requests(rt, service, device);
-    rest(rt, device, service.is_over());
+    wait_for_rest(rt, service, device);
     done
 }
 
@@ -143,26 +147,27 @@ fn do_some<R: Wait + Clock>(
 
 // Waits until both disks are alike and the link has nothing more to do, or there is no progress. Blocks that are not copied, as
 // those of a write that failed while the link was up, are tried again over a new connection. If that does not help, as with a
-// disk that keeps failing, they stay marked: the next session copies them. Where no block is marked, the peer's disk may only be
-// slow, and a new connection would not help it. A server that goes on has clients that wait meanwhile, so `is_last` says whether
-// this is its last session.
-fn rest<R: Wait + Clock>(rt: &R, device: &impl Device, is_last: bool) {
-    let most = if is_last {
-        LOOKS_TO_LEAVE
+// disk that keeps failing, they stay marked. Where no block is marked, the peer's disk may only be slow, and a new connection
+// would not help it. A server that goes on has clients that wait meanwhile, so it gives this less time. Once a sync of the peer's
+// image has failed the link stays down, and there is nothing to wait for.
+fn wait_for_rest<R: Wait + Clock>(rt: &R, service: &Service, device: &impl Device) {
+    let (most, most_in_all) = if service.is_over() {
+        (LOOKS_TO_LEAVE, u32::MAX)
     } else {
-        LOOKS_TO_GO_ON
+        (LOOKS_TO_GO_ON, MOST_LOOKS_TO_GO_ON)
     };
     let mut marks = u32::MAX;
     let mut applied = u32::MAX;
     let mut looks = 0u32;
+    let mut in_all = 0u32;
     for _ in rt.forever() {
         // A closed link is quiet too. A close marks blocks before, so they are counted after.
         let is_quiet = device.is_quiet();
         let left = device.marks();
-        if is_quiet && left == 0 {
+        if (is_quiet && left == 0) || service.requests.is_peer_failed() {
             break;
         }
-        // It starts anew with a connection, which is no progress yet.
+        // `applied` starts at 0 with each connection, which is no progress yet.
         let done = device.applied();
         if left < marks || done > applied {
             looks = 0;
@@ -170,10 +175,11 @@ fn rest<R: Wait + Clock>(rt: &R, device: &impl Device, is_last: bool) {
         marks = left;
         applied = done;
         looks = looks.saturating_add(1);
+        in_all = in_all.saturating_add(1);
         if looks == LOOKS_TO_CUT && left > 0 {
             device.cut();
         }
-        if looks >= most {
+        if looks >= most || in_all >= most_in_all {
             break;
         }
         thread::sleep(rt, Duration::from_millis(LOOK_MS));

@@ -4,7 +4,7 @@ use clap::error::ErrorKind;
 use numbers::Status;
 use std::io::Write;
 
-/// Why words are no order.
+/// Why a command line was not accepted.
 #[derive(Drop)]
 pub enum Fault<'a> {
     /// They ask for help, which is then in the error, or they are wrong.
@@ -25,12 +25,15 @@ impl Fault<'_> {
             Fault::Address(address) => {
                 let _ = writeln!(
                     err,
-                    "error: {address} is no numeric address with a port, as 127.0.0.1:10809 is"
+                    "error: --listen {address}: give an IP address and a port, as in 127.0.0.1:10809"
                 );
                 Status::Misused
             }
             Fault::SharedImage(image) => {
-                let _ = writeln!(err, "error: both disks cannot have the image {image}");
+                let _ = writeln!(
+                    err,
+                    "error: --local and --peer are both {image}: give two images"
+                );
                 Status::Misused
             }
         }

@@ -134,16 +134,22 @@ and at the end. On a terminal a run of more than a second shows how far it is.
 
 A session that is refused prints refused R on standard error and none of the
 three lines, and changes no image. R is 7 if there was no memory or no thread.
-No other one is known to come; the calls of a run may return these:
+No other one is known to come. The proofs rule out all but these:
 ";
 
 /// The exit statuses of a run.
 const RUN_STATUSES: &str = "
-Exit statuses: 0 done; 1 there was no memory or no thread (7), a socket or the
-output failed, the disks differ without a mark, or an image cannot be locked,
-read or saved, is no regular file, is of another length, is in use, or has
-something beside it under the name IMAGE.local-new or IMAGE.peer-new; 2 wrong
-usage; 3 a refusal other than 7. Of several faults the first is told.
+Exit statuses: 0 done; 1 there was no memory or no thread (7), the output
+failed, the disks differ without a mark, or an image cannot be locked, read or
+saved, is no regular file, is of another length, is in use, or has something
+beside it under the name IMAGE.local-new or IMAGE.peer-new; 2 wrong usage; 3 a
+refusal other than 7. Of several faults the first is told.
+";
+
+/// The exit statuses of a run over sockets.
+const TCP_STATUSES: &str = "
+Exit statuses: those of run; 1 also if a socket could not be connected, or
+failed in the hello.
 ";
 
 /// The exit statuses of a server.
@@ -153,7 +159,8 @@ file, is of another length or is in use, an address cannot be listened at, or
 memory, a thread or the output failed; or, at the end, blocks were not copied
 or differ without a mark, a sync has failed, or an image may have kept parts of
 a failed write, was replaced or has another length; 2 wrong usage; 3 a session
-was refused by another number than 7. Of several faults the first is told.
+was refused by another number than 7. Of several faults the last line tells the
+first, and a line before it each further one of blocks and of images.
 ";
 
 /// What a run over sockets does.
@@ -185,10 +192,12 @@ answered once it is completed as the protocol says:
   A                    once it is in the local image and was sent
   B                    once it is in the local image and the peer has it
   C                    once it is in both images
-A flush has the system put both images on stable storage. Both lie in memory,
-too: the server takes twice the device's size, some 110 MB, and up to 100 MB for
-each client with long requests under way. Both images are locked meanwhile: if
-another server or a run uses one, the server fails with status 1.
+A flush has the system put both images on stable storage. If that fails for
+--peer, the server cuts the link, goes on with --local alone, and says so at its
+end. Both lie in memory, too: the server takes twice the device's size, plus
+some 110 MB, plus up to 100 MB for each client with long requests under way.
+Both images are locked meanwhile: if another server or a run uses one, the
+server fails with status 1.
 
   drbdpair serve --local a.img --peer b.img
   nbdcopy disk.img nbd://127.0.0.1
@@ -314,7 +323,7 @@ impl Display for RunHelp {
 impl Display for TcpHelp {
     fn fmt<W: fmt::Write>(&self, f: &mut fmt::Formatter<W>) -> fmt::Result {
         f.write_str(TCP)?;
-        f.write_str(RUN_STATUSES)
+        f.write_str(TCP_STATUSES)
     }
 }
 

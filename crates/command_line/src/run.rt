@@ -18,7 +18,7 @@ pub(crate) fn run<'a>(alloc: Global, help: &'a str) -> Result<Command<'a>, Error
         alloc,
         "cuts",
         "C",
-        "How often the link is cut and reconnected",
+        "How many times the link is cut and reconnected while writers write",
         0,
         100,
     )
@@ -100,7 +100,7 @@ pub(crate) fn protocol_option<'a>(alloc: Global) -> Arg<'a> {
         alloc,
         "protocol",
         "P",
-        "When a write is completed: A, B or C",
+        "When a write is completed: A in the local image and sent, B there and the peer has it, C in both images",
     )
     .value_parser(ValueParser::Names(&PROTOCOLS))
     .default_value("C")

@@ -39,7 +39,7 @@ pub(crate) fn serve<'a>(alloc: Global, help: &'a str) -> Result<Command<'a>, Err
             alloc,
             "cut-every",
             "SECONDS",
-            "Cuts the link after every so many seconds, and reconnects it",
+            "Cuts the link every SECONDS seconds and reconnects it, to try that",
             1,
             3600,
         ))?;
@@ -57,7 +57,7 @@ pub(crate) fn options<'a>(words: &ArgMatches<'a>) -> Option<ServeOptions<'a>> {
         blocks: words.get_one("blocks"),
         protocol: protocol(words),
         listen,
-        status: status(words),
+        page_port: page_port(words),
         cut_every: words.get_one("cut-every"),
     })
 }
@@ -68,7 +68,7 @@ pub(crate) fn listen<'a>(words: &ArgMatches<'a>) -> &'a str {
 }
 
 // Returns the port of the status page, if there is to be one.
-fn status(words: &ArgMatches<'_>) -> Option<u16> {
+fn page_port(words: &ArgMatches<'_>) -> Option<u16> {
     let port: u32 = words.get_one("status")?;
     u16::try_from(port).ok()
 }

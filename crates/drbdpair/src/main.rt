@@ -17,7 +17,7 @@ fn main(rt: HostRuntime) -> io::Result<ExitCode> {
     let words = match env::args(&rt) {
         Ok(words) => words.collect::<Vec<String>>(rt.alloc())?,
         Err(error) if error.kind() == ErrorKind::InvalidData => {
-            writeln!(rt.stderr(), "error: an argument is not UTF-8")?;
+            let _ = writeln!(rt.stderr(), "error: an argument is not UTF-8");
             return Ok(ExitCode::from(Status::Misused.code()));
         }
         Err(error) => return Err(error),

@@ -6,7 +6,7 @@ mod disk;
 
 ghost use Rattle.std.specs.Prelude.{◌≤◌, ◌+◌};
 
-use blocks::{MemStore, Refusal, Settings, Tuple};
+use blocks::{ConnectionWords, MemStore, Refusal, Settings, Tuple};
 use bytes::Bytes;
 use disk::LooseDisk;
 use mirror::{connect, work};
@@ -25,6 +25,11 @@ const FRAMES: u32 = 4;
 
 /// How many turns both nodes may take at most until they rest.
 const TURNS: u32 = 1_000;
+
+/// The words of both connections.
+const FIRST: ConnectionWords = ConnectionWords { sync: 2, loss: 3 };
+
+const SECOND: ConnectionWords = ConnectionWords { sync: 4, loss: 5 };
 
 type Local<R> = Primary<RuledOut<R>, RuledIn<R>, MemStore>;
 
@@ -48,7 +53,7 @@ fn mirrored<R: Wait + Copy + Drop>(out: &impl Print, rt: R, alloc: Global) -> an
     let mut peer = Peer::<R>::new(alloc, SETTINGS, disk, alike)?;
 
     // The peer's disk fails the fifth write, which closes the peer's end of the link.
-    link_up(rt, alloc, &mut local, &mut peer, (2, 3))?;
+    link_up(rt, alloc, &mut local, &mut peer, FIRST)?;
     fill(alloc, &mut local, 0, 6)?;
     work(&mut local, &mut peer, TURNS)?;
     println!(out; "peer open: {}", peer.is_open())?;
@@ -60,7 +65,7 @@ fn mirrored<R: Wait + Copy + Drop>(out: &impl Print, rt: R, alloc: Global) -> an
     println!(out; "marked: {}", local.marks())?;
 
     // A new link, and fresh words: the marked blocks are copied.
-    link_up(rt, alloc, &mut local, &mut peer, (4, 5))?;
+    link_up(rt, alloc, &mut local, &mut peer, SECOND)?;
     let (marks, own, other) = (local.marks(), local.tuple(), peer.tuple());
     println!(out; "marked: {marks}, {own} and {other}")?;
     confirmed(out, &mut local)
@@ -72,7 +77,7 @@ fn link_up<R: Wait + Copy + Drop>(
     alloc: Global,
     local: &mut Local<R>,
     peer: &mut Peer<R>,
-    words: (u64, u64),
+    words: ConnectionWords,
 ) -> Result<bool, Refusal> {
     let link = RuledLink::new(rt, alloc, FRAMES)?;
     connect(local, peer, link.there, link.back, words)?;

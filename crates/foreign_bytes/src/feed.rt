@@ -58,9 +58,21 @@ fn judged(reply: Result<Done, Refusal>) -> Came {
     let Err(refusal) = reply else {
         return Came::Taken;
     };
-    match refusal.number() {
-        7 | 12 | 13 | 18 => Came::NotNow,
-        20..=25 | 30..=35 => Came::Refused,
+    match refusal {
+        Refusal::NoMemory | Refusal::NotConnected | Refusal::NothingThere | Refusal::PendingFull =>
+            Came::NotNow,
+        Refusal::BadMagic
+        | Refusal::BadCommand
+        | Refusal::BadLength
+        | Refusal::BadField
+        | Refusal::BadBarrierAck
+        | Refusal::UnknownAck
+        | Refusal::PrimaryStale
+        | Refusal::SplitBrain
+        | Refusal::Unrelated
+        | Refusal::UsedIdentifier
+        | Refusal::OtherProtocol
+        | Refusal::OtherSize => Came::Refused,
         _ => Came::Strange,
     }
 }

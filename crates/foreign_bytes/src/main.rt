@@ -82,6 +82,10 @@ fn feed_recorded<R: Wait + Clock + Copy + Drop>(
         }
         taken = taken.saturating_add(fed.frames);
     }
+    // A round may have no frame that is taken, as where a stream is damaged at its first byte.
+    if taken < frames {
+        anyhow::bail!("only {taken} of {frames} frames of seed {seed} were taken");
+    }
     Ok(taken)
 }
 

@@ -4,7 +4,7 @@ ghost use Rattle.endpoint.specs.Calls.{IsNewIn, IsNewOut};
 ghost use Rattle.ruled_link.specs.Inward.{taking};
 ghost use Rattle.ruled_link.specs.Outward.{sending};
 
-use blocks::{BLOCK_BYTES, MemStore, Refusal, Settings, Tuple};
+use blocks::{BLOCK_BYTES, ConnectionWords, MemStore, Refusal, Settings, Tuple};
 use bytes::Bytes;
 use ruled_link::{PieceIn, PieceOut, RuledIn, RuledOut, row};
 use session_nodes::{Local, Peer, Unknown};
@@ -30,6 +30,9 @@ const OWN: Tuple = Tuple {
     first_historical: 0,
     second_historical: 0,
 };
+
+/// The words of its connection.
+const WORDS: ConnectionWords = ConnectionWords { sync: 5, loss: 7 };
 
 /// A primary at the ends of two rows.
 pub(crate) type RowLocal<R> = Local<Unknown, RuledOut<R>, RuledIn<R>, MemStore>;
@@ -69,7 +72,7 @@ pub(crate) fn open_local<R: Wait + Copy + Drop>(
     let disk = MemStore::zeroed(alloc, SETTINGS.blocks)?;
     let marks = Vec::from_elem(alloc, false, SETTINGS.blocks as usize)?;
     let (ends, rows) = rows(rt, alloc)?;
-    match Local::open(alloc, SETTINGS, disk, OWN, marks, ends, (5, 7)) {
+    match Local::open(alloc, SETTINGS, disk, OWN, marks, ends, WORDS) {
         Ok(node) => Ok((node, rows)),
         Err(refusal) => Err(refusal),
     }

@@ -20,6 +20,9 @@ pub trait Device {
     /// `holds first count bytes`: the local disk held these bytes in `count` blocks from block `first` on.
     ghost holds: { ℕ → ℕ → List ℕ → Type 0 };
 
+    /// `releases number`: each write up to this number was released.
+    ghost releases: { ℕ → Type 0 };
+
     /// `shows own other`: the primary's status line was `own`, and the secondary's was `other`.
     ghost shows: { PrimaryLine → SecondaryLine → Type 0 };
 
@@ -82,16 +85,18 @@ pub trait Device {
     /// Returns how many blocks the primary has marked.
     fn marks(&self) -> u32;
 
-    /// Returns whether the link has nothing more to do: the primary's end is closed, or its connection is established,
-    /// no block is marked, and every epoch is acknowledged.
+    /// Returns whether the link has nothing more to do. The primary's end is closed, or its connection is established, no block
+    /// is marked, every epoch is acknowledged, and no item waits to be sent; and then the secondary's end is closed, or it has
+    /// taken all that was sent, the identifiers that end a resync too.
     fn is_quiet(&self) -> bool;
 
     /// Returns how many writes were accepted, which is the number of the last one.
     fn accepted(&self) -> u64;
 
-    /// Returns the number up to which each write is released: the local disk has done it, and the peer's disk has its
-    /// whole epoch, unless the write has no connection.
-    fn released(&self) -> u64;
+    /// Returns the number up to which each write is released: the local disk has done it or failed it, and the peer's disk has
+    /// its whole epoch, unless the write has no connection.
+    fn released(&self) -> u64
+        ensures released { releases result };
 
     /// Returns how many items of its last connection the peer's disk has done. It starts anew with a connection.
     fn applied(&self) -> u32;

@@ -7,7 +7,7 @@ use blocks::{Done, Refusal};
 use bytes::Bytes;
 use primary::Receipt;
 use status_lines::PrimaryLine;
-use turns::{LocalRole, Turn};
+use turns::{LocalRole, SentItems, Turn};
 
 /// The primary's half of a session, over any link and disk. Each call locks the node, does what it says, and unlocks
 /// the node. Its refusals are those of the node's call of the same name.
@@ -20,6 +20,9 @@ pub trait PrimaryHalf {
 
     /// `holds first count bytes`: the primary's disk held these bytes in `count` blocks from block `first` on.
     ghost holds: { ℕ → ℕ → List ℕ → Type 0 };
+
+    /// `releases number`: each write up to this number was released.
+    ghost releases: { ℕ → Type 0 };
 
     /// `shows line`: the primary's status line was this one.
     ghost shows: { PrimaryLine → Type 0 };
@@ -59,15 +62,16 @@ pub trait PrimaryHalf {
     /// Returns whether the disk has a write to do.
     fn has_unfinished(&self) -> bool;
 
-    /// Returns whether the link has nothing more to do: the end is closed, or its connection is established, no block
-    /// is marked, and every epoch is acknowledged.
-    fn is_quiet(&self) -> bool;
+    /// Returns what was sent on the last connection, if the primary has nothing more to do for the link: its end is closed, or
+    /// its connection is established, no block is marked, every epoch is acknowledged, and no item waits to be sent.
+    fn sent_if_quiet(&self) -> Option<SentItems>;
 
     /// Returns how many writes were accepted, which is the number of the last one.
     fn accepted(&self) -> u64;
 
     /// Returns the number up to which each write is released.
-    fn released(&self) -> u64;
+    fn released(&self) -> u64
+        ensures released { releases result };
 
     /// Returns how many blocks are marked.
     fn marks(&self) -> u32;
@@ -77,11 +81,11 @@ pub trait PrimaryHalf {
         ensures shown { shows result };
 
     /// Returns the bell that the half's threads wait on.
-    fn work(&self) -> &Bell;
+    fn work_bell(&self) -> &Bell;
 
     /// Returns the bell that writers wait on.
-    fn writers(&self) -> &Bell;
+    fn writers_bell(&self) -> &Bell;
 
     /// Returns the bell of the pump that carries away what the node sends.
-    fn sent(&self) -> &Bell;
+    fn pump_bell(&self) -> &Bell;
 }

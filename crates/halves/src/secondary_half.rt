@@ -2,7 +2,7 @@
 use bell::Bell;
 use blocks::{Done, Refusal};
 use status_lines::SecondaryLine;
-use turns::{PeerRole, Turn};
+use turns::{PeerRole, SentItems, Turn};
 
 /// The secondary's half of a session, over any link and disk. Each call locks the node, does what it says, and unlocks
 /// the node. Its refusals are those of the node's call of the same name.
@@ -33,6 +33,10 @@ pub trait SecondaryHalf {
     /// Opens the end again under the connection's number.
     fn reopen(&self, number: u32) -> Result<(), Refusal>;
 
+    /// Returns whether nothing of what was sent is on its way: the end has taken as many items on the same connection, or it is
+    /// closed.
+    fn has_taken(&self, sent: SentItems) -> bool;
+
     /// Returns whether the disk has an item to do.
     fn has_unfinished(&self) -> bool;
 
@@ -44,8 +48,8 @@ pub trait SecondaryHalf {
         ensures shown { shows result };
 
     /// Returns the bell that the half's threads wait on.
-    fn work(&self) -> &Bell;
+    fn work_bell(&self) -> &Bell;
 
     /// Returns the bell of the pump that carries away what the node sends.
-    fn sent(&self) -> &Bell;
+    fn pump_bell(&self) -> &Bell;
 }

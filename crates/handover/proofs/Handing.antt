@@ -1,7 +1,7 @@
 -- Why the next session may start from the parts that two nodes leave.
-use Rattle.std.proofs.Common.{ℕ, suc, ◌≡◌, ◌+◌, ◌<◌, ◌≤◌, inl, inr, Bool, true, false, ◌&&◌, List, [], ◌∷◌, ◌++◌, length, map, Option, Some, None, is_none}
-use Rattle.std.proofs.Common.{slice_get, refl, sym, ◌∙◌, ap, subst, arith, nat_lt}
-use Rattle.std.specs.Prelude.{unwrap_or, is_some}
+use Rattle.std.proofs.Common.{ℕ, suc, ◌≡◌, ◌+◌, ◌<◌, ◌≤◌, inl, inr, Bool, true, false, ◌&&◌, List, [], ◌∷◌, ◌++◌, length, map, Option}
+use Rattle.std.proofs.Common.{slice_get, sym, ◌∙◌, ap, subst, arith, nat_lt}
+use Rattle.std.specs.Prelude.{unwrap_or}
 use Rattle.std.proofs.lemmas.Bool.{cases_lt, and_parts, and_from, le-ltb}
 use Rattle.std.proofs.lemmas.List.{map-append}
 use Rattle.std.proofs.lemmas.Option.{slice_get_past}
@@ -16,8 +16,8 @@ use Rattle.handover.proofs.Leaving.{leaves_a_sound_opening}
 use Rattle.handover.proofs.Unparted.{leaves_no_part}
 use Rattle.model.specs.Contents.{IsDisk}
 use Rattle.model.specs.Headline.{IsJoined, Cover, is_marked}
-use Rattle.model.specs.Primary.{PrimaryHistory, primary_connection, next_local, local_map}
-use Rattle.model.specs.Secondary.{SecondaryHistory, secondary_connection, is_drained, secondary_map}
+use Rattle.model.specs.Primary.{PrimaryHistory, local_map}
+use Rattle.model.specs.Secondary.{SecondaryHistory, secondary_map}
 use Rattle.model.specs.Settlement.{is_at_rest}
 use Rattle.model.specs.Theorems.{IsSoundOpening, marks_at}
 use Rattle.primary_protocol.proofs.Common.Marks.{length-marks, marked-in}
@@ -26,18 +26,6 @@ use Rattle.secondary_protocol.specs.Node as secondary
 use Rattle.settle.proofs.Settling.{reached_from, of-runs, sound-opening}
 use Rattle.settle.specs.Settled.{WereHonest}
 use Rattle.halves.specs.declared.parts.Parts.{Parts}
-
--- both ends are closed, nothing is pending, and the local disk has done or failed every write
-pub at-rest : (p : PrimaryHistory) (s : SecondaryHistory) → (primary_connection p).closed ≡ true → (secondary_connection s).closed ≡ true → is_drained s ≡ true
-    → is_some (next_local p) ≡ false → is_at_rest p s ≡ true
-at-rest p s closed closed_too drained done =
-    and_from ((primary_connection p).closed && (secondary_connection s).closed) (is_drained s && is_none (next_local p))
-    (and_from (primary_connection p).closed (secondary_connection s).closed closed closed_too)
-    (and_from (is_drained s) (is_none (next_local p)) drained (none (next_local p) done))
-  where
-    none : (v : Option ℕ) → is_some v ≡ false → is_none v ≡ true
-    none None is = refl
-    none (Some n) is = absurd (cc)
 
 -- what two histories leave is a sound opening, where they are joined and at rest
 abbrev LeaveSound : PrimaryHistory → SecondaryHistory → Type 0

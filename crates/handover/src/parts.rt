@@ -15,12 +15,13 @@ ghost use Rattle.secondary.specs.State.{node as secondary_node};
 ghost use Rattle.secondary_protocol.specs.Node.{NodeHas as SecondaryHas};
 ghost use Rattle.settle.specs.Settled.{WereHonest};
 
-use blocks::{Block, Refusal, Store, Tuple};
+use blocks::{Block, ConnectionWords, Refusal, Store, Tuple};
 use generations::decide;
 use halves::Parts;
 use link::{FrameIn, FrameOut};
 use primary::Primary;
 use secondary::Secondary;
+use settle::is_at_rest;
 use std::alloc::Global;
 
 /// The identifiers of a disk about which nothing is known.
@@ -51,11 +52,11 @@ pub fn parts_after<
     alloc: Global,
     primary: &Primary<O, I, S>,
     secondary: &Secondary<P, J, T>,
-    words: (u64, u64),
+    words: ConnectionWords,
 ) -> Result<Parts, Refusal>
     ensures left { IfOk result (λ parts. (p : PrimaryHistory) (s : SecondaryHistory) → PrimaryHas (primary_node primary.now) p → SecondaryHas (secondary_node secondary.now) s
         → IsLeft parts p s) }
-    ensures words { IfOk result (λ parts. (parts.sync ≡ words.0) × (parts.loss ≡ words.1)) }
+    ensures words { IfOk result (λ parts. (parts.sync ≡ words.sync) × (parts.loss ≡ words.loss)) }
     ensures sound { IfOk result (λ parts. (p : PrimaryHistory) (s : SecondaryHistory) → PrimaryHas (primary_node primary.now) p → SecondaryHas (secondary_node secondary.now) s
         → IsJoined p s → WereHonest p s → IsSoundOpening (opening_of parts (local_map p) (secondary_map s))) }
     ensures unparted { IfOk result (λ parts. (p : PrimaryHistory) (s : SecondaryHistory) → PrimaryHas (primary_node primary.now) p → SecondaryHas (secondary_node secondary.now) s
@@ -69,11 +70,7 @@ pub fn parts_after<
         → result ≡ Err BadSetting → p.settings ≡ s.settings → ⊥ }
     ensures refused { IfErr result (λ e. (e ≡ NotDrained) ⊎ ((e ≡ BadSetting) ⊎ (e ≡ NoMemory))) }
 {
-    if primary.is_open()
-        || secondary.is_open()
-        || !secondary.is_drained()
-        || primary.next_local().is_some()
-    {
+    if !is_at_rest(primary, secondary) {
         return Err(Refusal::NotDrained);
     }
     let settings = primary.settings();
@@ -88,8 +85,8 @@ pub fn parts_after<
         own,
         peer,
         marks,
-        sync: words.0,
-        loss: words.1,
+        sync: words.sync,
+        loss: words.loss,
     })
 }
 

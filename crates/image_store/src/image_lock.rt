@@ -17,8 +17,8 @@ impl ImageLock {
     /// lock. Does not wait, creates no file, and changes none.
     ///
     /// `InUse` comes if a lock on the image is kept, by another process or by this one, or if another file has taken its
-    /// place meanwhile; `NotAFile` if it is no regular file; `Unread` if the system refuses to open or find it; `Unlocked` if it
-    /// refuses the lock for another reason.
+    /// place meanwhile; `NotAFile` if it is no regular file; `Unread` if the system refuses to open or find it; `LockRefused` if
+    /// it refuses the lock for another reason.
     pub fn take<H: Files<File = File>>(rt: &H, path: &str) -> Result<ImageLock, OpenFault> {
         let file = OpenOptions::new()
             .read(true)
@@ -33,7 +33,7 @@ impl ImageLock {
         match file.try_lock() {
             Ok(()) => {}
             Err(TryLockError::WouldBlock) => return Err(OpenFault::InUse),
-            Err(TryLockError::Error(error)) => return Err(OpenFault::Unlocked(error)),
+            Err(TryLockError::Error(error)) => return Err(OpenFault::LockRefused(error)),
         }
         match is_at(rt, path, &file) {
             Ok(true) => Ok(ImageLock { file }),
@@ -42,11 +42,16 @@ impl ImageLock {
         }
     }
 
-    /// Returns whether `path` still names the locked image, and this has as many bytes: the lock keeps nobody out who does not
-    /// take it.
-    pub fn is_kept<H: Files<File = File>>(&self, rt: &H, path: &str, bytes: u64) -> bool {
+    /// Returns whether `path` still names the locked file, and the file has `image_bytes` bytes: a program that takes no lock may
+    /// have replaced or resized it.
+    pub fn is_unchanged<H: Files<File = File>>(
+        &self,
+        rt: &H,
+        path: &str,
+        image_bytes: u64,
+    ) -> bool {
         match self.file.metadata() {
-            Ok(found) => found.len() == bytes && is_at(rt, path, &self.file).unwrap_or(false),
+            Ok(found) => found.len() == image_bytes && is_at(rt, path, &self.file).unwrap_or(false),
             Err(_) => false,
         }
     }

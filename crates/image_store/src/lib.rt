@@ -10,6 +10,7 @@ mod sync_handle;
 
 pub use both::Both;
 pub use image_lock::ImageLock;
+pub use loading::check_length;
 pub use open_fault::OpenFault;
 pub use store::ImageStore;
 pub use sync_handle::SyncHandle;

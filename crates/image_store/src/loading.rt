@@ -8,8 +8,8 @@ use blocks::{BLOCK_BYTES, MemStore};
 use std::alloc::Global;
 use std::os::unix::fs::FileExt;
 
-/// Checks that an image has exactly as many bytes as its device.
-pub(crate) fn check_length(found: u64, blocks: u32) -> Result<(), OpenFault>
+/// Checks that an image of `found` bytes has exactly as many as a device of `blocks` blocks. `WrongLength` if it does not.
+pub fn check_length(found: u64, blocks: u32) -> Result<(), OpenFault>
     ensures accepted { IsOk result ↔ (found ≡ blocks * 4096) }
     ensures refused { IfErr result (λ fault. fault ≡ WrongLength found (blocks * 4096)) }
 {

@@ -6,14 +6,14 @@ use thiserror::Error;
 #[derive(Debug, Drop, Error)]
 pub enum OpenFault {
     /// The file has `found` bytes, and the requested device has `wanted`.
-    #[error("the image has {found} bytes, and an image of this device has {wanted}")]
+    #[error("the image has {found} bytes, and an image of this device has {wanted} (see --blocks)")]
     WrongLength { found: u64, wanted: u64 },
     /// The file cannot be opened for reading and writing, or read to its end, or gives no second handle.
     #[error("the image could not be opened and read: {0}")]
     Unread(io::Error),
     /// The system refuses the lock, and not because one is kept, as a file system that has none does.
     #[error("the image could not be locked: {0}")]
-    Unlocked(io::Error),
+    LockRefused(io::Error),
     /// The file is a device, a pipe or the like.
     #[error("an image is a regular file")]
     NotAFile,

@@ -1,13 +1,13 @@
 //! The primary under its lock.
 ghost use Rattle.std.specs.Prelude.{◌≡◌, false, slice_get, unwrap_or, IfSome};
 ghost use Rattle.endpoint.specs.Calls.{IsNewIn, IsNewOut};
-ghost use Rattle.locked_halves.specs.Shown.{PrimaryHasShown};
+ghost use Rattle.locked_halves.specs.Shown.{HasReleased, PrimaryHasShown};
 ghost use Rattle.model.specs.Primary.{primary_opening};
 ghost use Rattle.model.specs.Theorems.{primary_at};
 ghost use Rattle.session_nodes.specs.Primaries.{PrimaryIsHad};
 
 use bell::Bell;
-use blocks::{Done, Refusal, Settings, Store, Tuple};
+use blocks::{ConnectionWords, Done, Refusal, Settings, Store, Tuple};
 use bytes::Bytes;
 use halves::PrimaryHalf;
 use link::{FrameIn, FrameOut};
@@ -17,7 +17,7 @@ use session_nodes::{Beginning, Local};
 use status_lines::PrimaryLine;
 use std::alloc::Global;
 use std::sync::{Mutex, Wait};
-use turns::{LocalRole, Turn};
+use turns::{LocalRole, SentItems, Turn};
 
 /// The primary under its lock.
 #[derive(Drop)]
@@ -30,9 +30,9 @@ pub struct LocalHalf<
 > {
     rt: R,
     node: Mutex<Local<B, O, I, S>>,
-    work: Bell,
-    writers: Bell,
-    sent: Bell,
+    work_bell: Bell,
+    writers_bell: Bell,
+    pump_bell: Bell,
 }
 
 impl<
@@ -52,7 +52,7 @@ impl<
         tuple: Tuple,
         marks: Vec<bool>,
         link: (O, I),
-        words: (u64, u64),
+        words: ConnectionWords,
     ) -> Result<LocalHalf<R, B, O, I, S>, Refusal>
         requires outward { IsNewOut (O.state link.0) }
         requires inward { IsNewIn (I.state link.1) }
@@ -63,9 +63,9 @@ impl<
             Ok(node) => Ok(LocalHalf {
                 rt,
                 node: Mutex::new(node),
-                work: Bell::new(),
-                writers: Bell::new(),
-                sent: Bell::new(),
+                work_bell: Bell::new(),
+                writers_bell: Bell::new(),
+                pump_bell: Bell::new(),
             }),
             Err(refusal) => Err(refusal),
         }
@@ -86,12 +86,14 @@ impl<
     I: FrameIn + Drop,
     S: Store + Drop,
 > PrimaryHalf for LocalHalf<R, B, O, I, S> {
-    ghost use Rattle.locked_halves.specs.Shown.{PrimaryHasShown};
+    ghost use Rattle.locked_halves.specs.Shown.{HasReleased, PrimaryHasShown};
     ghost use Rattle.session_nodes.specs.Primaries.{HasAccepted, HasHeld};
 
     ghost accepts = { HasAccepted B.opening };
 
     ghost holds = { HasHeld B.opening };
+
+    ghost releases = { HasReleased B.opening };
 
     ghost shows = { PrimaryHasShown B.opening };
 
@@ -119,19 +121,19 @@ impl<
     fn turn(&self, role: LocalRole) -> Turn {
         let turn = self.node.lock(&self.rt).turn(role);
         if turn.wakes_writers {
-            self.writers.ring_all(&self.rt);
+            self.writers_bell.ring_all(&self.rt);
         }
         turn
     }
 
     fn close(&self) {
         let _ = self.node.lock(&self.rt).close();
-        self.writers.ring_all(&self.rt);
+        self.writers_bell.ring_all(&self.rt);
     }
 
     fn close_lost(&self, connection: u32) {
         self.node.lock(&self.rt).close_lost(connection);
-        self.writers.ring_all(&self.rt);
+        self.writers_bell.ring_all(&self.rt);
     }
 
     fn reopen(&self, sync: u64, loss: u64) -> Result<u32, Refusal> {
@@ -142,8 +144,8 @@ impl<
         self.node.lock(&self.rt).has_unfinished()
     }
 
-    fn is_quiet(&self) -> bool {
-        self.node.lock(&self.rt).is_quiet()
+    fn sent_if_quiet(&self) -> Option<SentItems> {
+        self.node.lock(&self.rt).sent_if_quiet()
     }
 
     fn accepted(&self) -> u64 {
@@ -151,7 +153,7 @@ impl<
     }
 
     fn released(&self) -> u64 {
-        self.node.lock(&self.rt).released()
+        released_of(&self.node.lock(&self.rt))
     }
 
     fn marks(&self) -> u32 {
@@ -162,17 +164,28 @@ impl<
         line_of(&self.node.lock(&self.rt))
     }
 
-    fn work(&self) -> &Bell {
-        &self.work
+    fn work_bell(&self) -> &Bell {
+        &self.work_bell
     }
 
-    fn writers(&self) -> &Bell {
-        &self.writers
+    fn writers_bell(&self) -> &Bell {
+        &self.writers_bell
     }
 
-    fn sent(&self) -> &Bell {
-        &self.sent
+    fn pump_bell(&self) -> &Bell {
+        &self.pump_bell
     }
+}
+
+// Returns the number up to which each write of a locked node is released.
+fn released_of<B: Beginning, O: FrameOut + Drop, I: FrameIn + Drop, S: Store + Drop>(
+    local: &Local<B, O, I, S>,
+) -> u64
+    ensures { HasReleased B.opening result }
+{
+    // Proof hint: brings the node's history into scope.
+    let _ = local.node();
+    local.released()
 }
 
 // Returns what the line of a locked node shows.

@@ -16,7 +16,7 @@ use session_nodes::{Beginning, Peer};
 use status_lines::SecondaryLine;
 use std::alloc::Global;
 use std::sync::{Mutex, Wait};
-use turns::{PeerRole, Turn};
+use turns::{PeerRole, SentItems, Turn};
 
 /// The secondary under its lock.
 #[derive(Drop)]
@@ -29,8 +29,8 @@ pub struct PeerHalf<
 > {
     rt: R,
     node: Mutex<Peer<B, O, I, S>>,
-    work: Bell,
-    sent: Bell,
+    work_bell: Bell,
+    pump_bell: Bell,
 }
 
 impl<R: Wait + Drop, B: Beginning, O: FrameOut + Drop, I: FrameIn + Drop, S: Store + Drop> PeerHalf<
@@ -58,8 +58,8 @@ impl<R: Wait + Drop, B: Beginning, O: FrameOut + Drop, I: FrameIn + Drop, S: Sto
             Ok(node) => Ok(PeerHalf {
                 rt,
                 node: Mutex::new(node),
-                work: Bell::new(),
-                sent: Bell::new(),
+                work_bell: Bell::new(),
+                pump_bell: Bell::new(),
             }),
             Err(refusal) => Err(refusal),
         }
@@ -112,6 +112,10 @@ impl<
         self.node.lock(&self.rt).reopen(number)
     }
 
+    fn has_taken(&self, sent: SentItems) -> bool {
+        self.node.lock(&self.rt).has_taken(sent)
+    }
+
     fn has_unfinished(&self) -> bool {
         self.node.lock(&self.rt).has_unfinished()
     }
@@ -124,12 +128,12 @@ impl<
         line_of(&self.node.lock(&self.rt))
     }
 
-    fn work(&self) -> &Bell {
-        &self.work
+    fn work_bell(&self) -> &Bell {
+        &self.work_bell
     }
 
-    fn sent(&self) -> &Bell {
-        &self.sent
+    fn pump_bell(&self) -> &Bell {
+        &self.pump_bell
     }
 }
 

@@ -13,35 +13,33 @@ use Rattle.mirror.specs.Runs.{LocalRuns, PeerRuns}
 pub local-step : (event : PrimaryEvent) (v w : local.PrimaryView) (returned : Reply)
     → ((h : PrimaryHistory) → (local_node.primary_step event h).1 ≡ primary_after event h)
     → local_node.NodeSteps event (local.node v) returned (local.node w) → LocalRuns v w
-local-step event v w returned is steps h was = (event ∷ [], subst (local_node.NodeHas (local.node w)) (is h) (steps.after h was))
-
-pub local-self : (v : local.PrimaryView) → LocalRuns v v
-local-self v h was = ([], was)
+local-step event v w returned is steps = record { run = λ h was. (event ∷ [], subst (local_node.NodeHas (local.node w)) (is h) (steps.after h was)) }
 
 local-both : (events more : List PrimaryEvent) (h : PrimaryHistory) → primary_run more (primary_run events h) ≡ primary_run (events ++ more) h
 local-both [] more h = refl
 local-both (event ∷ events) more h = local-both events more (primary_after event h)
 
-pub local-on : (u v w : local.PrimaryView) → LocalRuns u v → LocalRuns v w → LocalRuns u w
-local-on u v w first second h was =
-    let one = first h was in
-    let two = second (primary_run one.0 h) one.1 in
-    (one.0 ++ two.0, subst (local_node.NodeHas (local.node w)) (local-both one.0 two.0 h) two.1)
+pub local_on : {u v w : local.PrimaryView} → LocalRuns u v → LocalRuns v w → LocalRuns u w
+local_on {u} {v} {w} first second = record {
+  run = λ h was.
+      let one = first.run h was in
+      let two = second.run (primary_run one.0 h) one.1 in
+      (one.0 ++ two.0, subst (local_node.NodeHas (local.node w)) (local-both one.0 two.0 h) two.1);
+}
 
 pub peer-step : (event : SecondaryEvent) (v w : peer.SecondaryView) (returned : Reply)
     → ((h : SecondaryHistory) → (peer_node.secondary_step event h).1 ≡ secondary_after event h)
     → peer_node.NodeSteps event (peer.node v) returned (peer.node w) → PeerRuns v w
-peer-step event v w returned is steps h was = (event ∷ [], subst (peer_node.NodeHas (peer.node w)) (is h) (steps.after h was))
-
-pub peer-self : (v : peer.SecondaryView) → PeerRuns v v
-peer-self v h was = ([], was)
+peer-step event v w returned is steps = record { run = λ h was. (event ∷ [], subst (peer_node.NodeHas (peer.node w)) (is h) (steps.after h was)) }
 
 peer-both : (events more : List SecondaryEvent) (h : SecondaryHistory) → secondary_run more (secondary_run events h) ≡ secondary_run (events ++ more) h
 peer-both [] more h = refl
 peer-both (event ∷ events) more h = peer-both events more (secondary_after event h)
 
-pub peer-on : (u v w : peer.SecondaryView) → PeerRuns u v → PeerRuns v w → PeerRuns u w
-peer-on u v w first second h was =
-    let one = first h was in
-    let two = second (secondary_run one.0 h) one.1 in
-    (one.0 ++ two.0, subst (peer_node.NodeHas (peer.node w)) (peer-both one.0 two.0 h) two.1)
+pub peer_on : {u v w : peer.SecondaryView} → PeerRuns u v → PeerRuns v w → PeerRuns u w
+peer_on {u} {v} {w} first second = record {
+  run = λ h was.
+      let one = first.run h was in
+      let two = second.run (secondary_run one.0 h) one.1 in
+      (one.0 ++ two.0, subst (peer_node.NodeHas (peer.node w)) (peer-both one.0 two.0 h) two.1);
+}

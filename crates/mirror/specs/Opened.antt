@@ -1,6 +1,5 @@
 -- Both nodes have opened.
 use Rattle.std.specs.Prelude.{ℕ, false, ◌&&◌, not, nat_le, List, ◌∷◌}
-use Rattle.blocks.specs.declared.outcome.Done.{Done}
 use Rattle.blocks.specs.declared.outcome.What.TheVariants as what
 use Rattle.blocks.specs.declared.outcome.Reply.TheVariants as reply
 use Rattle.blocks.specs.declared.refusal.Refusal.TheVariants.{NotDrained, StreamFull}

@@ -1,5 +1,11 @@
 //! Steps of the primary.
-ghost use Rattle.mirror.specs.Runs.{LocalRuns};
+ghost use Rattle.std.specs.Prelude.{◌≡◌, Ok, true, false, IfErr, is_some};
+ghost use Rattle.model.specs.Primary.{PrimaryHistory};
+ghost use Rattle.model.specs.PrimarySteps.{resync_tests};
+ghost use Rattle.model.specs.Refusals.{first_refusal};
+ghost use Rattle.primary.specs.State.{node};
+ghost use Rattle.primary_protocol.specs.Node.{NodeHas};
+ghost use Rattle.mirror.specs.Runs.{IsFailure, LocalRuns};
 
 use crate::working::went;
 use blocks::{Refusal, Store};
@@ -8,10 +14,13 @@ use primary::Primary;
 
 /// Does what the primary can do once: its disk does a write, it sends a frame, it takes one, it copies a block. Returns
 /// whether it did anything.
+#[tactic(auto, using(crate::proofs::Runs::local_on))]
 pub(crate) fn local_turn<O: FrameOut + Drop, I: FrameIn + Drop, S: Store + Drop>(
     local: &mut Primary<O, I, S>,
 ) -> Result<bool, Refusal>
-    ensures { LocalRuns local.old local.new }
+    ensures runs { LocalRuns local.old local.new }
+    ensures copied { result ≡ Ok false → (h : PrimaryHistory) → NodeHas (node local.new) h → is_some (first_refusal (resync_tests h false)) ≡ true }
+    ensures refused { IfErr result IsFailure }
 {
     let written = write(local)?;
     let sent = send(local)?;
@@ -24,7 +33,8 @@ pub(crate) fn local_turn<O: FrameOut + Drop, I: FrameIn + Drop, S: Store + Drop>
 fn write<O: FrameOut + Drop, I: FrameIn + Drop, S: Store + Drop>(
     local: &mut Primary<O, I, S>,
 ) -> Result<bool, Refusal>
-    ensures { LocalRuns local.old local.new }
+    ensures runs { LocalRuns local.old local.new }
+    ensures refused { IfErr result IsFailure }
 {
     match local.next_local() {
         Some(number) => went(local.local(number)),
@@ -36,7 +46,8 @@ fn write<O: FrameOut + Drop, I: FrameIn + Drop, S: Store + Drop>(
 fn send<O: FrameOut + Drop, I: FrameIn + Drop, S: Store + Drop>(
     local: &mut Primary<O, I, S>,
 ) -> Result<bool, Refusal>
-    ensures { LocalRuns local.old local.new }
+    ensures runs { LocalRuns local.old local.new }
+    ensures refused { IfErr result IsFailure }
 {
     went(local.send())
 }
@@ -45,7 +56,8 @@ fn send<O: FrameOut + Drop, I: FrameIn + Drop, S: Store + Drop>(
 fn take<O: FrameOut + Drop, I: FrameIn + Drop, S: Store + Drop>(
     local: &mut Primary<O, I, S>,
 ) -> Result<bool, Refusal>
-    ensures { LocalRuns local.old local.new }
+    ensures runs { LocalRuns local.old local.new }
+    ensures refused { IfErr result IsFailure }
 {
     went(local.ack_in())
 }
@@ -54,7 +66,9 @@ fn take<O: FrameOut + Drop, I: FrameIn + Drop, S: Store + Drop>(
 fn copy<O: FrameOut + Drop, I: FrameIn + Drop, S: Store + Drop>(
     local: &mut Primary<O, I, S>,
 ) -> Result<bool, Refusal>
-    ensures { LocalRuns local.old local.new }
+    ensures runs { LocalRuns local.old local.new }
+    ensures copied { result ≡ Ok false → (h : PrimaryHistory) → NodeHas (node local.new) h → is_some (first_refusal (resync_tests h false)) ≡ true }
+    ensures refused { IfErr result IsFailure }
 {
     went(local.resync_next())
 }

@@ -11,7 +11,7 @@ ghost use Rattle.secondary.specs.State as peer_state;
 ghost use Rattle.secondary_protocol.specs.Node as peer_node;
 ghost use Rattle.mirror.specs.Opened.{BothOpen, connect_tests};
 
-use blocks::{Refusal, Store};
+use blocks::{ConnectionWords, Refusal, Store};
 use link::{FrameIn, FrameOut};
 use primary::Primary;
 use secondary::Secondary;
@@ -29,7 +29,7 @@ pub fn connect<O, I, P, J, S, T>(
     peer: &mut Secondary<P, J, T>,
     there: (O, J),
     back: (P, I),
-    words: (u64, u64),
+    words: ConnectionWords,
 ) -> Result<(), Refusal>
 where
     O: FrameOut + Drop,
@@ -40,17 +40,17 @@ where
     T: Store + Drop,
     requires there { IsNewOut (O.state there.0) × IsNewIn (J.state there.1) }
     requires back { IsNewOut (P.state back.0) × IsNewIn (I.state back.1) }
-    ensures opened { OnOk result (BothOpen words.0 words.1 local.old local.new peer.old peer.new) }
+    ensures opened { OnOk result (BothOpen words.sync words.loss local.old local.new peer.old peer.new) }
     ensures unchanged { (h : PrimaryHistory) (g : SecondaryHistory) → local_node.NodeHas (local_state.node local.old) h → peer_node.NodeHas (peer_state.node peer.old) g
         → OnErr result ((local.new ≡ local.old) × (peer.new ≡ peer.old)) }
     ensures refused { (h : PrimaryHistory) (g : SecondaryHistory) → local_node.NodeHas (local_state.node local.old) h → peer_node.NodeHas (peer_state.node peer.old) g
-        → IfErr result (λ e. (e ≡ NoMemory) ⊎ (first_refusal (connect_tests words.0 words.1 h g) ≡ Some e)) }
+        → IfErr result (λ e. (e ≡ NoMemory) ⊎ (first_refusal (connect_tests words.sync words.loss h g) ≡ Some e)) }
 {
     peer.may_open()?;
     if peer.number() == u32::MAX {
         return Err(Refusal::StreamFull);
     }
-    local.may_open(words.0, words.1)?;
-    local.open(there.0, back.1, words.0, words.1)?;
+    local.may_open(words.sync, words.loss)?;
+    local.open(there.0, back.1, words.sync, words.loss)?;
     peer.open(back.0, there.1)
 }

@@ -1,5 +1,6 @@
 //! Steps of the secondary.
-ghost use Rattle.mirror.specs.Runs.{PeerRuns};
+ghost use Rattle.std.specs.Prelude.{IfErr};
+ghost use Rattle.mirror.specs.Runs.{IsFailure, PeerRuns};
 
 use crate::working::went;
 use blocks::{Refusal, Store};
@@ -11,7 +12,8 @@ use secondary::Secondary;
 pub(crate) fn peer_turn<O: FrameOut + Drop, I: FrameIn + Drop, S: Store + Drop>(
     peer: &mut Secondary<O, I, S>,
 ) -> Result<bool, Refusal>
-    ensures { PeerRuns peer.old peer.new }
+    ensures runs { PeerRuns peer.old peer.new }
+    ensures refused { IfErr result IsFailure }
 {
     let taken = take(peer)?;
     let applied = apply(peer)?;
@@ -23,7 +25,8 @@ pub(crate) fn peer_turn<O: FrameOut + Drop, I: FrameIn + Drop, S: Store + Drop>(
 fn take<O: FrameOut + Drop, I: FrameIn + Drop, S: Store + Drop>(
     peer: &mut Secondary<O, I, S>,
 ) -> Result<bool, Refusal>
-    ensures { PeerRuns peer.old peer.new }
+    ensures runs { PeerRuns peer.old peer.new }
+    ensures refused { IfErr result IsFailure }
 {
     went(peer.receive())
 }
@@ -32,7 +35,8 @@ fn take<O: FrameOut + Drop, I: FrameIn + Drop, S: Store + Drop>(
 fn apply<O: FrameOut + Drop, I: FrameIn + Drop, S: Store + Drop>(
     peer: &mut Secondary<O, I, S>,
 ) -> Result<bool, Refusal>
-    ensures { PeerRuns peer.old peer.new }
+    ensures runs { PeerRuns peer.old peer.new }
+    ensures refused { IfErr result IsFailure }
 {
     match peer.next() {
         Ok(place) => went(peer.peer(place)),
@@ -44,7 +48,8 @@ fn apply<O: FrameOut + Drop, I: FrameIn + Drop, S: Store + Drop>(
 fn send<O: FrameOut + Drop, I: FrameIn + Drop, S: Store + Drop>(
     peer: &mut Secondary<O, I, S>,
 ) -> Result<bool, Refusal>
-    ensures { PeerRuns peer.old peer.new }
+    ensures runs { PeerRuns peer.old peer.new }
+    ensures refused { IfErr result IsFailure }
 {
     went(peer.ack_out())
 }

@@ -1,6 +1,9 @@
 //! Running both nodes until nothing remains to do.
-ghost use Rattle.std.specs.Prelude.{◌≡◌, Ok, true, None};
-ghost use Rattle.mirror.specs.Runs.{HaveNothingLeft, LocalRuns, PeerRuns};
+ghost use Rattle.std.specs.Prelude.{◌≡◌, Ok, Err, true, false, None, IfErr};
+ghost use Rattle.blocks.specs.Numbered.{is_busy};
+ghost use Rattle.blocks.specs.declared.refusal.Refusal.{Refusal};
+ghost use Rattle.blocks.specs.declared.refusal.Refusal.TheVariants.{NotConnected};
+ghost use Rattle.mirror.specs.Runs.{HaveNothingLeft, IsFailure, IsNoFailure, LocalRuns, PeerRuns};
 
 use crate::local::local_turn;
 use crate::peer::peer_turn;
@@ -11,8 +14,8 @@ use secondary::Secondary;
 
 /// Has both nodes and their disks do what they can, turn by turn, until neither can do anything, `turns` turns at
 /// most. In a turn each disk does a write or an item, each node sends a frame and takes one, and a resync copies a
-/// block. Returns whether both came to rest: then neither disk has anything to do. If not, it may be called again.
-/// A hello takes some five turns, a write or a block of a resync a few.
+/// block. Returns whether both came to rest: then neither disk has anything to do, and no block can be copied. If not,
+/// it may be called again. A hello takes some five turns, a write or a block of a resync a few.
 ///
 /// If the nodes are closed, their disks do what they have to do. The link has to deliver its frames by itself, as
 /// `ruled_link::RuledLink` does: a `link::PlainLink` needs a caller that carries its queue from one end to the
@@ -36,6 +39,7 @@ where
     ensures local { LocalRuns local.old local.new }
     ensures peer { PeerRuns peer.old peer.new }
     ensures rest { result ≡ Ok true → HaveNothingLeft local.new peer.new }
+    ensures refused { IfErr result (λ e. (is_busy e ≡ false) × (e ≡ NotConnected → ⊥)) }
 {
     for _ in 0..turns {
         let local_went = local_turn(local)?;
@@ -48,7 +52,10 @@ where
 }
 
 /// Returns whether a step was done: it was not if it has nothing to do now, or waits for another one.
-pub(crate) fn went(step: Result<Done, Refusal>) -> Result<bool, Refusal> {
+pub(crate) fn went(step: Result<Done, Refusal>) -> Result<bool, Refusal>
+    ensures waits { result ≡ Ok false → (e : Refusal) × (step ≡ Err e) × IsNoFailure e }
+    ensures refused { IfErr result IsFailure }
+{
     match step {
         Ok(_) => Ok(true),
         Err(refusal) if refusal.is_busy() || refusal == Refusal::NotConnected => Ok(false),

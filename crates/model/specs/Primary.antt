@@ -143,6 +143,10 @@ frames_due settings c = hello_of settings c.hello ++ frames_of c.stream
 abbrev pub items_sent : PrimaryConnection → ℕ
 items_sent c = c.pushed - 3
 
+-- how many items of the stream wait to be sent, if the end is open
+abbrev pub unsent : PrimaryConnection → ℕ
+unsent c = if c.closed then 0 else length c.stream - items_sent c
+
 -- the frames taken that count
 abbrev pub accepted_frames : PrimaryConnection → List Received
 accepted_frames c = counting c.refused c.taken

@@ -1,10 +1,12 @@
 -- A connection as a machine that takes one byte after another.
-use Rattle.std.specs.Prelude.{ℕ, ◌≡◌, ◌+◌, ◌-◌, ◌<◌, ◌≤◌, ◌==◌, if◌then◌else◌, List, [], ◌∷◌, ◌++◌, length, take, Ok}
+use Rattle.std.specs.Prelude.{Bool, true, false, ℕ, ◌≡◌, ◌+◌, ◌-◌, ◌<◌, ◌≤◌, ◌==◌, if◌then◌else◌, List, [], ◌∷◌, ◌++◌, length, take, Ok}
 use Rattle.nbd.specs.declared.command.Command.TheVariants.{Write}
 use Rattle.nbd.specs.declared.phase.Part.{Part}
 use Rattle.nbd.specs.declared.phase.Part.TheVariants as part
 use Rattle.nbd.specs.declared.phase.Phase.{Phase}
 use Rattle.nbd.specs.declared.phase.Phase.TheVariants as phase
+use Rattle.nbd.specs.declared.phase.Refused.{Refused}
+use Rattle.nbd.specs.declared.phase.Refused.TheVariants as refused
 use Rattle.nbd.specs.declared.request.Request.{Request}
 use Rattle.nbd.specs.Exports.{Exported}
 use Rattle.nbd.specs.Judging.{judged}
@@ -15,6 +17,25 @@ pub record Machine : Type 0 where
   pub export : Exported
   pub phase : Phase
   pub held : List ℕ
+
+-- whether a part is one of the handshake
+abbrev pub is_of_handshake : Part → Bool
+is_of_handshake part.ClientFlags = true
+is_of_handshake (part.Option no_zeroes) = true
+is_of_handshake (part.OptionData no_zeroes option length) = true
+is_of_handshake part.Request = false
+is_of_handshake (part.Payload header) = false
+
+-- whether what is refused is an option, and so one of the handshake
+abbrev pub is_option : Refused → Bool
+is_option (refused.LongOption no_zeroes option) = true
+is_option (refused.Write cookie errno) = false
+
+-- whether the client has chosen no export yet
+abbrev pub is_negotiating : Phase → Bool
+is_negotiating (phase.Gather p) = is_of_handshake p
+is_negotiating (phase.Skip left r) = is_option r
+is_negotiating phase.Closed = false
 
 -- the result of bytes: the connection after them, the bytes that go back, and the requests that are given out
 pub record Fed : Type 0 where

@@ -5,10 +5,10 @@ ghost use Rattle.nbd.specs.declared.phase.Phase.TheVariants as phase;
 ghost use Rattle.nbd.specs.declared.phase.Part.TheVariants as part;
 ghost use Rattle.std.specs.List.{AllByRecursion};
 ghost use Rattle.nbd.specs.Inside.{IsInside};
-ghost use Rattle.nbd.specs.Machine.{Adds, Begins, IsPortion, Waits, fed, after_step};
+ghost use Rattle.nbd.specs.Machine.{Adds, Begins, IsPortion, Waits, fed, after_step, is_negotiating};
 ghost use Rattle.nbd.specs.Steps.{view};
 
-use crate::phase::{Part, Phase};
+use crate::phase::{Part, Phase, Refused};
 use crate::step::{Step, end_skip, take_part};
 use crate::{Export, Output};
 use blocks::Refusal;
@@ -60,6 +60,18 @@ impl Connection {
         ensures { IsTrue result ↔ (self.now.phase ≡ phase.Closed) }
     {
         matches!(self.phase, Phase::Closed)
+    }
+
+    /// Returns whether the client is still in its handshake: it has chosen no export. A server limits the time for that, or
+    /// connections that never ask for anything keep others out.
+    pub fn is_negotiating(&self) -> bool
+        ensures { result ≡ is_negotiating self.now.phase }
+    {
+        match self.phase {
+            Phase::Gather(part) => part.is_of_handshake(),
+            Phase::Skip { refused, .. } => matches!(refused, Refused::LongOption { .. }),
+            Phase::Closed => false,
+        }
     }
 
     /// Takes the client's next bytes, and appends to `out` the bytes to send back and the requests to serve.

@@ -1,5 +1,6 @@
 //! The phases of a connection.
 ghost use Rattle.std.specs.Prelude.{◌≡◌};
+ghost use Rattle.nbd.specs.Machine.{is_of_handshake};
 ghost use Rattle.nbd.specs.Steps.{wanted};
 
 use crate::{Errno, REQUEST_BYTES, RequestHeader};
@@ -75,6 +76,16 @@ impl Part {
             Part::OptionData { length, .. } => *length as usize,
             Part::Request => REQUEST_BYTES,
             Part::Payload(header) => header.length as usize,
+        }
+    }
+
+    /// Returns whether it is a part of the handshake, before the first request.
+    pub(crate) fn is_of_handshake(&self) -> bool
+        ensures { result ≡ is_of_handshake self.now }
+    {
+        match self {
+            Part::ClientFlags | Part::Option { .. } | Part::OptionData { .. } => true,
+            Part::Request | Part::Payload(_) => false,
         }
     }
 }

@@ -13,7 +13,8 @@ use bytes::Bytes;
 pub struct Request {
     /// Its command, never `Disconnect`.
     pub command: Command,
-    /// Whether its reply has to wait until its data are on stable storage.
+    /// Whether the client set FUA: the reply to a WRITE or WRITE_ZEROES then waits until its data are on stable storage. With
+    /// another command it means nothing.
     pub fua: bool,
     /// The client's name for it; its reply repeats it.
     pub cookie: u64,

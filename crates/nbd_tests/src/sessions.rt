@@ -58,7 +58,7 @@ fn transmitting(rt: &impl Abort, alloc: Global) -> Connection {
 }
 
 /// Checks that the client is sent these bytes.
-fn is_sent(rt: &impl Abort, out: &Output, bytes: &[u8]) {
+fn check_sent(rt: &impl Abort, out: &Output, bytes: &[u8]) {
     assert_eq!(rt; out.bytes.as_slice(), bytes);
 }
 
@@ -79,14 +79,14 @@ fn answers_go(rt: HostRuntime) {
     let mut connection = connected(&rt, rt.alloc());
     let mut out = Output::new(rt.alloc());
     feed(&rt, &mut connection, &FLAGS, &mut out);
-    is_sent(&rt, &out, &[]);
+    check_sent(&rt, &out, &[]);
     feed(&rt, &mut connection, &GO, &mut out);
-    is_sent(&rt, &out, &GO_ANSWER);
+    check_sent(&rt, &out, &GO_ANSWER);
     assert!(rt; !connection.is_closed());
 }
 
 /// Checks that the request is the WRITE, with its payload, and is answered under its cookie.
-fn is_the_write(rt: &impl Abort, request: Request) {
+fn check_write(rt: &impl Abort, request: Request) {
     assert!(rt; request.command == Command::Write && request.fua);
     assert_eq!(rt; (request.first_block, request.block_count), (1, 1));
     assert_eq!(rt; request.payload.len(), 4096);
@@ -106,8 +106,8 @@ fn gives_a_write(rt: HostRuntime) {
     feed(&rt, &mut connection, &[0xA5; 4095], &mut out);
     assert!(rt; out.requests.is_empty());
     feed(&rt, &mut connection, &[0x5A], &mut out);
-    is_sent(&rt, &out, &[]);
-    is_the_write(&rt, out.requests.pop().expect(&rt, "a request"));
+    check_sent(&rt, &out, &[]);
+    check_write(&rt, out.requests.pop().expect(&rt, "a request"));
 }
 
 /// Makes a whole session: a write, a read that is refused, and the end.
@@ -143,7 +143,7 @@ fn takes_byte_after_byte(rt: HostRuntime) {
     let stream = whole_session(rt.alloc()).expect(&rt, "memory");
     let out = fed_in_pieces(&rt, rt.alloc(), &stream, 1);
     let at_once = fed_in_pieces(&rt, rt.alloc(), &stream, stream.len());
-    is_sent(&rt, &out, &at_once.bytes);
+    check_sent(&rt, &out, &at_once.bytes);
     assert_eq!(rt; (out.requests.len(), at_once.requests.len()), (1, 1));
     // After the answer to GO the READ is refused with EINVAL, under its cookie.
     assert_eq!(rt; out.bytes.len(), 102);
@@ -159,7 +159,7 @@ fn closes_at(rt: &impl Abort, alloc: Global, connection: &mut Connection, garbag
     feed(rt, connection, garbage, &mut out);
     assert!(rt; connection.is_closed());
     feed(rt, connection, &GO, &mut out);
-    is_sent(rt, &out, &[]);
+    check_sent(rt, &out, &[]);
     assert!(rt; out.requests.is_empty());
 }
 
@@ -178,7 +178,7 @@ fn feed_zeros(rt: &impl Abort, connection: &mut Connection, count: u64, out: &mu
         feed(rt, connection, &zeros, out);
     }
     feed(rt, connection, &zeros[..(count % 65536) as usize], out);
-    is_sent(rt, out, &[]);
+    check_sent(rt, out, &[]);
     feed(rt, connection, &[0], out);
 }
 
@@ -192,15 +192,15 @@ fn skips_a_long_option(rt: HostRuntime) {
     ];
     feed(&rt, &mut connection, &option, &mut out);
     feed_zeros(&rt, &mut connection, 0xFFFF_FFFE, &mut out);
-    let unsupported = [
+    let too_big = [
         0x00, 0x03, 0xE8, 0x89, 0x04, 0x55, 0x65, 0xA9, 0, 0, 0, 99, 0x80, 0, 0, 9, 0, 0, 0, 0,
     ];
-    is_sent(&rt, &out, &unsupported);
+    check_sent(&rt, &out, &too_big);
     assert!(rt; !connection.is_closed());
 }
 
 /// Checks that the client is sent one reply, with this cookie and this error.
-fn is_answered(rt: &impl Abort, out: &Output, cookie: u64, error: Errno) {
+fn check_answered(rt: &impl Abort, out: &Output, cookie: u64, error: Errno) {
     assert_eq!(rt; out.bytes.len(), 16);
     let reply = Reply::decode(out.bytes.as_slice()).expect(rt, "a reply");
     assert_eq!(rt; reply.cookie, cookie);
@@ -221,7 +221,7 @@ fn skips_a_long_write(rt: HostRuntime) {
     };
     feed(&rt, &mut connection, header.encode().as_slice(), &mut out);
     feed_zeros(&rt, &mut connection, 0xFFFF_EFFF, &mut out);
-    is_answered(&rt, &out, 11, Errno::Overflow);
+    check_answered(&rt, &out, 11, Errno::Overflow);
 }
 
 /// Returns what the server answers to EXPORT_NAME with an empty name, if the client has these flags.
@@ -239,7 +239,7 @@ fn export_name(rt: &impl Abort, alloc: Global, flags: u8) -> Output {
 #[test]
 fn answers_export_name(rt: HostRuntime) {
     let short = export_name(&rt, rt.alloc(), 3);
-    is_sent(&rt, &short, &[0, 0, 0, 0, 0, 1, 0, 0, 0x01, 0x4D]);
+    check_sent(&rt, &short, &[0, 0, 0, 0, 0, 1, 0, 0, 0x01, 0x4D]);
     let long = export_name(&rt, rt.alloc(), 1);
     assert_eq!(rt; long.bytes.len(), 134);
     assert_eq!(rt; &long.bytes.as_slice()[..10], short.bytes.as_slice());

@@ -4,5 +4,5 @@ mod decisions;
 mod faults;
 mod keys;
 mod pieces;
-mod rows;
+mod run;
 mod usage;

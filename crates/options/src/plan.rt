@@ -3,7 +3,7 @@ ghost use Rattle.std.specs.Prelude.{◌≡◌, ◌+◌, ◌*◌, ◌%◌, ◌<�
 ghost use Rattle.blocks.specs.SettingsRange.{standard};
 
 use crate::RunOptions;
-use blocks::Settings;
+use blocks::{ConnectionWords, Settings};
 
 impl RunOptions {
     /// Returns the settings of both nodes.
@@ -42,9 +42,12 @@ pub fn byte_of_turn(writer: u32, turn: u32) -> u8
 }
 
 /// Returns the words of a reconnect, the first round being 1: the identifiers of its resync and of its loss.
-pub fn reconnect_words(round: u32) -> (u64, u64)
-    ensures { result ≡ (2 * round + 2, 2 * round + 3) }
+pub fn reconnect_words(round: u32) -> ConnectionWords
+    ensures { (result.sync ≡ 2 * round + 2) × (result.loss ≡ 2 * round + 3) }
 {
     let round = u64::from(round);
-    (2 * round + 2, 2 * round + 3)
+    ConnectionWords {
+        sync: 2 * round + 2,
+        loss: 2 * round + 3,
+    }
 }

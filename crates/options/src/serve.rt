@@ -16,7 +16,7 @@ pub struct ServeOptions<'a> {
     /// Where clients connect.
     pub listen: SocketAddr,
     /// The port of the status page on 127.0.0.1, if there is one.
-    pub status: Option<u16>,
+    pub page_port: Option<u16>,
     /// The seconds after which the link is cut each time, if it is cut at all.
     pub cut_every: Option<u32>,
 }

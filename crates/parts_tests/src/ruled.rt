@@ -3,7 +3,7 @@
 mod connections;
 mod ends;
 mod kinds;
-mod moments;
 mod names;
 mod pieces;
+mod ring_invariants;
 mod threads;

@@ -1,5 +1,5 @@
 //! Copying marked blocks to the peer.
-ghost use Rattle.std.specs.Prelude.{◌≡◌, true, IfErr};
+ghost use Rattle.std.specs.Prelude.{◌≡◌, true, IfErr, OnErr};
 ghost use Rattle.blocks.specs.declared.outcome.Reply.TheVariants as reply;
 ghost use Rattle.blocks.specs.declared.refusal.Refusal.TheVariants.{NoMemory};
 ghost use Rattle.endpoint.specs.Calls.{is_out_of_memory};
@@ -19,10 +19,12 @@ impl<O: FrameOut + Drop, I: FrameIn + Drop, S: Store + Drop> Primary<O, I, S> {
     ///
     /// `NotConnected` (12) if the end is closed; `NothingToDo` (10) if no resync runs, a block is under way, or no
     /// marked block is free; `StreamFull` (6) if the stream has 4,294,967,288 items or more; `NoMemory` (7) if there
-    /// is no room for the block and its item; else `ReadFault` (14) if the disk fails.
+    /// is no room for the block and its item; else `ReadFault` (14) if the disk fails. A refused call changes nothing
+    /// but the disk's count of faults.
     pub fn resync_next(&mut self) -> Result<Done, Refusal>
         ensures step { CopiesOne result self.old self.new }
         ensures works { self.old.steady ≡ true → (self.new.faults ≡ self.old.faults) × (self.new.steady ≡ true) }
+        ensures refused { OnErr result (self.new.core ≡ self.old.core) }
         ensures out_of_memory { IfErr result (λ e. e ≡ NoMemory → (self.new.core ≡ self.old.core) × (self.new.faults ≡ self.old.faults)) }
         ensures rest { self.new ≡ record self.old {
           core = self.new.core;

@@ -1,7 +1,7 @@
 //! Read-only accessors.
 ghost use Rattle.std.specs.Prelude.{◌≡◌, length, not};
 ghost use Rattle.model.specs.Headline.{is_marked};
-ghost use Rattle.model.specs.Primary.{PrimaryHistory, first_unreleased, items_sent, marked_blocks, primary_connection, resync_runs, is_established};
+ghost use Rattle.model.specs.Primary.{PrimaryHistory, first_unreleased, items_sent, marked_blocks, primary_connection, resync_runs, is_established, unsent};
 ghost use Rattle.model.specs.Status.{incomplete, open_epochs, unanswered};
 ghost use Rattle.primary_protocol.specs.Node.{NodeHas};
 ghost use Rattle.primary.specs.State.{node};
@@ -62,6 +62,13 @@ impl<O: FrameOut + Drop, I: FrameIn + Drop, S: Store + Drop> Primary<O, I, S> {
         self.core.is_resync()
     }
 
+    /// Returns how many items of the stream wait to be sent: 0 if the end is closed.
+    pub fn unsent(&self) -> usize
+        ensures { (h : PrimaryHistory) → NodeHas (node self.now) h → result ≡ unsent (primary_connection h) }
+    {
+        self.core.unsent()
+    }
+
     /// Returns how many items were sent on the last connection.
     pub fn items_sent(&self) -> u32
         ensures { (h : PrimaryHistory) → NodeHas (node self.now) h → result ≡ items_sent (primary_connection h) }
@@ -112,7 +119,8 @@ impl<O: FrameOut + Drop, I: FrameIn + Drop, S: Store + Drop> Primary<O, I, S> {
     }
 
     /// Returns the number of the first write that is not released, if there is one. A write is released once the local
-    /// disk has done it, and the peer has acknowledged its epoch or the write has no connection. It takes constant time.
+    /// disk has done it or failed it, and the peer has acknowledged its epoch or the write has no connection. It takes constant
+    /// time.
     pub fn first_unreleased(&self) -> Option<u64>
         ensures { (h : PrimaryHistory) → NodeHas (node self.now) h → result ≡ first_unreleased h }
     {

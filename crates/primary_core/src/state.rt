@@ -17,18 +17,7 @@ use transferlog::TransferLog;
 
 /// The primary without its disk and its link. Invariant: its log, its marks and its open ranges are of one device, and
 /// there is room for the barrier and the closing UUIDS that may still come to its stream.
-///
-/// A write's life: what each call makes of a write in each state.
-///
-/// | call | asked for | open, not on the local disk | open, on the local disk | completed, or failed |
-/// |---|---|---|---|---|
-/// | `submit` | open | | | |
-/// | `done` | | on the local disk, and completed if answered | | |
-/// | `failed` | | failed | | |
-/// | `sent` | | answered under A | completed under A | |
-/// | `take` (an answer) | | answered under B and C | completed under B and C | |
-/// | `take` (BARRIER_ACK) | | | | released |
-/// | `close` | | without a connection | completed | released |
+/// The life of a write stands as a table in `transferlog` (write.rt).
 #[derive(Drop)]
 pub struct PrimaryCore {
     pub(crate) alloc: Global,

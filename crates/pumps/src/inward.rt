@@ -13,9 +13,10 @@ use std::sync::atomic::{AtomicBool, Ordering};
 use std::time::Clock;
 
 /// Pushes the bytes that a reader gives into a row, in order, as pieces of at most 1,400 bytes of a first connection,
-/// until it is stopped, the input ends or a read fails. One read takes up to 64 KiB. It rings `work` after each piece.
-/// If the row is full it tries again; a stop then leaves the remaining bytes unpushed. It neither closes nor drops the
-/// reader: the caller does, and reports its end. Takes no memory.
+/// until it is stopped, the input ends or a read fails. One read takes up to 64 KiB. It rings `work` once all bytes of a read
+/// are pushed, and before it waits for room: most frames have several pieces, and nobody can take a part of one. If the row is
+/// full it tries again; a stop then leaves the remaining bytes unpushed. It neither closes nor drops the reader: the caller
+/// does, and reports its end. Takes no memory.
 pub fn pump_in<R: Wait + Clock, M: RingInvariant, D: Read>(
     rt: &R,
     row: &mut PieceOut<R, M>,
@@ -81,6 +82,7 @@ fn push_all<R: Wait + Clock, M: RingInvariant>(
     let mut looks = 0u32;
     for _ in rt.forever() {
         if count == bytes.len() {
+            work.ring_one(rt);
             return count;
         }
         let rings = work.rings();
@@ -88,10 +90,13 @@ fn push_all<R: Wait + Clock, M: RingInvariant>(
         if more > 0 {
             count += more;
             looks = 0;
-            work.ring_one(rt);
         } else if stop.load(Ordering::SeqCst) {
             return count;
         } else {
+            // The ring ends this wait too: the row is asked once more, and only then waited for.
+            if looks == 0 {
+                work.ring_one(rt);
+            }
             work.wait(rt, rings, looks);
             looks = looks.saturating_add(1);
         }

@@ -12,7 +12,7 @@ use crate::complete::complete_all;
 use crate::ended::Ended;
 use crate::perform::{begin_write, begin_zeroes, read};
 use crate::release::wait_for_release;
-use crate::stable_storage::StableStorage;
+use crate::stable_storage::{StableStorage, Synced};
 use crate::syncs::asks_for_sync;
 use crate::under_way::UnderWay;
 use blocks::Protocol;
@@ -127,8 +127,9 @@ impl Requests {
     /// Returns the answer to a request that has ended: with the data of a READ, and no bytes for any other command. If it asks for
     /// stable storage (`asks_for_sync`), both images are then on stable storage, and the peer's has each write that was answered
     /// before, unless that has no connection: its blocks are marked. One sync does for all requests that had ended when it began.
+    /// Once a sync of the peer's image has failed, the link is cut, and the local image alone is on stable storage.
     ///
-    /// The answer has the error with which the request failed, or `InputOutput` (EIO) if a sync fails.
+    /// The answer has the error with which the request failed, or `InputOutput` (EIO) if a sync of the local image fails.
     pub fn finish<R: Wait + Clock>(&self, rt: &R, device: &impl Device, ended: Ended) -> Answer
         ensures cookie { result.reply.cookie ≡ ended.request.cookie }
         ensures done { result.reply.error ≡ None → ended.is_done ≡ true }
@@ -161,8 +162,13 @@ impl Requests {
     /// Syncs both images to stable storage, whether a request asks for it or not, and whether a sync has failed or not. Returns
     /// for each image why its first sync failed, now or before: the system then forgets the data that it could not store.
     pub fn sync_images<R: Wait>(&self, rt: &R) -> Both<Option<io::Error>> {
-        let last = self.storage.last_round();
-        self.storage.sync(rt, last, self.storage.begin_round())
+        self.storage.sync_both(rt)
+    }
+
+    /// Returns whether a sync of the peer's image has failed. Then the link is to stay down: that image may lack what it was
+    /// sent, and no mark says where.
+    pub fn is_peer_failed(&self) -> bool {
+        self.storage.is_peer_failed()
     }
 
     // Begins the writes of a request, in order, until one is refused.
@@ -230,6 +236,9 @@ impl Requests {
     //
     // So any round after `last` does for a request that took this number: the round began later, and each write that was
     // answered before is in the files once the round is ready.
+    //
+    // Where the peer's image cannot be synced, the mirror goes on with the local one, as it does where the peer's disk fails a
+    // write. The link is cut before anybody is answered, so that the peer's image counts as what it is.
     fn sync<R: Wait + Clock>(&self, rt: &R, device: &impl Device, last: u64) -> Result<(), Errno> {
         if self.storage.is_synced_after(last) {
             return Ok(());
@@ -238,11 +247,14 @@ impl Requests {
         if self.protocol != Protocol::C {
             wait_for_release(rt, device);
         }
-        let failed = self.storage.sync(rt, last, round);
-        if failed.local.is_none() && failed.peer.is_none() {
-            Ok(())
-        } else {
-            Err(Errno::InputOutput)
+        match self.storage.sync(rt, last, round) {
+            Synced::Done => Ok(()),
+            Synced::LocalAlone => {
+                device.cut();
+                self.storage.go_on_alone();
+                Ok(())
+            }
+            Synced::Failed => Err(Errno::InputOutput),
         }
     }
 }

@@ -4,7 +4,7 @@ ghost use Rattle.std.specs.Thread.{IsSend, IsSync};
 ghost use Rattle.run_threads.specs.Plan.{AreOfPlan, AreOfWriter};
 
 use crate::progress::{Progress, report};
-use blocks::{BLOCK_BYTES, Refusal};
+use blocks::{BLOCK_BYTES, ConnectionWords, Refusal};
 use bytes::Bytes;
 use halves::Device;
 use options::{RunOptions, byte_of_turn, reconnect_words};
@@ -151,7 +151,7 @@ fn cut_all<R: Wait + Clock>(rt: &R, device: &impl Device, cuts: u32) -> Result<(
 
 // Reconnects once the secondary's disk has done its items.
 fn reconnect<R: Wait + Clock>(rt: &R, device: &impl Device, round: u32) -> Result<(), Refusal> {
-    let (sync, loss) = reconnect_words(round);
+    let ConnectionWords { sync, loss } = reconnect_words(round);
     for _ in rt.forever() {
         match device.reconnect(sync, loss) {
             Err(Refusal::NotDrained) => thread::sleep(rt, Duration::from_millis(PAUSE_MS)),

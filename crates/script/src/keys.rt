@@ -2,7 +2,15 @@
 use blocks::{Protocol, Settings, Tuple};
 use numbers::decimal;
 
-/// What a pair is made with. A line with the same key twice is no command, so the keys that occurred are recorded.
+/// The generation identifiers of a disk that no key names: its first generation, and none before it.
+const FIRST: Tuple = Tuple {
+    current: 1,
+    bitmap: 0,
+    first_historical: 0,
+    second_historical: 0,
+};
+
+/// What a pair is made with.
 #[derive(Clone, Copy)]
 pub(crate) struct Keys {
     /// The settings; the default of each that no key names.
@@ -11,106 +19,100 @@ pub(crate) struct Keys {
     pub(crate) own: Tuple,
     /// The secondary's.
     pub(crate) peer: Tuple,
-    // Which keys occurred, by their bits.
-    seen: u16,
-}
-
-/// The keys.
-#[derive(Clone, Copy)]
-enum Key {
-    Protocol,
-    Blocks,
-    MaxEpoch,
-    Slots,
-    Backlog,
-    Link,
-    Pending,
-    Own,
-    Peer,
 }
 
 impl Keys {
     /// Returns the values of a pair without keys: the default settings, and both tuples 1,0,0,0.
     pub(crate) fn standard() -> Keys {
-        let first = Tuple {
-            current: 1,
-            bitmap: 0,
-            first_historical: 0,
-            second_historical: 0,
-        };
-        Keys {
-            settings: Settings::STANDARD,
-            own: first,
-            peer: first,
-            seen: 0,
-        }
+        Given::nothing().or_standard()
     }
 
     /// Parses `KEY=VALUE` words, separated by one space.
     pub(crate) fn parse(words: &str) -> Option<Keys> {
-        let mut keys = Keys::standard();
+        let mut given = Given::nothing();
         for word in words.split(' ') {
             let (name, value) = word.split_once('=')?;
-            let key = Key::named(name)?;
-            keys = keys.with(key, value)?;
+            given.add(name, value)?;
         }
-        Some(keys)
-    }
-
-    /// Adds a key, if it did not occur before.
-    fn with(self, key: Key, value: &str) -> Option<Keys> {
-        let bit = key.bit();
-        if self.seen & bit != 0 {
-            return None;
-        }
-        let mut keys = self;
-        keys.seen |= bit;
-        match key {
-            Key::Protocol => keys.settings.protocol = protocol(value)?,
-            Key::Blocks => keys.settings.blocks = setting(value)?,
-            Key::MaxEpoch => keys.settings.max_epoch = setting(value)?,
-            Key::Slots => keys.settings.slots = setting(value)?,
-            Key::Backlog => keys.settings.backlog = setting(value)?,
-            Key::Link => keys.settings.link = setting(value)?,
-            Key::Pending => keys.settings.pending = setting(value)?,
-            Key::Own => keys.own = tuple(value)?,
-            Key::Peer => keys.peer = tuple(value)?,
-        }
-        Some(keys)
+        Some(given.or_standard())
     }
 }
 
-impl Key {
-    /// Returns the key with this name.
-    fn named(name: &str) -> Option<Key> {
+/// The values that a line gives, by their keys. They stand apart from the defaults, so that a key that is given again is
+/// seen also where its value is the default.
+#[derive(Clone, Copy)]
+struct Given {
+    protocol: Option<Protocol>,
+    blocks: Option<u32>,
+    max_epoch: Option<u32>,
+    slots: Option<u32>,
+    backlog: Option<u32>,
+    link: Option<u32>,
+    pending: Option<u32>,
+    own: Option<Tuple>,
+    peer: Option<Tuple>,
+}
+
+impl Given {
+    /// Returns the values of a line without keys.
+    fn nothing() -> Given {
+        Given {
+            protocol: None,
+            blocks: None,
+            max_epoch: None,
+            slots: None,
+            backlog: None,
+            link: None,
+            pending: None,
+            own: None,
+            peer: None,
+        }
+    }
+
+    /// Adds the value of the key with this name. `None` if there is no such key, if it was given before, or if the value
+    /// is none of its own: then the line is no command.
+    fn add(&mut self, name: &str, value: &str) -> Option<()> {
         match name {
-            "protocol" => Some(Key::Protocol),
-            "blocks" => Some(Key::Blocks),
-            "max_epoch" => Some(Key::MaxEpoch),
-            "slots" => Some(Key::Slots),
-            "backlog" => Some(Key::Backlog),
-            "link" => Some(Key::Link),
-            "pending" => Some(Key::Pending),
-            "own" => Some(Key::Own),
-            "peer" => Some(Key::Peer),
+            "protocol" => fill(&mut self.protocol, protocol(value)?),
+            "blocks" => fill(&mut self.blocks, setting(value)?),
+            "max_epoch" => fill(&mut self.max_epoch, setting(value)?),
+            "slots" => fill(&mut self.slots, setting(value)?),
+            "backlog" => fill(&mut self.backlog, setting(value)?),
+            "link" => fill(&mut self.link, setting(value)?),
+            "pending" => fill(&mut self.pending, setting(value)?),
+            "own" => fill(&mut self.own, tuple(value)?),
+            "peer" => fill(&mut self.peer, tuple(value)?),
             _ => None,
         }
     }
 
-    /// Returns its bit among the keys that occurred.
-    fn bit(self) -> u16 {
-        match self {
-            Key::Protocol => 1,
-            Key::Blocks => 2,
-            Key::MaxEpoch => 4,
-            Key::Slots => 8,
-            Key::Backlog => 16,
-            Key::Link => 32,
-            Key::Pending => 64,
-            Key::Own => 128,
-            Key::Peer => 256,
+    /// Returns what a pair is made with: what the line gives, and the default of all else.
+    fn or_standard(self) -> Keys {
+        let standard = Settings::STANDARD;
+        Keys {
+            settings: Settings {
+                protocol: self.protocol.unwrap_or(standard.protocol),
+                blocks: self.blocks.unwrap_or(standard.blocks),
+                max_epoch: self.max_epoch.unwrap_or(standard.max_epoch),
+                slots: self.slots.unwrap_or(standard.slots),
+                backlog: self.backlog.unwrap_or(standard.backlog),
+                link: self.link.unwrap_or(standard.link),
+                pending: self.pending.unwrap_or(standard.pending),
+            },
+            own: self.own.unwrap_or(FIRST),
+            peer: self.peer.unwrap_or(FIRST),
         }
     }
+}
+
+/// Puts a value into an empty place. `None` if the place has one already: of two values for one key neither is meant
+/// more than the other.
+fn fill<T: Copy>(place: &mut Option<T>, value: T) -> Option<()> {
+    if place.is_some() {
+        return None;
+    }
+    *place = Some(value);
+    Some(())
 }
 
 fn protocol(value: &str) -> Option<Protocol> {

@@ -28,7 +28,8 @@ impl<O: FrameOut + Drop, I: FrameIn + Drop, S: Store + Drop> Secondary<O, I, S> 
         self.core.is_drained()
     }
 
-    /// Returns whether the identifiers are those of the data.
+    /// Returns whether the disk's data are of the generation that its identifiers name: not while it has no data (current 0), and
+    /// not from SYNC_UUID to the UUIDS that ends a resync. Such a disk mixes generations, and is not to be used.
     pub fn is_consistent(&self) -> bool
         ensures { (h : SecondaryHistory) → NodeHas (node self.now) h → result ≡ h.consistent }
     {
@@ -87,7 +88,7 @@ impl<O: FrameOut + Drop, I: FrameIn + Drop, S: Store + Drop> Secondary<O, I, S> 
         self.core.is_hello_done()
     }
 
-    /// Returns how far the data may be used.
+    /// Returns whether the data may be used, and up to which epoch they are whole.
     pub fn usage(&self) -> Usage
         ensures { (h : SecondaryHistory) → NodeHas (node self.now) h → result ≡ usage_of h }
     {

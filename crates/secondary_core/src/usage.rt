@@ -6,12 +6,13 @@ ghost use Rattle.secondary_core.specs.Connections.{is_hello_done};
 use crate::state::SecondaryCore;
 use blocks::{Refusal, Settings, Tuple};
 
-/// How far a secondary's data may be used.
+/// Whether a secondary's data may be used, and up to which epoch they are whole.
 #[derive(Clone, Copy, Debug, PartialEq, Eq)]
 pub struct Usage {
-    /// Whether its identifiers are those of its data.
+    /// Whether its data are of the generation that its identifiers name: not while it has none (current 0), and not from SYNC_UUID
+    /// to the UUIDS that ends a resync. Such a disk mixes generations, and is not to be used.
     pub consistent: bool,
-    /// The last epoch up to whose end every item is applied, and none of them failed.
+    /// The last epoch up to whose end every item is applied: 0 if there is none. An item that failed, or was dropped then, is not.
     pub whole: u32,
     /// How many items are taken and not yet applied.
     pub pending: u32,
@@ -36,7 +37,7 @@ impl SecondaryCore {
         self.disk.is_empty()
     }
 
-    /// Returns whether the identifiers are those of the data.
+    /// Returns whether the data are of the generation that the identifiers name, as `Usage` has it.
     pub fn is_consistent(&self) -> bool
         ensures { result ≡ self.now.state.consistent }
     {
@@ -96,7 +97,7 @@ impl SecondaryCore {
         self.settings
     }
 
-    /// Returns how far the data may be used.
+    /// Returns whether the data may be used, and up to which epoch they are whole.
     pub fn usage(&self) -> Usage
         ensures { result ≡ record { consistent = self.now.state.consistent; whole = whole self.now.state; pending = length self.now.state.pending } }
     {

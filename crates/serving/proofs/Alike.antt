@@ -1,4 +1,4 @@
--- Disks with the same blocks are one.
+-- Disks with the same blocks are the same.
 use Rattle.std.proofs.Common.{ℕ, suc, ◌≡◌, ◌<◌, List, [], ◌∷◌, length, Some, slice_get, refl, arith}
 
 -- lists of one length, with the same elements

@@ -26,8 +26,8 @@ use Rattle.primary_protocol.specs.Node.{NodeHas}
 use Rattle.secondary.specs.State.{SecondaryView, node as secondary_node}
 use Rattle.secondary_protocol.specs.Node.{NodeHas as NodeHasToo}
 use Rattle.serving.specs.Sessions.{NodesComeTo, IsSession, opening}
-use Rattle.serving.specs.declared.rest.Rest.{Rest}
-use Rattle.serving.specs.declared.rest.Totals.{Totals}
+use Rattle.serving.specs.declared.session_end.SessionEnd.{SessionEnd}
+use Rattle.serving.specs.declared.totals.Totals.{Totals}
 use Rattle.session_nodes.specs.Primaries.{PrimaryHas, PrimaryIsHad}
 use Rattle.session_nodes.specs.Secondaries.{SecondaryHas, SecondaryIsHad}
 use Rattle.settle.proofs.Openings.{were-honest}
@@ -80,7 +80,7 @@ same-there p s blocks size local peer none clean block = elim (cases_lt block bl
   ]
 ]
 
--- lists with the same elements are one
+-- lists with the same elements are the same
 pub all-same : {X : Type 0} (xs ys : List X) → ((k : ℕ) → slice_get xs k ≡ slice_get ys k) → xs ≡ ys
 all-same [] [] each = refl
 all-same [] (y ∷ ys) each = absurd (let first : None ≡ Some y = each 0 in cc (first))
@@ -91,8 +91,8 @@ all-same (x ∷ xs) (y ∷ ys) each =
     let first : x ≡ y = cc here in
     cc (first, rest)
 
--- Where a session leaves no mark and no difference without one, the disks are one.
-pub ends-alike : (o : Opening) (before : Totals) (rest : Rest) → IsSession o before rest → rest.totals.unmarked ≡ 0 → rest.totals.marked ≡ 0
+-- Where a session leaves no mark and no difference without one, the disks are the same.
+pub ends-alike : (o : Opening) (before : Totals) (rest : SessionEnd) → IsSession o before rest → rest.totals.unmarked ≡ 0 → rest.totals.marked ≡ 0
     → rest.disks.local.disk ≡ rest.disks.peer.disk
 ends-alike o before rest session none clean = all-same rest.disks.local.disk rest.disks.peer.disk (λ block. session.local block
     ∙ same-there p s rest.parts.settings.blocks (ap (λ x. x.blocks) session.comes.left.settings) session.comes.sound.local session.comes.sound.peer
@@ -122,13 +122,13 @@ pub given : (worked : Result (Vec Receipt Global) Refusal) (receipts : Vec Recei
 given worked receipts Q is holds = subst (λ (w : Result (Vec Receipt Global) Refusal). IfOk w (λ all. Q all.items)) (sym is) holds
 
 -- honest identifiers are so over the same disks
-honest-over : (rest : Rest) (p : PrimaryHistory) (s : SecondaryHistory) → ((block : ℕ) → slice_get rest.disks.local.disk block ≡ local_map p block)
+honest-over : (rest : SessionEnd) (p : PrimaryHistory) (s : SecondaryHistory) → ((block : ℕ) → slice_get rest.disks.local.disk block ≡ local_map p block)
     → ((block : ℕ) → slice_get rest.disks.peer.disk block ≡ secondary_map s block)
     → WasHonest (opening_of rest.parts (local_map p) (secondary_map s)) → WasHonest (opening rest)
 honest-over rest p s local peer = subst WasHonest (λ i. opening_of rest.parts (λ block. sym (local block) i) (λ block. sym (peer block) i))
 
 -- what two nodes that ended make of what they leave
-pub session-of : (o : Opening) (before : Totals) (result : Result Rest Refusal) (worked : Result (Vec Receipt Global) Refusal) (a : PrimaryView)
+pub session-of : (o : Opening) (before : Totals) (result : Result SessionEnd Refusal) (worked : Result (Vec Receipt Global) Refusal) (a : PrimaryView)
     (b : SecondaryView) → WasHonest o → IsUnparted o → PrimaryIsHad (Some o) a × SecondaryIsHad (Some o) b
     → ((p : PrimaryHistory) (s : SecondaryHistory) → PrimaryHas a p → SecondaryHas b s → IsJoined p s) → b.core.number ≤ a.core.connections
     → IfOk result (λ _. IsOk worked) → IfOk result (λ rest. (rest.disks.local.disk ≡ a.disk) × (rest.disks.peer.disk ≡ b.disk))

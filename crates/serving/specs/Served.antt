@@ -5,20 +5,20 @@ use Rattle.blocks.specs.declared.settings.Settings.{Settings}
 use Rattle.options.specs.declared.serve.ServeOptions.{ServeOptions}
 use Rattle.serving.specs.Sessions.{IsServed}
 use Rattle.serving.specs.declared.end.End.{End}
-use Rattle.serving.specs.declared.rest.Rest.{Rest}
+use Rattle.serving.specs.declared.session_end.SessionEnd.{SessionEnd}
 
 -- the options ask for no size, or for one that a device has
 abbrev pub AreInRange : ServeOptions → Type 0
 AreInRange options = IfSome options.blocks (λ asked. (0 < asked) × (asked ≤ 262144))
 
 -- no image may have kept a part of a write that failed
-abbrev pub AreWhole : Rest → Type 0
+abbrev pub AreWhole : SessionEnd → Type 0
 AreWhole rest = (rest.disks.local.torn ≡ false) × (rest.disks.peer.torn ≡ false)
 
 -- Sessions with these settings went over these disks, and came to this end. If its totals tell of no block that differs or is marked,
--- both disks are one, and it tells which images are torn.
+-- both disks are the same, and it tells which images are torn.
 pub record CameTo (chosen : Settings) (local peer : List (List ℕ)) (end : End) : Type 0 where
-  pub rest : Rest
+  pub rest : SessionEnd
   pub served : IsServed chosen local peer rest
   pub results : end.totals ≡ rest.totals
   pub alike : end.totals.unmarked ≡ 0 → end.totals.marked ≡ 0 → rest.disks.local.disk ≡ rest.disks.peer.disk
@@ -32,7 +32,7 @@ pub record HasEnded (options : ServeOptions) (end : End) : Type 0 where
   pub peer : List (List ℕ)
   pub all : CameTo (record standard { protocol = options.protocol; blocks = blocks }) local peer end
 
--- such a server, whose disks are one at the end, and whose images are whole
+-- such a server, whose disks are the same at the end, and whose images are whole
 pub record HasServed (options : ServeOptions) : Type 0 where
   pub end : End
   pub ended : HasEnded options end

@@ -15,14 +15,14 @@ use Rattle.primary.specs.State.{PrimaryView, node as primary_node}
 use Rattle.primary_protocol.specs.Node.{NodeHas as PrimaryHas}
 use Rattle.secondary.specs.State.{SecondaryView, node as secondary_node}
 use Rattle.secondary_protocol.specs.Node.{NodeHas as SecondaryHas}
-use Rattle.serving.specs.declared.rest.Rest.{Rest}
-use Rattle.serving.specs.declared.rest.Totals.{Totals}
+use Rattle.serving.specs.declared.session_end.SessionEnd.{SessionEnd}
+use Rattle.serving.specs.declared.totals.Totals.{Totals}
 use Rattle.settle.specs.Settled.{WasHonest, WereHonest}
 use Rattle.halves.specs.Opening.{opening_of}
 use Rattle.halves.specs.declared.parts.Parts.{Parts}
 
 -- the opening of the session that starts from here
-abbrev pub opening : Rest → Opening
+abbrev pub opening : SessionEnd → Opening
 opening rest = opening_of rest.parts (slice_get rest.disks.local.disk) (slice_get rest.disks.peer.disk)
 
 -- the sum of two counts, as far as 64 bits count
@@ -54,7 +54,7 @@ NodesComeTo primary secondary receipts before after parts =
 -- One session: two runs of the model, one of each node, from the session's opening. They are joined and come to what is left, and
 -- both disks are those that the runs lead to. If no local write failed, the peer's disk has an order of writes while it calls itself
 -- consistent. What is left for the next session is sound, as this one's opening was.
-pub record IsSession (o : Opening) (before : Totals) (rest : Rest) : Type 0 where
+pub record IsSession (o : Opening) (before : Totals) (rest : SessionEnd) : Type 0 where
   pub here : List PrimaryEvent
   pub there : List SecondaryEvent
   pub receipts : List Receipt
@@ -68,8 +68,8 @@ pub record IsSession (o : Opening) (before : Totals) (rest : Rest) : Type 0 wher
       → KeepsWriteOrder (primary_run here (primary_at o)) (secondary_run there (secondary_at o))
 
 -- The start of a server's first session, over these disks and with these settings: no block is marked, nothing was written yet, and
--- the peer's disk is unknown unless the disks are one.
-pub record IsFirst (chosen : Settings) (local peer : List (List ℕ)) (first : Rest) : Type 0 where
+-- the peer's disk is unknown unless the disks are the same.
+pub record IsFirst (chosen : Settings) (local peer : List (List ℕ)) (first : SessionEnd) : Type 0 where
   pub settings : first.parts.settings ≡ chosen
   pub own : first.parts.own ≡ record { current = 1; bitmap = 0; first_historical = 0; second_historical = 0 }
   pub other : (local ≡ peer → ⊥) → first.parts.peer ≡ unknown
@@ -79,15 +79,15 @@ pub record IsFirst (chosen : Settings) (local peer : List (List ℕ)) (first : R
   pub honest : WasHonest (opening first)
 
 -- Sessions led from the first start to this one; between them are the starts of those after the first, the latest first.
-abbrev pub HasCome : Rest → List Rest → Rest → Type 0
+abbrev pub HasCome : SessionEnd → List SessionEnd → SessionEnd → Type 0
 HasCome first [] rest = rest ≡ first
 HasCome first (before ∷ earlier) rest = IsSession (opening before) before.totals rest × HasCome first earlier before
 
 -- What a server leaves after its sessions, one or more: from such a first start one led to the next, and the last one to this.
-pub record IsServed (chosen : Settings) (local peer : List (List ℕ)) (rest : Rest) : Type 0 where
-  pub first : Rest
+pub record IsServed (chosen : Settings) (local peer : List (List ℕ)) (rest : SessionEnd) : Type 0 where
+  pub first : SessionEnd
   pub starts : IsFirst chosen local peer first
-  pub earlier : List Rest
-  pub last : Rest
+  pub earlier : List SessionEnd
+  pub last : SessionEnd
   pub session : IsSession (opening last) last.totals rest
   pub come : HasCome first earlier last

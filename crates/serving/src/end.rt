@@ -2,7 +2,7 @@
 ghost use Rattle.std.specs.Prelude.{◌≡◌, false, None, OnOk};
 
 use crate::fault::Fault;
-use crate::rest::Totals;
+use crate::totals::Totals;
 use image_store::Both;
 use std::io;
 use std::io::Write;
@@ -20,8 +20,8 @@ pub(crate) struct End<'a> {
 }
 
 impl<'a> End<'a> {
-    /// Prints the three lines. They are printed also if the disks may differ, which is a fault. Returns the first fault; of
-    /// each further one a line on `err` tells.
+    /// Prints the three lines. They are printed also if the disks may differ, which is a fault. Returns the first fault, and
+    /// writes a line on `err` for each further one: what to do about it may be another thing.
     pub(crate) fn print<W: Write, E: Write>(
         &self,
         out: &mut W,
@@ -34,64 +34,62 @@ impl<'a> End<'a> {
         if let Err(error) = print_lines(&self.totals, out) {
             return Err(Fault::Unwritten(error));
         }
-        let checked = self.check();
-        if checked.is_err() {
-            let _ = self.tell_further(err);
+        match self.tell_further(err) {
+            None => Ok(()),
+            Some(first) => Err(first),
         }
-        checked
     }
 
-    // Returns the first fault.
-    fn check(&self) -> Result<(), Fault<'a>>
-        ensures alike { OnOk result ((self.now.totals.unmarked ≡ 0) × (self.now.totals.marked ≡ 0)) }
-        ensures whole { OnOk result ((self.now.torn.local ≡ false) × (self.now.torn.peer ≡ false)) }
-        ensures synced { OnOk result ((self.now.unsynced.local ≡ None) × (self.now.unsynced.peer ≡ None)) }
+    // Returns the first fault, and writes a line for each further one.
+    fn tell_further<E: Write>(&self, err: &mut E) -> Option<Fault<'a>>
+        ensures alike { result ≡ None → (self.now.totals.unmarked ≡ 0) × (self.now.totals.marked ≡ 0) }
+        ensures whole { result ≡ None → (self.now.torn.local ≡ false) × (self.now.torn.peer ≡ false) }
+        ensures synced { result ≡ None → (self.now.unsynced.local ≡ None) × (self.now.unsynced.peer ≡ None) }
     {
-        if self.totals.unmarked > 0 {
-            return Err(Fault::Unmarked(self.totals.unmarked));
-        }
-        if self.totals.marked > 0 {
-            return Err(Fault::Marked(self.totals.marked));
-        }
-        if self.torn.local {
-            return Err(Fault::Torn(self.files.local));
-        }
-        if self.torn.peer {
-            return Err(Fault::Torn(self.files.peer));
-        }
-        if let Some(error) = self.unsynced.local {
-            return Err(Fault::Unsynced(self.files.local, error));
-        }
-        if let Some(error) = self.unsynced.peer {
-            return Err(Fault::Unsynced(self.files.peer, error));
-        }
-        Ok(())
+        let Totals {
+            unmarked,
+            marked,
+            ..
+        } = self.totals;
+        let Both { local, peer } = self.files;
+        let mut first = None;
+        first = or_told(
+            err,
+            first,
+            (unmarked > 0).then_some(Fault::Unmarked(unmarked)),
+        );
+        first = or_told(err, first, (marked > 0).then_some(Fault::Marked(marked)));
+        first = or_told(err, first, self.torn.local.then_some(Fault::Torn(local)));
+        first = or_told(err, first, self.torn.peer.then_some(Fault::Torn(peer)));
+        first = or_told(err, first, unsynced(local, self.unsynced.local));
+        or_told(err, first, unsynced(peer, self.unsynced.peer))
     }
+}
 
-    // Writes a line for each fault of an image that comes after another fault: what to do about it may be another thing.
-    fn tell_further<E: Write>(&self, err: &mut E) -> io::Result<()> {
-        let mut is_further = self.totals.unmarked > 0 || self.totals.marked > 0;
-        for (file, is_torn) in [
-            (self.files.local, self.torn.local),
-            (self.files.peer, self.torn.peer),
-        ] {
-            if is_torn && is_further {
-                writeln!(err, "{}", Fault::Torn(file))?;
-            }
-            is_further = is_further || is_torn;
-        }
-        for (file, unsynced) in [
-            (self.files.local, self.unsynced.local),
-            (self.files.peer, self.unsynced.peer),
-        ] {
-            if let Some(error) = unsynced {
-                if is_further {
-                    writeln!(err, "{}", Fault::Unsynced(file, error))?;
-                }
-                is_further = true;
-            }
-        }
-        Ok(())
+// Returns the first fault of these two, and writes a line for the other one if it is a further one.
+fn or_told<'a, E: Write>(
+    err: &mut E,
+    first: Option<Fault<'a>>,
+    next: Option<Fault<'a>>,
+) -> Option<Fault<'a>>
+    ensures { result ≡ None → (first.entry ≡ None) × (next.entry ≡ None) }
+{
+    if first.is_none() {
+        return next;
+    }
+    if let Some(further) = next {
+        let _ = writeln!(err, "{further}");
+    }
+    first
+}
+
+// Returns the fault of an image of which a sync has failed for this reason.
+fn unsynced(file: &str, error: Option<io::Error>) -> Option<Fault<'_>>
+    ensures { result ≡ None → error ≡ None }
+{
+    match error {
+        Some(error) => Some(Fault::Unsynced(file, error)),
+        None => None,
     }
 }
 

@@ -64,7 +64,10 @@ impl fmt::Display for Fault<'_> {
             Fault::Unbound(fault) => write!(f, "{fault}"),
             Fault::Refused(refusal) => write!(f, "refused {}: {refusal}", refusal.number()),
             Fault::Unstarted(fault) => write!(f, "{fault}"),
-            Fault::Unmarked(count) => write!(f, "{count} blocks differ without a mark"),
+            Fault::Unmarked(count) => write!(
+                f,
+                "{count} blocks differ without a mark, a fault of this program: keep both images"
+            ),
             Fault::Marked(count) => write!(
                 f,
                 "{count} blocks could not be copied: the peer's image is not like the local one"

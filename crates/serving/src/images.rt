@@ -4,7 +4,7 @@ ghost use Rattle.blocks.specs.declared.refusal.Refusal.TheVariants.{BadSetting};
 ghost use Rattle.serving.specs.Served.{AreInRange};
 
 use crate::fault::Fault;
-use crate::rest::Disks;
+use crate::session_end::Disks;
 use blocks::{BLOCK_BYTES, MAX_BLOCKS, Refusal};
 use image_store::{Both, ImageLock, ImageStore, OpenFault, SyncHandle};
 use options::ServeOptions;
@@ -56,13 +56,13 @@ pub(crate) fn blocks_of<'a, H: Files>(rt: &H, options: &ServeOptions<'a>) -> Res
 }
 
 /// Checks that a locked image is still the file at its path, and an image of the device.
-pub(crate) fn check_kept<'a, H: Files<File = File>>(
+pub(crate) fn check_unchanged<'a, H: Files<File = File>>(
     rt: &H,
     lock: &ImageLock,
     file: &'a str,
     blocks: u32,
 ) -> Result<(), Fault<'a>> {
-    if lock.is_kept(rt, file, u64::from(blocks) * BLOCK_BYTES as u64) {
+    if lock.is_unchanged(rt, file, u64::from(blocks) * BLOCK_BYTES as u64) {
         Ok(())
     } else {
         Err(Fault::Changed(file))

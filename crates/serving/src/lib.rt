@@ -5,10 +5,11 @@
 mod end;
 mod fault;
 mod images;
-mod rest;
 mod server;
 mod session;
+mod session_end;
 mod sessions;
+mod totals;
 
 pub use options::ServeOptions;
 pub use server::serve;

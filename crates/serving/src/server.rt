@@ -8,8 +8,8 @@ ghost use Rattle.serving.specs.declared.fault.Fault.TheVariants.{Refused};
 
 use crate::end::End;
 use crate::fault::Fault;
-use crate::images::{blocks_of, check_kept, check_size, lock_both, open_both, torn_images};
-use crate::rest::Disks;
+use crate::images::{blocks_of, check_size, check_unchanged, lock_both, open_both, torn_images};
+use crate::session_end::Disks;
 use crate::sessions::run_sessions;
 use blocks::Refusal;
 use client_threads::{Listeners, Service, start_threads};
@@ -27,12 +27,14 @@ use std::sync::Arc;
 use volume::{Host, Runtime};
 
 /// Serves both images to block clients until `input` has a line `quit`, and prints `completed X`, `settled X` and
-/// `unmarked 0`, X being the number of ranges that clients wrote. Locks both images meanwhile. Returns how it ended:
-/// `Done` if all is done, both disks are one, and both images are on stable storage; `Failed` if a file, a sync, an address,
-/// the output, memory or a thread failed, an image is in use, was changed by others or may have kept parts of a write that
-/// failed, the disks differ without a mark, or blocks are still marked; `Refused` for any other refusal. For the last two a
-/// line on `err` says why; that the options ask for a size which no device has (15) comes before all else. The end of
-/// `input` is no order to end.
+/// `unmarked 0`, X being the number of ranges that clients wrote. Locks both images meanwhile. The end of `input` is no order
+/// to end. Returns how it ended:
+///
+/// - `Done`: both disks are the same, and both images are on stable storage.
+/// - `Failed`, with a line on `err` that says why: a file, a sync, an address, the output, memory or a thread failed, an image
+///   is in use, was changed by others or may have kept parts of a write that failed, the disks differ without a mark, or blocks
+///   are still marked.
+/// - `Refused`, with a line on `err`: any other refusal. A size that no device has (15) is refused before anything else.
 pub fn serve<
     H: Host + Files<File = File> + Net<Listener = TcpListener, Stream = TcpStream> + RandomSource,
     I: Read + Drop + Send + 'static,
@@ -102,13 +104,15 @@ fn serve_locked<
     ensures { IfOk result (HasEnded options.now) }
 {
     let blocks = blocks_of(rt, options)?;
-    let listeners = Listeners::open(rt, options.listen, options.status)?;
+    let listeners = Listeners::open(rt, options.listen, options.page_port)?;
     match open_both(rt, options, blocks) {
-        Ok((disks, syncs)) => match begin(rt, options, blocks, syncs, listeners, input, err) {
+        Ok((disks, syncs)) => match start_service(
+            rt, options, blocks, syncs, listeners, input, err,
+        ) {
             Ok(service) => {
-                let end = finish(rt, &service, options, disks)?;
-                check_kept(rt, &locks.local, options.local, blocks)?;
-                check_kept(rt, &locks.peer, options.peer, blocks)?;
+                let end = serve_sessions(rt, &service, options, disks)?;
+                check_unchanged(rt, &locks.local, options.local, blocks)?;
+                check_unchanged(rt, &locks.peer, options.peer, blocks)?;
                 Ok(end)
             }
             Err(fault) => Err(fault),
@@ -118,7 +122,7 @@ fn serve_locked<
 }
 
 // Starts the threads of a server of `blocks` blocks, and prints its addresses.
-fn begin<
+fn start_service<
     'a,
     H: Host + Net<Listener = TcpListener, Stream = TcpStream> + RandomSource,
     I: Read + Drop + Send + 'static,
@@ -146,7 +150,7 @@ fn begin<
 }
 
 // Runs the sessions of a server until it ends, and puts both images on stable storage.
-fn finish<'a, H: Runtime>(
+fn serve_sessions<'a, H: Runtime>(
     rt: &H,
     service: &Service,
     options: &ServeOptions<'a>,

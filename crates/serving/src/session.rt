@@ -8,7 +8,8 @@ ghost use Rattle.std.specs.Prelude.{◌≡◌, slice_get, IfOk};
 ghost use Rattle.volume.specs.Links.{AreEndsOf};
 ghost use Rattle.volume.specs.Opening.{opening_of};
 
-use crate::rest::{Disks, Rest, Totals, bring_together};
+use crate::session_end::{Disks, SessionEnd, settle_session};
+use crate::totals::Totals;
 use blocks::{Refusal, Settings};
 use client_threads::{Service, work};
 use image_store::{Both, ImageStore};
@@ -28,13 +29,13 @@ pub(crate) fn run_session<R: Runtime>(
     rt: R,
     service: &Service,
     cut_every: Option<u32>,
-    rest: Rest,
-) -> Result<Rest, Refusal>
+    rest: SessionEnd,
+) -> Result<SessionEnd, Refusal>
     requires honest { WasHonest (opening rest) }
     requires unparted { IsUnparted (opening rest) }
     ensures session { IfOk result (λ next. IsSession (opening rest) rest.totals next) }
 {
-    let Rest {
+    let SessionEnd {
         disks,
         parts,
         totals,
@@ -73,7 +74,7 @@ fn run_named<L: Linked + Send + Sync + 'static, R: Runtime>(
     disks: Disks,
     parts: Parts,
     totals: Totals,
-) -> Result<Rest, Refusal>
+) -> Result<SessionEnd, Refusal>
     requires there { AreEndsOf L.link names.There there }
     requires back { AreEndsOf L.link names.Back back }
     requires opening { L.opening ≡ opening_of parts (slice_get disks.local.disk) (slice_get disks.peer.disk) }
@@ -95,7 +96,7 @@ fn run_named<L: Linked + Send + Sync + 'static, R: Runtime>(
             let worked = work(&rt, service, session.mirror(), cut_every);
             match session.finish() {
                 Ok((primary, secondary)) => {
-                    bring_together(service, totals, primary, secondary, worked)
+                    settle_session(service, totals, primary, secondary, worked)
                 }
                 Err(refusal) => Err(refusal),
             }

@@ -3,9 +3,10 @@ ghost use Rattle.std.specs.Prelude.{ℕ, ◌≡◌, false, slice_get, unwrap_or,
 ghost use Rattle.blocks.specs.SettingsRange.{standard};
 ghost use Rattle.serving.specs.Sessions.{IsFirst, IsServed};
 
-use crate::rest::{Disks, Rest, Totals};
 use crate::session::run_session;
-use blocks::{BLOCK_BYTES, Block, Refusal, Settings, Store, Tuple};
+use crate::session_end::{Disks, SessionEnd};
+use crate::totals::Totals;
+use blocks::{BLOCK_BYTES, Block, ConnectionWords, Refusal, Settings, Store, Tuple};
 use client_threads::Service;
 use volume::{Parts, Runtime};
 
@@ -16,7 +17,7 @@ pub(crate) fn run_sessions<R: Runtime>(
     service: &Service,
     cut_every: Option<u32>,
     disks: Disks,
-) -> Result<Rest, Refusal>
+) -> Result<SessionEnd, Refusal>
     ensures served { IfOk result (IsServed (record standard { protocol = service.now.protocol; blocks = service.now.blocks }) disks.local.disk disks.peer.disk) }
     ensures alike { IfOk result (λ rest. rest.totals.unmarked ≡ 0 → rest.totals.marked ≡ 0 → rest.disks.local.disk ≡ rest.disks.peer.disk) }
 {
@@ -34,7 +35,7 @@ pub(crate) fn run_sessions<R: Runtime>(
 
 // Returns what the first session over these disks starts from: no block is marked, and if the disks differ, the peer's has
 // the identifiers of an unknown disk (0,0,0,0).
-fn first_rest(service: &Service, disks: Disks) -> Result<Rest, Refusal>
+fn first_rest(service: &Service, disks: Disks) -> Result<SessionEnd, Refusal>
     ensures { IfOk result (IsFirst (record standard { protocol = service.now.protocol; blocks = service.now.blocks }) disks.local.disk disks.peer.disk) }
 {
     let mut disks = disks;
@@ -46,7 +47,7 @@ fn first_rest(service: &Service, disks: Disks) -> Result<Rest, Refusal>
         unknown
     };
     match first_parts(service, first, peer) {
-        Ok(parts) => Ok(Rest {
+        Ok(parts) => Ok(SessionEnd {
             disks,
             parts,
             totals: Totals::NOTHING,
@@ -68,7 +69,7 @@ fn first_parts(service: &Service, own: Tuple, peer: Tuple) -> Result<Parts, Refu
     };
     settings.check()?;
     let marks = Vec::from_elem(service.alloc, false, service.blocks as usize)?;
-    let (sync, loss) = service.words();
+    let ConnectionWords { sync, loss } = service.words();
     Ok(Parts {
         settings,
         own,

@@ -271,26 +271,26 @@ pub(crate) fn options_of(
         blocks: None,
         protocol,
         listen,
-        status: Some(page.port()),
+        page_port: Some(page.port()),
         cut_every: None,
     }
 }
 
-/// Serves two images until a client has done its work. Returns the server's status.
+/// Serves two images until a client has done its work. What the server prints goes to `out`. Returns its status.
 pub(crate) fn serve_until<
     H: Abort
         + Host
         + Files<File = File>
         + Net<Listener = TcpListener, Stream = TcpStream>
         + RandomSource,
->(rt: H, options: &ServeOptions<'_>, is_done: &Arc<AtomicBool, Global>) -> u8 {
+>(rt: H, options: &ServeOptions<'_>, is_done: &Arc<AtomicBool, Global>, out: &mut Vec<u8>) -> u8 {
     let order = Order {
         rt,
         is_done: Arc::try_clone(is_done).expect(&rt, "memory"),
         is_given: false,
     };
-    let (mut out, mut err) = (Vec::new(rt.alloc()), Vec::new(rt.alloc()));
-    serve(&rt, options, order, &mut out, &mut err).code()
+    let mut err = Vec::new(rt.alloc());
+    serve(&rt, options, order, out, &mut err).code()
 }
 
 /// Writes an image of zeros for a client of the tests.
@@ -311,13 +311,7 @@ fn serve_one<
     let alloc = rt.alloc();
     let (address, page) = free_addresses(&rt);
     let is_done = Arc::new(alloc, AtomicBool::new(false)).expect(&rt, "memory");
-    let order = Order {
-        rt,
-        is_done: Arc::try_clone(&is_done).expect(&rt, "memory"),
-        is_given: false,
-    };
     let options = options_of(protocol, address, page);
-    let mut err = Vec::new(alloc);
     let (is_right, status) = thread::join(
         &rt,
         || -> bool {
@@ -326,7 +320,7 @@ fn serve_one<
             is_done.store(true, Ordering::SeqCst);
             answer.expect(&rt, "answers") && shown.expect(&rt, "a page")
         },
-        || -> u8 { serve(&rt, &options, order, out, &mut err).code() },
+        || -> u8 { serve_until(rt, &options, &is_done, out) },
     );
     (status, is_right)
 }
@@ -339,7 +333,7 @@ fn put_images(rt: &(impl Abort + AllocGlobal + Files)) {
 }
 
 // Checks that the image has what the client wrote, and removes it.
-fn is_written(rt: &(impl Abort + AllocGlobal + Files), protocol: Protocol, file: &str) {
+fn check_written(rt: &(impl Abort + AllocGlobal + Files), protocol: Protocol, file: &str) {
     let mut wanted = Vec::new(rt.alloc());
     for block in 0..8 {
         let bytes = if block == 1 { &AB_BLOCK } else { &ZERO_BLOCK };
@@ -361,7 +355,7 @@ fn a_client_reads_what_it_wrote(rt: HostRuntime) {
         let lines = "completed 4\nsettled 4\nunmarked 0\n";
         assert_eq!(rt; out.as_slice(), lines.as_bytes(), "{protocol:?}");
         for file in ["serving_local", "serving_peer"] {
-            is_written(&rt, protocol, file);
+            check_written(&rt, protocol, file);
         }
     }
 }

@@ -112,10 +112,11 @@ fn serve_to_the_end<
         peer: "ending_peer",
         ..options_of(Protocol::C, address, page)
     };
+    let mut out = Vec::new(alloc);
     let (_, status) = thread::join(
         &rt,
         || see_the_end(&rt, alloc, address, &is_done),
-        || -> u8 { serve_until(rt, &options, &is_done) },
+        || -> u8 { serve_until(rt, &options, &is_done, &mut out) },
     );
     status
 }

@@ -64,6 +64,8 @@ impl Device for LateDevice {
     ghost holds = { λ first count bytes. Unit {0} };
 
     // It has no nodes.
+    ghost releases = { λ number. Unit {0} };
+
     ghost shows = { λ own other. Unit {0} };
 
     fn write(&self, _first: u64, _bytes: &Bytes) -> Result<Receipt, Refusal> {

@@ -57,11 +57,11 @@ fn read_beside_flushes<R: Abort + Net<Stream = TcpStream> + Clock>(
         &[&reply(0, 9), &ZERO_BLOCK],
     );
     device.release();
-    is_each_answered(rt, &mut flusher);
+    check_each_answered(rt, &mut flusher);
 }
 
 // Reads a reply for each FLUSH. Each has one of its own, whatever their order.
-fn is_each_answered(rt: &impl Abort, flusher: &mut TcpStream) {
+fn check_each_answered(rt: &impl Abort, flusher: &mut TcpStream) {
     let mut seen = [0usize; FLUSHES as usize];
     let mut header = [0u8; 16];
     for _ in 0..FLUSHES {

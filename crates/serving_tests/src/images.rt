@@ -119,7 +119,7 @@ fn another_length_is_refused(rt: HostRuntime) {
         wanted: 16_384,
     };
     let text = format!(in rt.alloc(); "{fault}").expect(&rt, "memory");
-    let wanted = "the image has 12289 bytes, and an image of this device has 16384";
+    let wanted = "the image has 12289 bytes, and an image of this device has 16384 (see --blocks)";
     assert_eq!(rt; text.as_str(), wanted);
     fs::remove_file(&rt, "other_length").expect(&rt, "a file");
 }
@@ -159,8 +159,8 @@ fn an_image_is_locked_once(rt: HostRuntime) {
         );
     }
     assert!(rt; ImageStore::open(&rt, "locked", 1).is_ok());
-    assert!(rt; lock.is_kept(&rt, "locked_link", 4096));
-    assert!(rt; !lock.is_kept(&rt, "locked_link", 8192));
+    assert!(rt; lock.is_unchanged(&rt, "locked_link", 4096));
+    assert!(rt; !lock.is_unchanged(&rt, "locked_link", 8192));
     drop(lock);
     assert!(rt; lock_fault(&rt, "locked_link").is_none());
     assert!(rt;
@@ -172,17 +172,17 @@ fn an_image_is_locked_once(rt: HostRuntime) {
     fs::remove_file(&rt, "locked").expect(&rt, "a file");
 }
 
-// A lock is kept on a file. It says so if another one has taken its place.
+// A lock is kept on a file. It tells if another file has taken its place.
 #[test]
-fn a_replaced_image_is_not_kept(rt: HostRuntime) {
+fn a_replaced_image_is_noticed(rt: HostRuntime) {
     make_image(&rt, "replaced", 1, 4096);
     make_image(&rt, "replacing", 1, 4096);
     let lock = ImageLock::take(&rt, "replaced").expect(&rt, "a lock");
-    assert!(rt; lock.is_kept(&rt, "replaced", 4096));
+    assert!(rt; lock.is_unchanged(&rt, "replaced", 4096));
     fs::rename(&rt, "replacing", "replaced").expect(&rt, "a file");
-    assert!(rt; !lock.is_kept(&rt, "replaced", 4096));
+    assert!(rt; !lock.is_unchanged(&rt, "replaced", 4096));
     fs::remove_file(&rt, "replaced").expect(&rt, "a file");
-    assert!(rt; !lock.is_kept(&rt, "replaced", 4096));
+    assert!(rt; !lock.is_unchanged(&rt, "replaced", 4096));
 }
 
 // Makes a file of 16 MiB of zeros.
@@ -270,10 +270,11 @@ fn failing_store(
     ImageStore::over(file, memory)
 }
 
-// Checks whether the file at this path has one block for each of these bytes.
-fn has(rt: &(impl Abort + Files + AllocGlobal), path: &str, fills: &[u8], wanted: bool) {
-    let found = is_image(rt, path, fills).expect(rt, "an image");
-    assert_eq!(rt; found, wanted);
+// Checks that the file at this path has one block for each of these bytes, filled with it, or that it does not if
+// `is_wanted` is false.
+fn check_image(rt: &(impl Abort + Files + AllocGlobal), path: &str, fills: &[u8], is_wanted: bool) {
+    let is_found = is_image(rt, path, fills).expect(rt, "an image");
+    assert_eq!(rt; is_found, is_wanted);
 }
 
 // Checks that a write that fails in the middle does not change memory, that the file has the old bytes or the store tells of
@@ -288,11 +289,11 @@ fn fails_and_is_mended(
     puts(rt, &mut store, (0, [7, 8]), Ok(()));
     puts(rt, &mut store, (1, [170, 187]), Err(StoreFault));
     assert!(rt; is_held(&mut store, &[7, 8, 0, 0]));
-    has(rt, path, &[7, 8, 0, 0], is_taken_back);
+    check_image(rt, path, &[7, 8, 0, 0], is_taken_back);
     assert_eq!(rt; store.is_torn(), !is_taken_back);
     puts(rt, &mut store, (1, [170, 187]), Ok(()));
     assert!(rt; is_held(&mut store, &[7, 170, 187, 0]));
-    has(rt, path, &[7, 170, 187, 0], true);
+    check_image(rt, path, &[7, 170, 187, 0], true);
     fs::remove_file(rt, path).expect(rt, "a file");
 }
 

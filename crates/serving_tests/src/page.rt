@@ -45,7 +45,7 @@ const JSON: &str =
     "{\"primary\":{\"connection\":\"SyncSource\",\"disk\":\"UpToDate\",\"open_epochs\":2,\"open_writes\":1,\"out_of_sync_kib\":12,\"peer_disk\":\"Inconsistent\",\"peer_role\":\"Secondary\",\"protocol\":\"C\",\"role\":\"Primary\",\"unanswered_writes\":0},\"resync\":{\"left_kib\":12,\"percent\":25},\"secondary\":{\"connection\":\"SyncTarget\",\"disk\":\"Inconsistent\",\"is_consistent\":false,\"peer_disk\":\"UpToDate\",\"peer_role\":\"Primary\",\"pending_items\":3,\"protocol\":\"C\",\"role\":\"Secondary\",\"whole_epoch\":1}}";
 
 /// Checks that a client that asks this gets this status and this body.
-fn is_answered(
+fn check_answer(
     rt: &(impl Abort + AllocGlobal + RandomSource),
     asked: &str,
     report: Option<&Report>,
@@ -78,16 +78,16 @@ fn a_client_is_answered(rt: HostRuntime) {
         (
             "GET /else",
             "HTTP/1.1 404 Not Found",
-            "/ and /status.json\n",
+            "there is no such page: this server has / and /status.json\n",
         ),
         ("DELETE /", "HTTP/1.1 405 Method Not Allowed", ""),
     ];
     for (asked, status, body) in cases {
-        is_answered(&rt, asked, Some(&report), (status, body));
+        check_answer(&rt, asked, Some(&report), (status, body));
     }
     let none = (
         "HTTP/1.1 503 Service Unavailable",
-        "no session answers: it gives way to the next, or a disk hangs\n",
+        "no report within two seconds: a session gives way to the next, or a disk does not answer\n",
     );
-    is_answered(&rt, "GET /", None, none);
+    check_answer(&rt, "GET /", None, none);
 }

@@ -78,6 +78,7 @@ fn serve_page_to_both<
         peer: "asked_peer",
         ..options_of(Protocol::C, address, page)
     };
+    let mut out = Vec::new(alloc);
     let (is_in_time, status) = thread::join(
         &rt,
         || -> bool {
@@ -85,7 +86,7 @@ fn serve_page_to_both<
             is_done.store(true, Ordering::SeqCst);
             is_in_time
         },
-        || -> u8 { serve_until(rt, &options, &is_done) },
+        || -> u8 { serve_until(rt, &options, &is_done, &mut out) },
     );
     (status, is_in_time)
 }

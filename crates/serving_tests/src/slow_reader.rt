@@ -1,10 +1,10 @@
 //! Test of a client that reads no replies while another one is served.
 use crate::clients::{
-    AB_BLOCK, FLAGS, GO, GO_ANSWER, GREETING, Order, ZERO_BLOCK, ask, connect, exchange,
-    free_addresses, options_of, reply,
+    AB_BLOCK, FLAGS, GO, GO_ANSWER, GREETING, ZERO_BLOCK, ask, connect, exchange, free_addresses,
+    options_of, reply, serve_until,
 };
 use blocks::Protocol;
-use serving::{Host, ServeOptions, serve};
+use serving::{Host, ServeOptions};
 use std::alloc::Global;
 use std::fs::File;
 use std::io::{Read, Write};
@@ -23,7 +23,7 @@ pub(crate) const BLOCKS: usize = 8;
 /// The requests of the slow client, each for all blocks: their replies are 16 MiB, more than the sockets take.
 pub(crate) const READS: usize = 512;
 
-/// What the client beside it asks for in a turn, and gets: a write, a read and a flush.
+/// Turns of the client beside it: in each it writes, reads and flushes.
 const TURNS: u32 = 10;
 
 /// How long it waits for a reply at most, in seconds.
@@ -125,24 +125,18 @@ fn serve_both<
     let alloc = rt.alloc();
     let (address, page) = free_addresses(&rt);
     let is_done = Arc::new(alloc, AtomicBool::new(false)).expect(&rt, "memory");
-    let order = Order {
-        rt,
-        is_done: Arc::try_clone(&is_done).expect(&rt, "memory"),
-        is_given: false,
-    };
     let options = ServeOptions {
         local: "slow_local",
         peer: "slow_peer",
         ..options_of(Protocol::C, address, page)
     };
-    let mut err = Vec::new(alloc);
     let (_, status) = thread::join(
         &rt,
         || {
             be_slow(&rt, alloc, address);
             is_done.store(true, Ordering::SeqCst);
         },
-        || -> u8 { serve(&rt, &options, order, out, &mut err).code() },
+        || -> u8 { serve_until(rt, &options, &is_done, out) },
     );
     status
 }

@@ -1,5 +1,5 @@
 //! The primary under its lock.
-ghost use Rattle.std.specs.Prelude.{◌≡◌, ◌<◌, ◌≤◌, ◌*◌, ◌⊎◌, false, None, Err, slice_get, unwrap_or, vec_len, IfOk, IfErr, IfSome, OnOk, OnErr};
+ghost use Rattle.std.specs.Prelude.{◌≡◌, ◌<◌, ◌≤◌, ◌*◌, ◌⊎◌, false, None, Some, Err, if◌then◌else◌, slice_get, unwrap_or, vec_len, IfOk, IfErr, IfSome, OnOk, OnErr};
 ghost use Rattle.blocks.specs.declared.outcome.Reply.{Reply};
 ghost use Rattle.blocks.specs.declared.outcome.Reply.TheVariants as reply;
 ghost use Rattle.blocks.specs.declared.outcome.What.TheVariants as what;
@@ -14,15 +14,16 @@ ghost use Rattle.primary_protocol.specs.Node.{take_receipt};
 ghost use Rattle.primary_protocol.specs.Steps.{plainly, replied};
 ghost use Rattle.primary_protocol.specs.Transitions.{whole_blocks};
 ghost use Rattle.session_nodes.specs.Primaries.{HasAccepted, HasHeld, IsPrimaryStep, PrimaryHas, PrimaryIsHad, PrimaryRuns, PrimarySteps, PrimaryTakes};
-ghost use Rattle.session_nodes.specs.Queries.{is_quiet, released_to};
+ghost use Rattle.session_nodes.specs.Queries.{is_quiet, released_to, sent_items};
 
 use crate::Beginning;
-use blocks::{Done, Refusal, Settings, Store, Tuple};
+use blocks::{ConnectionWords, Done, Refusal, Settings, Store, Tuple};
 use bytes::Bytes;
 use link::{FrameIn, FrameOut};
 use primary::{Primary, Receipt};
 use std::alloc::Global;
 use std::marker::{Model, PhantomData};
+use turns::SentItems;
 
 /// The primary of a session, kept under a lock. Invariant: it was opened as its beginning says, and all of its connections
 /// used the link ends that it has (`PrimaryIsHad`).
@@ -55,18 +56,18 @@ impl<B: Beginning, O: FrameOut + Drop, I: FrameIn + Drop, S: Store + Drop> Local
         tuple: Tuple,
         marks: Vec<bool>,
         link: (O, I),
-        words: (u64, u64),
+        words: ConnectionWords,
     ) -> Result<Local<B, O, I, S>, Refusal>
         requires outward { IsNewOut (O.state link.0) }
         requires inward { IsNewIn (I.state link.1) }
         requires began { IfSome B.opening (λ opening. primary_opening settings (slice_get (S.contents store)) tuple (λ block. unwrap_or (slice_get marks.items block) false)
             ≡ primary_at opening) }
-        ensures opened { IfOk result (λ n. PrimaryHas n (primary_after (Opens words.0 words.1 false)
+        ensures opened { IfOk result (λ n. PrimaryHas n (primary_after (Opens words.sync words.loss false)
             (primary_opening settings (slice_get (S.contents store)) tuple (λ block. unwrap_or (slice_get marks.items block) false)))) }
     {
         let mut node = Primary::new(alloc, settings, store, tuple, marks)?;
         let (outward, inward) = link;
-        match node.open(outward, inward, words.0, words.1) {
+        match node.open(outward, inward, words.sync, words.loss) {
             Ok(()) => Ok(Local {
                 node,
                 began: PhantomData,
@@ -175,13 +176,30 @@ impl<B: Beginning, O: FrameOut + Drop, I: FrameIn + Drop, S: Store + Drop> Local
         self.node.reopen(sync, loss)
     }
 
-    /// Returns whether the link has nothing more to do: the end is closed, or its connection is established, no block is
-    /// marked, and every epoch is acknowledged.
-    pub fn is_quiet(&self) -> bool
+    /// Returns what was sent on the last connection, if the primary has nothing more to do for the link: its end is closed, or
+    /// its connection is established, no block is marked, every epoch is acknowledged, and no item waits to be sent.
+    pub fn sent_if_quiet(&self) -> Option<SentItems>
+        ensures { (h : PrimaryHistory) → PrimaryHas self.now h → result ≡ (if is_quiet h then Some (sent_items h) else None) }
+    {
+        if self.is_quiet() {
+            Some(SentItems {
+                connection: self.node.connections(),
+                items: self.node.items_sent(),
+            })
+        } else {
+            None
+        }
+    }
+
+    fn is_quiet(&self) -> bool
         ensures { (h : PrimaryHistory) → PrimaryHas self.now h → result ≡ is_quiet h }
     {
         let node = &self.node;
-        !node.is_open() || (node.is_established() && node.marks() == 0 && node.open_epochs() == 0)
+        !node.is_open()
+            || (node.is_established()
+                && node.marks() == 0
+                && node.open_epochs() == 0
+                && node.unsent() == 0)
     }
 
     /// Returns the number up to which each write is released.

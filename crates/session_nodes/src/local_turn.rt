@@ -5,7 +5,7 @@ ghost use Rattle.session_nodes.specs.Primaries.{PrimaryHas, PrimaryRuns};
 ghost use Rattle.session_nodes.specs.Queries.{closed_since};
 
 use crate::{Beginning, Local};
-use blocks::{Done, Store};
+use blocks::{Done, Refusal, Store};
 use link::{FrameIn, FrameOut};
 use turns::{LocalRole, STEPS, Turn};
 
@@ -82,13 +82,17 @@ impl<B: Beginning, O: FrameOut + Drop, I: FrameIn + Drop, S: Store + Drop> Local
         ensures closed { turn.new.closed ≡ turn.old.closed }
     {
         match role {
+            LocalRole::Sender if turn.link_full => false,
             LocalRole::Sender => match self.send() {
                 Ok(done) => {
                     turn.pushed = true;
                     turn.wakes_writers |= done.completed.is_some();
                     true
                 }
-                Err(_) => false,
+                Err(refusal) => {
+                    turn.link_full = refusal == Refusal::LinkFull;
+                    false
+                }
             },
             LocalRole::Receiver => {
                 let taken = self.ack_in();

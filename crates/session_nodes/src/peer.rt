@@ -10,6 +10,7 @@ ghost use Rattle.secondary.specs.Calls.{AppliesOne};
 ghost use Rattle.secondary.specs.State.{node};
 ghost use Rattle.secondary_protocol.specs.Node.{NodeHas};
 ghost use Rattle.secondary_protocol.specs.Steps.{plainly, replied};
+ghost use Rattle.session_nodes.specs.Queries.{has_taken};
 ghost use Rattle.session_nodes.specs.Secondaries.{SecondaryHas, SecondaryIsHad, SecondaryReceives, SecondaryRuns, SecondarySteps};
 
 use crate::Beginning;
@@ -18,6 +19,7 @@ use link::{FrameIn, FrameOut};
 use secondary::Secondary;
 use std::alloc::Global;
 use std::marker::{Model, PhantomData};
+use turns::SentItems;
 
 /// The secondary of a session, kept under a lock. Invariant: it was opened as its beginning says, and all of its
 /// connections used the link ends that it has (`SecondaryIsHad`).
@@ -155,6 +157,15 @@ impl<B: Beginning, O: FrameOut + Drop, I: FrameIn + Drop, S: Store + Drop> Peer<
         ensures unchanged { OnErr result (self.new ≡ self.old) }
     {
         self.node.reopen(number)
+    }
+
+    /// Returns whether nothing of what was sent is on its way: the end has taken as many items on the same connection, or it is
+    /// closed.
+    pub fn has_taken(&self, sent: SentItems) -> bool
+        ensures { (h : SecondaryHistory) → SecondaryHas self.now h → result ≡ has_taken sent h }
+    {
+        let node = &self.node;
+        !node.is_open() || (node.number() == sent.connection && node.items_taken() >= sent.items)
     }
 
     /// Returns the node for reading.

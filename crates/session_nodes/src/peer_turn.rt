@@ -5,7 +5,7 @@ ghost use Rattle.session_nodes.specs.Queries.{closed_since_too};
 ghost use Rattle.session_nodes.specs.Secondaries.{SecondaryHas, SecondaryRuns};
 
 use crate::{Beginning, Peer};
-use blocks::Store;
+use blocks::{Refusal, Store};
 use link::{FrameIn, FrameOut};
 use turns::{PeerRole, STEPS, Turn};
 
@@ -79,10 +79,12 @@ impl<B: Beginning, O: FrameOut + Drop, I: FrameIn + Drop, S: Store + Drop> Peer<
     {
         match role {
             PeerRole::Receiver => self.receive().is_ok(),
+            PeerRole::Sender if turn.link_full => false,
             PeerRole::Sender => {
-                let pushed = self.ack_out().is_ok();
-                turn.pushed |= pushed;
-                pushed
+                let sent = self.ack_out();
+                turn.link_full = sent == Err(Refusal::LinkFull);
+                turn.pushed |= sent.is_ok();
+                sent.is_ok()
             }
             PeerRole::Disk => self.apply_next().is_ok(),
         }

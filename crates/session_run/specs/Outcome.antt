@@ -36,7 +36,7 @@ HasSettled primary secondary receipts confirmed unmarked =
     (p : PrimaryHistory) (s : SecondaryHistory) → PrimaryHas (primary_node primary) p → SecondaryHas (secondary_node secondary) s → IsJoined p s
     → WereHonest p s → (numbers : Settlement) × (Settles p s receipts numbers × ((confirmed ≡ numbers.confirmed) × (unmarked ≡ numbers.unmarked)))
 
--- the identifiers of both disks where they are one, and of an unknown disk
+-- the identifiers of both disks where they are the same, and of an unknown disk
 abbrev pub first : Tuple
 first = record { current = 1; bitmap = 0; first_historical = 0; second_historical = 0 }
 
@@ -44,7 +44,7 @@ abbrev pub unknown : Tuple
 unknown = record { current = 0; bitmap = 0; first_historical = 0; second_historical = 0 }
 
 -- The opening of a run with these settings, over images of these bytes: no block is marked, and the peer's disk is unknown
--- unless the images are one.
+-- unless the images are the same.
 pub record IsOpening (chosen : Settings) (local_image peer_image : List ℕ) (o : Opening) : Type 0 where
   pub settings : o.settings ≡ chosen
   pub peer_settings : o.peer_settings ≡ chosen

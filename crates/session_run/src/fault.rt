@@ -16,11 +16,11 @@ use std::{fmt, io};
 #[derive(Drop)]
 pub(crate) enum Fault<'a> {
     /// The image could not be locked.
-    Unlocked(&'a str, OpenFault),
+    LockRefused(&'a str, OpenFault),
     /// The image could not be read.
     Unread(&'a str, io::Error),
-    /// The image has the first number of bytes instead of the second, which its blocks have.
-    WrongLength(&'a str, u64, u64),
+    /// The image is not as long as its device.
+    WrongLength(&'a str, OpenFault),
     /// The sockets could not be connected.
     Unconnected(io::Error),
     /// A socket failed, and with it the link.
@@ -58,14 +58,9 @@ impl Fault<'_> {
 impl fmt::Display for Fault<'_> {
     fn fmt<W: fmt::Write>(&self, f: &mut fmt::Formatter<W>) -> fmt::Result {
         match self {
-            Fault::Unlocked(file, fault) => write!(f, "{file}: {fault}"),
+            Fault::LockRefused(file, fault) => write!(f, "{file}: {fault}"),
             Fault::Unread(file, error) => write!(f, "{file} could not be read: {error}"),
-            Fault::WrongLength(file, found, wanted) => {
-                write!(
-                    f,
-                    "{file} has {found} bytes: an image of this device has {wanted} (see --blocks)"
-                )
-            }
+            Fault::WrongLength(file, fault) => write!(f, "{file}: {fault}"),
             Fault::Unconnected(error) => write!(f, "the sockets could not be connected: {error}"),
             Fault::Lost => write!(f, "a socket failed, and the link was lost"),
             Fault::Refused(refusal) => write!(f, "refused {}", refusal.number()),

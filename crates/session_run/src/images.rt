@@ -4,6 +4,7 @@ ghost use Rattle.std.specs.Prelude.{◌≡◌, ◌*◌, ◌<◌, ◌≤◌, vec_
 use crate::fault::Fault;
 use crate::locked_image::LockedImage;
 use blocks::BLOCK_BYTES;
+use image_store::check_length;
 use std::fs::OpenFile;
 use std::io::Read;
 use std::rt::Files;
@@ -24,8 +25,10 @@ pub(crate) fn load<'a, H: Files + AllocGlobal>(
         return Ok(bytes);
     };
     match fill(rt, image.real.as_str(), &mut bytes) {
-        Ok(found) if found == wanted as u64 => Ok(bytes),
-        Ok(found) => Err(Fault::WrongLength(image.named, found, wanted as u64)),
+        Ok(found) => match check_length(found, blocks) {
+            Ok(()) => Ok(bytes),
+            Err(fault) => Err(Fault::WrongLength(image.named, fault)),
+        },
         Err(error) => Err(Fault::Unread(image.named, error)),
     }
 }

@@ -37,7 +37,7 @@ impl<'a> LockedImage<'a> {
         let beside = format!(in rt.alloc(); "{}.{ending}", real.display())?;
         let lock = match ImageLock::take(rt, real.as_str()) {
             Ok(lock) => lock,
-            Err(fault) => return Err(Fault::Unlocked(named, fault)),
+            Err(fault) => return Err(Fault::LockRefused(named, fault)),
         };
         // Only now: until the lock is free, another run may have a file there that it will put in the image's place.
         match fs::symlink_metadata(rt, beside.as_str()) {

@@ -15,7 +15,7 @@ use std::alloc::Global;
 use std::io::Write;
 use std::marker::Brand;
 use volume::{Parts, Runtime};
-use wire_session::{Beginning, Socket, WireSession};
+use wire_session::{Beginning, Socket, Ways, WireSession};
 
 /// Runs a session over the images of two disks and these sockets: starts it, makes all writes, ends it, and settles.
 /// Reports on `err` what the options ask for.
@@ -27,7 +27,7 @@ pub(crate) fn run_over<R: Runtime, E: Write + Send>(
     alloc: Global,
     options: &RunOptions,
     images: Both<Vec<u8>>,
-    ways: (Socket, Socket),
+    ways: Ways<Socket, Socket>,
     err: &mut E,
 ) -> Result<Report, Refusal>
     requires { options.now.path ≡ path.Sockets }
@@ -43,7 +43,7 @@ fn run_begun<B: Beginning + Send + Sync + 'static, R: Runtime, E: Write + Send>(
     rt: R,
     alloc: Global,
     options: &RunOptions,
-    ways: (Socket, Socket),
+    ways: Ways<Socket, Socket>,
     disks: Disks,
     parts: Parts,
     err: &mut E,

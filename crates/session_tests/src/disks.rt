@@ -41,13 +41,21 @@ impl Signals {
     }
 }
 
+/// The write that a disk fails.
+#[derive(Clone, Copy)]
+pub(crate) struct FailingWrite {
+    /// How many writes pass before it.
+    pub(crate) passes: u64,
+    /// Whether it writes its blocks all the same.
+    pub(crate) keeps: bool,
+}
+
 /// A disk in memory that fails one write and one read, if it is made to.
 #[derive(Drop)]
 pub(crate) struct FailingDisk {
     memory: MemStore,
-    /// How many writes pass before the one that fails, and whether that one writes its blocks all the same; `None` if
-    /// no other write fails.
-    failing_write: Option<(u64, bool)>,
+    /// `None` if no other write fails.
+    failing_write: Option<FailingWrite>,
     /// How many reads pass before the one that fails; `None` if no other read fails.
     failing_read: Option<u64>,
 }
@@ -56,7 +64,7 @@ impl FailingDisk {
     /// Makes a disk that fails these.
     pub(crate) fn new(
         memory: MemStore,
-        failing_write: Option<(u64, bool)>,
+        failing_write: Option<FailingWrite>,
         failing_read: Option<u64>,
     ) -> FailingDisk {
         FailingDisk {
@@ -78,14 +86,19 @@ impl Store for FailingDisk {
 
     fn write(&mut self, range: Range, bytes: &[u8]) -> Result<(), StoreFault> {
         match self.failing_write {
-            Some((0, keeps)) => {
+            Some(FailingWrite { passes: 0, keeps }) => {
                 self.failing_write = None;
                 if keeps {
                     self.memory.write(range, bytes)?;
                 }
                 return Err(StoreFault);
             }
-            Some((passes, keeps)) => self.failing_write = Some((passes - 1, keeps)),
+            Some(FailingWrite { passes, keeps }) => {
+                self.failing_write = Some(FailingWrite {
+                    passes: passes - 1,
+                    keeps,
+                });
+            }
             None => {}
         }
         self.memory.write(range, bytes)

@@ -1,6 +1,6 @@
 //! Tests of sessions in which a disk fails.
 use crate::callers::Work;
-use crate::disks::{FailingDisk, GatedDisk, Signals, memory};
+use crate::disks::{FailingDisk, FailingWrite, GatedDisk, Signals, memory};
 use crate::outcome::Outcome;
 use crate::session::{Case, UNKNOWN, run};
 use blocks::Protocol;
@@ -17,8 +17,15 @@ enum Fault {
     PeerWrite(u64),
 }
 
-// Runs a session of four writers over two disks. One of them fails once. A write that fails is on the disk all the
-// same, if its number is odd.
+// Returns the write that fails after this many. It is on the disk all the same, if their number is odd.
+fn failing_after(passes: u64) -> FailingWrite {
+    FailingWrite {
+        passes,
+        keeps: passes % 2 == 1,
+    }
+}
+
+// Runs a session of four writers over two disks. One of them fails once.
 fn over_failing<R: Abort + Runtime>(
     rt: R,
     alloc: Global,
@@ -27,8 +34,8 @@ fn over_failing<R: Abort + Runtime>(
 ) -> Outcome {
     let signals = Signals::shared(&rt, alloc);
     let (local, peer) = match fault {
-        Fault::LocalWrite(passes) => (Some((passes, passes % 2 == 1)), None),
-        Fault::PeerWrite(passes) => (None, Some((passes, passes % 2 == 1))),
+        Fault::LocalWrite(passes) => (Some(failing_after(passes)), None),
+        Fault::PeerWrite(passes) => (None, Some(failing_after(passes))),
     };
     let disks = (
         FailingDisk::new(memory(&rt, alloc, false), local, None),
@@ -63,7 +70,7 @@ fn a_local_fault_is_its_callers_alone(rt: HostRuntime) {
                 (199, 1),
                 "{protocol:?} {passes}"
             );
-            outcome.is_settled(&rt, 199, &(protocol, passes));
+            outcome.check_settled(&rt, 199, &(protocol, passes));
         }
     }
 }
@@ -78,7 +85,7 @@ fn a_peer_fault_leaves_no_difference_unmarked(rt: HostRuntime) {
                 (200, 0),
                 "{protocol:?} {passes}"
             );
-            outcome.is_settled(&rt, 200, &(protocol, passes));
+            outcome.check_settled(&rt, 200, &(protocol, passes));
         }
     }
 }

@@ -38,9 +38,9 @@ fn a_write_ends_on_the_local_disk_while_the_peer_writes(rt: HostRuntime) {
     for wide in [under_c, under_a] {
         for case in [wide, wide.over_one_frame()] {
             let outcome = over_watched(rt, rt.alloc(), case);
-            outcome.is_without_complaints(&rt, 2, &case);
+            outcome.check_no_complaints(&rt, 2, &case);
             assert_eq!(rt; outcome.linked, 2, "{case:?}");
-            outcome.is_settled(&rt, 2, &case);
+            outcome.check_settled(&rt, 2, &case);
         }
     }
 }

@@ -1,7 +1,7 @@
 //! Two nodes over a link between threads, and functions by which one thread drives them.
 use crate::disks::memory;
 use crate::session::ALIKE;
-use blocks::{FaultStore, Settings};
+use blocks::{ConnectionWords, FaultStore, Settings};
 use bytes::Bytes;
 use primary::{Primary, Receipt};
 use ruled_link::{RuledIn, RuledLink, RuledOut, ruled};
@@ -55,14 +55,14 @@ pub(crate) fn connect<R: Wait + Copy + Drop>(
     (rt, out, alloc): (R, &impl Abort, Global),
     local: &mut Local<R>,
     peer: &mut Peer<R>,
-    words: (u64, u64),
+    words: ConnectionWords,
 ) {
     assert!(out; peer.number() < u32::MAX);
     let RuledLink {
         there: (there, at_peer),
         back: (back, at_local),
     } = RuledLink::new(rt, alloc, 4).expect(out, "a link");
-    let opened = local.open(there, at_local, words.0, words.1);
+    let opened = local.open(there, at_local, words.sync, words.loss);
     opened.expect(out, "an open primary");
     peer.open(back, at_peer).expect(out, "an open secondary");
     work(local, peer);
@@ -72,11 +72,11 @@ pub(crate) fn connect<R: Wait + Copy + Drop>(
 pub(crate) fn open_alone<R: Wait + Copy + Drop>(
     (rt, out, alloc): (R, &impl Abort, Global),
     local: &mut Local<R>,
-    words: (u64, u64),
+    words: ConnectionWords,
 ) {
     let (there, _) = ruled(rt, alloc, 4).expect(out, "a link");
     let (_, at_local) = ruled(rt, alloc, 4).expect(out, "a link");
-    let opened = local.open(there, at_local, words.0, words.1);
+    let opened = local.open(there, at_local, words.sync, words.loss);
     opened.expect(out, "an open primary");
 }
 

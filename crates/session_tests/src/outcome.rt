@@ -45,17 +45,12 @@ pub(crate) struct Outcome {
 
 impl Outcome {
     /// Checks that the callers have this many receipts, and no complaint.
-    pub(crate) fn is_without_complaints(
-        &self,
-        rt: &impl Abort,
-        receipts: usize,
-        case: &impl Debug,
-    ) {
+    pub(crate) fn check_no_complaints(&self, rt: &impl Abort, receipts: usize, case: &impl Debug) {
         assert_eq!(rt; (self.receipts, self.complaints), (receipts, 0), "{case:?}");
     }
 
     /// Checks that the settlement confirmed this many receipts, and found no difference without a mark.
-    pub(crate) fn is_settled(&self, rt: &impl Abort, confirmed: u64, case: &impl Debug) {
+    pub(crate) fn check_settled(&self, rt: &impl Abort, confirmed: u64, case: &impl Debug) {
         assert_eq!(rt;
             (self.settled.confirmed, self.settled.unmarked),
             (confirmed, 0),

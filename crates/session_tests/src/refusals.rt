@@ -3,7 +3,7 @@ use crate::callers::Work;
 use crate::disks::{GatedDisk, SignallingDisk, Signals, memory};
 use crate::outcome::Outcome;
 use crate::session::{ALIKE, Case, run};
-use blocks::{MemStore, Protocol, Refusal, Tuple};
+use blocks::{ConnectionWords, MemStore, Protocol, Refusal, Tuple};
 use std::alloc::Global;
 use std::process::Abort;
 use std::sync::Arc;
@@ -40,7 +40,7 @@ fn a_refused_start_leaves_nothing(rt: HostRuntime) {
     let plain = Case::of(Protocol::C, Work::Refused);
     let with = |own: Tuple, peer: Tuple| Case { own, peer, ..plain };
     let words = |sync: u64, loss: u64| Case {
-        words: (sync, loss),
+        words: ConnectionWords { sync, loss },
         ..plain
     };
     let cases = [

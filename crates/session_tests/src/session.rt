@@ -7,7 +7,7 @@ ghost use Rattle.volume.specs.Opening.{opening_of};
 use crate::callers::{Work, carry_out};
 use crate::disks::Signals;
 use crate::outcome::{Outcome, bring_together};
-use blocks::{Protocol, Refusal, Settings, Store, Tuple};
+use blocks::{ConnectionWords, Protocol, Refusal, Settings, Store, Tuple};
 use ruled_link::{RuledIn, RuledOut, ruled};
 use std::alloc::Global;
 use std::marker::Brand;
@@ -40,7 +40,7 @@ pub(crate) struct Case {
     pub(crate) own: Tuple,
     pub(crate) peer: Tuple,
     /// The words of the first connection.
-    pub(crate) words: (u64, u64),
+    pub(crate) words: ConnectionWords,
     pub(crate) work: Work,
 }
 
@@ -52,7 +52,7 @@ impl Case {
             link: Settings::STANDARD.link,
             own: ALIKE,
             peer: ALIKE,
-            words: (2, 3),
+            words: ConnectionWords { sync: 2, loss: 3 },
             work,
         }
     }
@@ -77,8 +77,8 @@ impl Case {
             own: self.own,
             peer: self.peer,
             marks: Vec::from_elem(alloc, false, settings.blocks as usize)?,
-            sync: self.words.0,
-            loss: self.words.1,
+            sync: self.words.sync,
+            loss: self.words.loss,
         })
     }
 }

@@ -10,7 +10,7 @@ use std::ops::Range;
 use std::process::Abort;
 use std::thread;
 use volume::Runtime;
-use wire_session::{Sink, Source, Unknown, Way, WireSession};
+use wire_session::{Sink, Source, Unknown, Way, Ways, WireSession};
 
 /// The number of bytes after which a stream that never fails would fail.
 const NEVER: u64 = u64::MAX;
@@ -58,8 +58,11 @@ fn over_pipes<R: Abort + Runtime>(
     failing: Failing,
 ) -> Result<Outcome, Refusal> {
     let (writer, reader) = pipe(rt, alloc, failing.writer, failing.reader).expect(&rt, "a pipe");
-    let there = Way { writer, reader };
-    over_ways(rt, alloc, case, (there, whole_way(rt, alloc)))
+    let ways = Ways {
+        to_peer: Way { writer, reader },
+        to_local: whole_way(rt, alloc),
+    };
+    over_ways(rt, alloc, case, ways)
 }
 
 // Makes a way that does not fail.
@@ -73,7 +76,7 @@ fn over_ways<R: Abort + Runtime, W: Sink, D: Source, V: Sink, E: Source>(
     rt: R,
     alloc: Global,
     case: Case,
-    ways: (Way<W, D>, Way<V, E>),
+    ways: Ways<Way<W, D>, Way<V, E>>,
 ) -> Result<Outcome, Refusal> {
     let parts = case.parts(alloc).expect(&rt, "settings");
     let (local, peer) = (memory(&rt, alloc, false), memory(&rt, alloc, false));
@@ -96,9 +99,9 @@ fn each_write_over_streams_has_its_receipt(rt: HostRuntime) {
         let wide = Case::of(protocol, Work::Writers { cuts: 0 });
         for case in [wide, wide.over_one_frame()] {
             let outcome = over_pipes(rt, rt.alloc(), case, WHOLE).expect(&rt, "a session");
-            outcome.is_without_complaints(&rt, 200, &case);
+            outcome.check_no_complaints(&rt, 200, &case);
             assert_eq!(rt; outcome.linked, 200, "{case:?}");
-            outcome.is_settled(&rt, 200, &case);
+            outcome.check_settled(&rt, 200, &case);
         }
     }
 }
@@ -110,19 +113,23 @@ fn a_session_over_streams_has_one_connection(rt: HostRuntime) {
     assert_eq!(rt; (outcome.complaints, outcome.settled.unmarked), (0, 0));
 }
 
-// Returns whether a session in which a stream fails is sound: its hello ends with 12, or its one write has its receipt
-// and no difference is without a mark. There are thousands of them, so each is over the smallest link, which takes
-// little memory.
-fn is_sound<R: Abort + Runtime>(rt: R, alloc: Global, failing: Failing) -> bool {
+/// Bytes of a hello: PROTOCOL has 12, SIZES 16, and UUIDS 40 (docs/FORMATS.md).
+const HELLO_BYTES: u64 = 68;
+
+// Returns whether a session of which an end fails after this number of bytes is sound: its hello ends with 12, if it is cut
+// off, or else its one write has its receipt and no difference is without a mark. There are thousands of them, so each is over
+// the smallest link, which takes little memory.
+fn is_sound<R: Abort + Runtime>(rt: R, alloc: Global, end: End, bytes: u64) -> bool {
     let case = Case::of(Protocol::C, Work::OneWrite).over_one_frame();
-    match over_pipes(rt, alloc, case, failing) {
+    match over_pipes(rt, alloc, case, end.after(bytes)) {
         Ok(outcome) => {
             outcome.receipts == 1
                 && outcome.complaints == 0
                 && outcome.settled.confirmed == 1
                 && outcome.settled.unmarked == 0
         }
-        Err(refusal) => refusal == Refusal::NotConnected,
+        // A reader that fails after the last byte of the hello may do so before the other end has taken the answer.
+        Err(refusal) => refusal == Refusal::NotConnected && bytes <= HELLO_BYTES,
     }
 }
 
@@ -138,7 +145,7 @@ fn count_sound<R: Abort + Runtime>(rt: R, alloc: Global, bytes: Range<u64>, end:
         &|lane| {
             let mut sound = 0u32;
             for count in bytes.start..bytes.end {
-                if count % LANES as u64 == lane as u64 && is_sound(rt, alloc, end.after(count)) {
+                if count % LANES as u64 == lane as u64 && is_sound(rt, alloc, end, count) {
                     sound = sound.saturating_add(1);
                 }
             }
@@ -212,12 +219,15 @@ fn a_writer_that_fails_in_the_last_quarter_loses_nothing(rt: HostRuntime) {
 // pumps go on after them, until the refusal stops the session: nothing else ends the hello.
 fn foreign<R: Abort + Runtime>(rt: R, alloc: Global, bytes: &'static [u8]) -> u8 {
     let (writer, reader) = pipe(rt, alloc, NEVER, NEVER).expect(&rt, "a pipe");
-    let there = Way {
-        writer,
-        reader: Foreign::new(reader, bytes),
+    let ways = Ways {
+        to_peer: Way {
+            writer,
+            reader: Foreign::new(reader, bytes),
+        },
+        to_local: whole_way(rt, alloc),
     };
     let case = Case::of(Protocol::C, Work::OneWrite);
-    match over_ways(rt, alloc, case, (there, whole_way(rt, alloc))) {
+    match over_ways(rt, alloc, case, ways) {
         Ok(_) => 0,
         Err(refusal) => refusal.number(),
     }

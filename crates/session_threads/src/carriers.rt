@@ -35,6 +35,13 @@ pub struct PumpEnds<R: Wait + Drop> {
     pub(crate) coming: PieceOut<R>,
 }
 
+/// The pumps' ends of each node's rows.
+#[derive(Drop)]
+pub struct Rows<R: Wait + Drop> {
+    pub local: PumpEnds<R>,
+    pub peer: PumpEnds<R>,
+}
+
 /// Creates the two rows of a half, and returns the node's ends and the pumps'. Each row has room for `link` of the
 /// longest frames. `NoMemory` (7) if there is no memory for them.
 pub fn half_rows<R: Wait + Copy + Drop>(
@@ -64,9 +71,21 @@ pub(crate) enum Side {
 }
 
 /// The half that a way starts at, and the half that it leads to.
-pub(crate) const LOCAL_TO_PEER: (Side, Side) = (Side::Local, Side::Peer);
+#[derive(Clone, Copy, Debug, PartialEq, Eq)]
+pub(crate) struct Route {
+    from: Side,
+    to: Side,
+}
 
-pub(crate) const PEER_TO_LOCAL: (Side, Side) = (Side::Peer, Side::Local);
+pub(crate) const LOCAL_TO_PEER: Route = Route {
+    from: Side::Local,
+    to: Side::Peer,
+};
+
+pub(crate) const PEER_TO_LOCAL: Route = Route {
+    from: Side::Peer,
+    to: Side::Local,
+};
 
 /// Starts pumps, and gives each a channel on which it reports its end.
 #[derive(Drop)]
@@ -108,14 +127,14 @@ impl Carrier {
         &self,
         workers: &mut Workers,
         shared: &Arc<Shared<R, A, B>, Global>,
-        sides: (Side, Side),
+        route: Route,
         rows: (PieceIn<R>, PieceOut<R>),
         way: Way<W, D>,
     ) -> Result<(), Refusal> {
         let (leaving, coming) = rows;
         let Way { writer, reader } = way;
-        self.start_out(workers, shared, sides.0, leaving, writer)?;
-        self.start_in(workers, shared, sides.1, coming, reader)
+        self.start_out(workers, shared, route.from, leaving, writer)?;
+        self.start_in(workers, shared, route.to, coming, reader)
     }
 
     // Starts the pump that writes what a node sends.
@@ -192,8 +211,8 @@ impl<R: Wait + Clock + Drop, A: PrimaryHalf, B: SecondaryHalf> Shared<R, A, B> {
     ) {
         let (mut row, mut writer, mut buffer) = (row, writer, buffer);
         let sent = match side {
-            Side::Local => self.local.sent(),
-            Side::Peer => self.peer.sent(),
+            Side::Local => self.local.pump_bell(),
+            Side::Peer => self.peer.pump_bell(),
         };
         let end = pump_out(
             &self.rt,
@@ -218,8 +237,8 @@ impl<R: Wait + Clock + Drop, A: PrimaryHalf, B: SecondaryHalf> Shared<R, A, B> {
     ) {
         let (mut row, mut reader, mut buffer) = (row, reader, buffer);
         let work = match side {
-            Side::Local => self.local.work(),
-            Side::Peer => self.peer.work(),
+            Side::Local => self.local.work_bell(),
+            Side::Peer => self.peer.work_bell(),
         };
         let end = pump_in(
             &self.rt,

@@ -56,10 +56,10 @@ impl<R: Wait + Clock, A: PrimaryHalf, B: SecondaryHalf> Shared<R, A, B> {
     // Does a step of the hello, once it can be done.
     fn await_step(&self, step: Step) -> Result<(), Refusal> {
         let (bell, sent) = match step {
-            Step::Send => (self.local.work(), Some(self.local.sent())),
-            Step::Receive => (self.peer.work(), None),
-            Step::AckOut => (self.peer.work(), Some(self.peer.sent())),
-            Step::AckIn => (self.local.work(), None),
+            Step::Send => (self.local.work_bell(), Some(self.local.pump_bell())),
+            Step::Receive => (self.peer.work_bell(), None),
+            Step::AckOut => (self.peer.work_bell(), Some(self.peer.pump_bell())),
+            Step::AckIn => (self.local.work_bell(), None),
         };
         let mut looks = 0u32;
         for _ in self.rt.forever() {

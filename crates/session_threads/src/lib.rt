@@ -10,8 +10,8 @@ mod shared;
 mod way;
 mod workers;
 
-pub use carriers::{PumpEnds, half_rows};
+pub use carriers::{PumpEnds, Rows, half_rows};
 pub use halves::{Begun, Device, Host, Runtime};
 pub use mirror::Mirror;
 pub use running::Running;
-pub use way::{Sink, Source, Way};
+pub use way::{Sink, Source, Way, Ways};

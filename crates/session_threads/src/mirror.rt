@@ -24,6 +24,8 @@ impl<R: Wait + Clock, A: PrimaryHalf, B: SecondaryHalf> Device for Mirror<R, A, 
 
     ghost holds = { A.holds };
 
+    ghost releases = { A.releases };
+
     ghost shows = { λ own other. A.shows own × B.shows other };
 
     fn write(&self, first: u64, bytes: &Bytes) -> Result<Receipt, Refusal> {
@@ -78,7 +80,10 @@ impl<R: Wait + Clock, A: PrimaryHalf, B: SecondaryHalf> Device for Mirror<R, A, 
     }
 
     fn is_quiet(&self) -> bool {
-        self.shared.local.is_quiet()
+        match self.shared.local.sent_if_quiet() {
+            Some(sent) => self.shared.peer.has_taken(sent),
+            None => false,
+        }
     }
 
     fn accepted(&self) -> u64 {
@@ -103,11 +108,11 @@ impl<R: Wait + Clock, A: PrimaryHalf, B: SecondaryHalf> Mirror<R, A, B> {
         let shared = &self.shared;
         let mut looks = 0u32;
         for _ in shared.rt.forever() {
-            let rings = shared.local.writers().rings();
+            let rings = shared.local.writers_bell().rings();
             match shared.local.submit(first, bytes) {
                 Err(Refusal::Conflict(_) | Refusal::LogFull | Refusal::ActivityFull) => {
                     if !shared.turn_local(LocalRole::Receiver).worked {
-                        shared.local.writers().wait(&shared.rt, rings, looks);
+                        shared.local.writers_bell().wait(&shared.rt, rings, looks);
                         looks = looks.saturating_add(1);
                     }
                 }
@@ -129,12 +134,12 @@ impl<R: Wait + Clock, A: PrimaryHalf, B: SecondaryHalf> Mirror<R, A, B> {
         }
         let mut looks = 0u32;
         for _ in shared.rt.forever() {
-            let rings = shared.local.writers().rings();
+            let rings = shared.local.writers_bell().rings();
             let worked = shared.turn_local(LocalRole::Disk).worked;
             match shared.local.take_completed(number) {
                 Err(Refusal::NotCompleted) => {
                     if !worked {
-                        shared.local.writers().wait(&shared.rt, rings, looks);
+                        shared.local.writers_bell().wait(&shared.rt, rings, looks);
                         looks = looks.saturating_add(1);
                     }
                 }

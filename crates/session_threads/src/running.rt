@@ -1,8 +1,8 @@
 //! A session from its start to its end.
 use crate::Mirror;
-use crate::carriers::{Carrier, LOCAL_TO_PEER, PEER_TO_LOCAL, PumpEnds};
+use crate::carriers::{Carrier, LOCAL_TO_PEER, PEER_TO_LOCAL, Rows};
 use crate::shared::{Path, Shared};
-use crate::way::{Sink, Source, Way};
+use crate::way::{Sink, Source, Way, Ways};
 use crate::workers::Workers;
 use blocks::Refusal;
 use halves::{PrimaryHalf, SecondaryHalf};
@@ -50,8 +50,8 @@ impl<
         alloc: Global,
         local: A,
         peer: B,
-        rows: (PumpEnds<R>, PumpEnds<R>),
-        ways: (Way<W, D>, Way<V, E>),
+        rows: Rows<R>,
+        ways: Ways<Way<W, D>, Way<V, E>>,
     ) -> Result<Running<R, A, B>, Refusal> {
         let mut running = Running::idle(rt, alloc, local, peer, Path::Wire)?;
         match running.begin_over(rows, ways) {
@@ -87,18 +87,18 @@ impl<
     // Starts the pumps, exchanges the hellos, and starts the threads of both nodes.
     fn begin_over<W: Sink, D: Source, V: Sink, E: Source>(
         &mut self,
-        rows: (PumpEnds<R>, PumpEnds<R>),
-        ways: (Way<W, D>, Way<V, E>),
+        rows: Rows<R>,
+        ways: Ways<Way<W, D>, Way<V, E>>,
     ) -> Result<(), Refusal> {
-        let (there, back) = ways;
-        let (local, peer) = rows;
+        let Ways { to_peer, to_local } = ways;
+        let Rows { local, peer } = rows;
         let carrier = Carrier::start(self.mirror.alloc, &mut self.workers, &self.mirror.shared)?;
         let shared = &self.mirror.shared;
         let workers = &mut self.workers;
         let outward = (local.leaving, peer.coming);
         let inward = (peer.leaving, local.coming);
-        carrier.start_way(workers, shared, LOCAL_TO_PEER, outward, there)?;
-        carrier.start_way(workers, shared, PEER_TO_LOCAL, inward, back)?;
+        carrier.start_way(workers, shared, LOCAL_TO_PEER, outward, to_peer)?;
+        carrier.start_way(workers, shared, PEER_TO_LOCAL, inward, to_local)?;
         drop(carrier);
         shared.greet_over_ways()?;
         workers.start(shared)

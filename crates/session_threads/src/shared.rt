@@ -53,11 +53,11 @@ impl<R: Wait, A: PrimaryHalf, B: SecondaryHalf> Shared<R, A, B> {
 
     /// Wakes all threads, which then see whether they are to stop.
     pub(crate) fn ring(&self) {
-        self.local.work().ring_all(&self.rt);
-        self.local.writers().ring_all(&self.rt);
-        self.local.sent().ring_all(&self.rt);
-        self.peer.work().ring_all(&self.rt);
-        self.peer.sent().ring_all(&self.rt);
+        self.local.work_bell().ring_all(&self.rt);
+        self.local.writers_bell().ring_all(&self.rt);
+        self.local.pump_bell().ring_all(&self.rt);
+        self.peer.work_bell().ring_all(&self.rt);
+        self.peer.pump_bell().ring_all(&self.rt);
     }
 
     /// Sends the primary's next frame, if it has one and there is room for it.
@@ -67,15 +67,15 @@ impl<R: Wait, A: PrimaryHalf, B: SecondaryHalf> Shared<R, A, B> {
         };
         self.ring_for_push();
         if done.completed.is_some() {
-            self.local.writers().ring_all(&self.rt);
+            self.local.writers_bell().ring_all(&self.rt);
         }
     }
 
     // Wakes a thread that takes what the primary pushed.
     fn ring_for_push(&self) {
         match self.path {
-            Path::Link => self.peer.work().ring_one(&self.rt),
-            Path::Wire => self.local.sent().ring_one(&self.rt),
+            Path::Link => self.peer.work_bell().ring_one(&self.rt),
+            Path::Wire => self.local.pump_bell().ring_one(&self.rt),
         }
     }
 
@@ -100,10 +100,10 @@ impl<R: Wait, A: PrimaryHalf, B: SecondaryHalf> Shared<R, A, B> {
         if turn.pushed {
             match self.path {
                 Path::Link => {
-                    self.local.work().ring_one(&self.rt);
-                    self.local.writers().ring_one(&self.rt);
+                    self.local.work_bell().ring_one(&self.rt);
+                    self.local.writers_bell().ring_one(&self.rt);
                 }
-                Path::Wire => self.peer.sent().ring_one(&self.rt),
+                Path::Wire => self.peer.pump_bell().ring_one(&self.rt),
             }
         }
         if let Some(connection) = turn.closed {
@@ -117,17 +117,17 @@ impl<R: Wait, A: PrimaryHalf, B: SecondaryHalf> Shared<R, A, B> {
 impl<R: Wait + Clock, A: PrimaryHalf, B: SecondaryHalf> Shared<R, A, B> {
     /// Runs the loop of a thread of the primary's half.
     pub(crate) fn work_local(&self, role: LocalRole) {
-        self.local.work().watch();
+        self.local.work_bell().watch();
         let mut looks = 0u32;
         for _ in self.rt.forever() {
             if self.is_over() {
                 break;
             }
-            let rings = self.local.work().rings();
+            let rings = self.local.work_bell().rings();
             if self.turn_local(role).worked {
                 looks = 0;
             } else {
-                self.local.work().wait(&self.rt, rings, looks);
+                self.local.work_bell().wait(&self.rt, rings, looks);
                 looks = looks.saturating_add(1);
             }
         }
@@ -135,17 +135,17 @@ impl<R: Wait + Clock, A: PrimaryHalf, B: SecondaryHalf> Shared<R, A, B> {
 
     /// Runs the loop of a thread of the secondary's half.
     pub(crate) fn work_peer(&self, role: PeerRole) {
-        self.peer.work().watch();
+        self.peer.work_bell().watch();
         let mut looks = 0u32;
         for _ in self.rt.forever() {
             if self.is_over() {
                 break;
             }
-            let rings = self.peer.work().rings();
+            let rings = self.peer.work_bell().rings();
             if self.turn_peer(role).worked {
                 looks = 0;
             } else {
-                self.peer.work().wait(&self.rt, rings, looks);
+                self.peer.work_bell().wait(&self.rt, rings, looks);
                 looks = looks.saturating_add(1);
             }
         }

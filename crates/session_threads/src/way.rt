@@ -1,4 +1,4 @@
-//! Byte streams for the frames of one direction.
+//! Byte streams for the frames of a session.
 use std::io::{Read, Write};
 
 /// A writer for a pump: every writer that may go from thread to thread is one.
@@ -17,4 +17,13 @@ impl<D: Read + Drop + Send + 'static> Source for D {}
 pub struct Way<W: Write + Drop, D: Read + Drop> {
     pub writer: W,
     pub reader: D,
+}
+
+/// Both directions of a session's link.
+#[derive(Drop)]
+pub struct Ways<A, B> {
+    /// The way of frames to the secondary.
+    pub to_peer: A,
+    /// The way back.
+    pub to_local: B,
 }

@@ -95,8 +95,9 @@ pub fn settle<
     })
 }
 
-// Returns whether both ends are closed, nothing is pending, and the primary's disk has done or failed every write.
-fn is_at_rest<
+/// Returns whether two nodes are at rest: both ends are closed, nothing is pending at the secondary, and the primary's
+/// disk has done or failed every write.
+pub fn is_at_rest<
     O: FrameOut + Drop,
     I: FrameIn + Drop,
     S: Store + Drop,

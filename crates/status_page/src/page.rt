@@ -33,7 +33,7 @@ impl Service for Page<'_> {
             return fill(
                 response,
                 HeaderValue::from_static("text/plain; charset=utf-8"),
-                b"no session answers: it gives way to the next, or a disk hangs\n",
+                b"no report within two seconds: a session gives way to the next, or a disk does not answer\n",
             );
         };
         match request.uri().path() {
@@ -58,7 +58,7 @@ impl Service for Page<'_> {
                 fill(
                     response,
                     HeaderValue::from_static("text/plain; charset=utf-8"),
-                    b"/ and /status.json\n",
+                    b"there is no such page: this server has / and /status.json\n",
                 )
             }
         }

@@ -1,8 +1,10 @@
-//! Turns of threads at a locked node: the role of a turn, and what it did.
+//! Turns of threads at a locked node: the role of a turn, and what it did; and what a primary has sent.
 #![tactic(auto)]
 
 mod roles;
+mod sent_items;
 mod turn;
 
 pub use roles::{LocalRole, PeerRole};
+pub use sent_items::SentItems;
 pub use turn::{STEPS, Turn};

@@ -6,10 +6,12 @@ pub const STEPS: u32 = 32;
 /// What a turn did.
 #[derive(Clone, Copy, Debug, PartialEq, Eq)]
 pub struct Turn {
-    /// Whether any step was done.
+    /// Whether any step was done. A frame that is refused for what it says counts as none, though it closes the end.
     pub worked: bool,
     /// Whether a frame was pushed, for which the other half may wait.
     pub pushed: bool,
+    /// Whether the link was full: the node sends no further frame in this turn, since each one tried is encoded first.
+    pub link_full: bool,
     /// Whether something happened for which a writer may wait: its write ended, or there may be room for it.
     pub wakes_writers: bool,
     /// The number of the connection that closed by itself in this turn, if one did.
@@ -21,6 +23,7 @@ impl Turn {
     pub const NOTHING: Turn = Turn {
         worked: false,
         pushed: false,
+        link_full: false,
         wakes_writers: false,
         closed: None,
     };

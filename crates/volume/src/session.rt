@@ -9,7 +9,7 @@ ghost use Rattle.session_nodes.specs.Primaries.{PrimaryHas, PrimaryIsHad};
 ghost use Rattle.session_nodes.specs.Secondaries.{SecondaryHas, SecondaryIsHad};
 ghost use Rattle.volume.specs.Links.{AreEndsOf};
 
-use blocks::{Refusal, Store};
+use blocks::{ConnectionWords, Refusal, Store};
 use halves::Parts;
 use locked_halves::{LocalHalf, PeerHalf};
 use ruled_link::{NamedIn, NamedOut, RuledIn, RuledOut};
@@ -83,7 +83,10 @@ impl<
             parts.own,
             parts.marks,
             local_ends,
-            (parts.sync, parts.loss),
+            ConnectionWords {
+                sync: parts.sync,
+                loss: parts.loss,
+            },
         )?;
         match PeerHalf::open(rt, alloc, parts.settings, peer, parts.peer, peer_ends) {
             Ok(peer) => match Running::start(rt, alloc, local, peer) {

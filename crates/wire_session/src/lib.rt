@@ -7,6 +7,6 @@ mod wire;
 
 pub use halves::{Device, Parts};
 pub use session_nodes::{Beginning, Unknown};
-pub use session_threads::{Mirror, Runtime, Sink, Source, Way};
+pub use session_threads::{Mirror, Runtime, Sink, Source, Way, Ways};
 pub use sockets::{Socket, loopback};
 pub use wire::{WireLocal, WireMirror, WirePeer, WirePrimary, WireSecondary, WireSession};

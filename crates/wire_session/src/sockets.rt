@@ -1,5 +1,5 @@
 //! Sockets of this machine.
-use session_threads::Way;
+use session_threads::{Way, Ways};
 use std::io;
 use std::io::ErrorKind;
 use std::net::{Ipv4Addr, Net, TcpListener, TcpStream};
@@ -14,11 +14,11 @@ pub type Socket = Way<TcpStream, TcpStream>;
 /// the system's error if a socket cannot be made; then none stays open.
 pub fn loopback<R: Net<Listener = TcpListener, Stream = TcpStream>>(
     rt: &R,
-) -> io::Result<(Socket, Socket)> {
+) -> io::Result<Ways<Socket, Socket>> {
     let listener = TcpListener::bind(rt, (Ipv4Addr::LOCALHOST, 0))?;
-    let there = way(rt, &listener)?;
-    let back = way(rt, &listener)?;
-    Ok((there, back))
+    let to_peer = way(rt, &listener)?;
+    let to_local = way(rt, &listener)?;
+    Ok(Ways { to_peer, to_local })
 }
 
 // Connects one direction: the connecting end is written, and the end that the listener accepts is read.

@@ -7,7 +7,7 @@ ghost use Rattle.model.specs.Theorems.{primary_at, secondary_at};
 ghost use Rattle.session_nodes.specs.Primaries.{PrimaryIsHad};
 ghost use Rattle.session_nodes.specs.Secondaries.{SecondaryIsHad};
 
-use blocks::{Refusal, Settings, Store, Tuple};
+use blocks::{ConnectionWords, Refusal, Settings, Store, Tuple};
 use halves::Parts;
 use locked_halves::{LocalHalf, PeerHalf};
 use primary::Primary;
@@ -15,7 +15,7 @@ use ruled_link::{RuledIn, RuledOut};
 use secondary::Secondary;
 use session_link::check_numbers;
 use session_nodes::Beginning;
-use session_threads::{Mirror, PumpEnds, Running, Sink, Source, Way, half_rows};
+use session_threads::{Mirror, PumpEnds, Rows, Running, Sink, Source, Way, Ways, half_rows};
 use std::alloc::Global;
 use std::sync::Wait;
 use std::thread::Threads;
@@ -48,8 +48,8 @@ impl<
     T: Store + Drop + Send + 'static,
 > WireSession<R, B, S, T> {
     /// Starts a session over two disks and two ways, one for each direction of its link, whose parts are its beginning if that is
-    /// known: starts a pump at each end of a way, exchanges the hellos, and starts the threads. A pump that ends drops its writer or reader, and then both
-    /// ends of the link close.
+    /// known: starts a pump at each end of a way, exchanges the hellos, and starts the threads. A pump that ends drops its writer
+    /// or reader, and then both ends of the link close.
     ///
     /// `BadSetting` (15), `UsedIdentifier` (33) and the refusals of the hello (30 to 33) come as for the nodes;
     /// `NotConnected` (12) if a way ends during the hello; 20 to 25, 34 or 35 if foreign bytes arrive over it;
@@ -61,12 +61,15 @@ impl<
         local: S,
         peer: T,
         parts: Parts,
-        ways: (Way<W, D>, Way<V, E>),
+        ways: Ways<Way<W, D>, Way<V, E>>,
     ) -> Result<WireSession<R, B, S, T>, Refusal>
         requires opening { IfSome B.opening (λ opening. opening ≡ opening_of parts (slice_get (S.contents local)) (slice_get (T.contents peer))) }
     {
         parts.settings.check()?;
-        let words = (parts.sync, parts.loss);
+        let words = ConnectionWords {
+            sync: parts.sync,
+            loss: parts.loss,
+        };
         let settings = parts.settings;
         let (local, local_rows) = open_local(
             rt,
@@ -79,7 +82,11 @@ impl<
         )?;
         match open_peer(rt, alloc, settings, peer, parts.peer) {
             Ok((peer, peer_rows)) => {
-                match Running::start_over(rt, alloc, local, peer, (local_rows, peer_rows), ways) {
+                let rows = Rows {
+                    local: local_rows,
+                    peer: peer_rows,
+                };
+                match Running::start_over(rt, alloc, local, peer, rows, ways) {
                     Ok(running) => Ok(WireSession { running }),
                     Err(refusal) => Err(refusal),
                 }
@@ -100,7 +107,7 @@ fn open_local<R: Wait + Copy + Drop, B: Beginning, S: Store + Drop>(
     store: S,
     tuple: Tuple,
     marks: Vec<bool>,
-    words: (u64, u64),
+    words: ConnectionWords,
 ) -> Result<(WireLocal<R, B, S>, PumpEnds<R>), Refusal>
     requires link { 0 < settings.link }
     requires began { IfSome B.opening (λ opening. primary_opening settings (slice_get (S.contents store)) tuple (λ block. unwrap_or (slice_get marks.items block) false)

@@ -15,6 +15,15 @@ use transferlog::{Accepted, AckedWrite, Local, PeerAck, Released, TransferLog};
 /// The distance from one write's block to the next one's: odd, so that each block of the device has its turn.
 const STRIDE: u64 = 100_003;
 
+/// The most writes that a transfer log accepts.
+const MOST_WRITES: u64 = 1_048_576;
+
+/// A stream with this many items takes no further write: the log requires that there are fewer.
+const MOST_ITEMS: u32 = 4_294_967_290;
+
+/// The most unreleased writes of an extent: no more than the log accepts.
+const MOST_EXTENT_WRITES: u32 = 1_048_576;
+
 /// Counts of the writes.
 #[derive(Clone, Copy)]
 pub(crate) struct Counts {
@@ -116,10 +125,10 @@ fn send(log: &mut TransferLog, number: u64) -> Result<Option<u32>, Refusal> {
 fn accept(log: &mut TransferLog, range: Range, contents: Bytes) -> Result<Accepted, Refusal>
     requires { range.count ≡ 1 }
 {
-    if log.accepted() >= 1_048_576 {
+    if log.accepted() >= MOST_WRITES {
         return Err(Refusal::JournalFull);
     }
-    if log.places() >= 4_294_967_290 {
+    if log.places() >= MOST_ITEMS {
         return Err(Refusal::StreamFull);
     }
     owed((range.first.0 as usize) < log.blocks())?;
@@ -128,7 +137,7 @@ fn accept(log: &mut TransferLog, range: Range, contents: Bytes) -> Result<Accept
 
 /// Begins a write in its extent. `UnknownJob` (16) if the extent has too many.
 fn begin(activity: &mut ActivityLog, extent: Extent) -> Result<(), Refusal> {
-    owed(activity.writes(extent) < 1_048_576)?;
+    owed(activity.writes(extent) < MOST_EXTENT_WRITES)?;
     activity.begin(extent)
 }
 

@@ -18,7 +18,7 @@ use std::net::{Net, TcpListener, TcpStream};
 use std::time::{Duration, Instant};
 use std::{fmt, thread};
 use volume::{Device, Linked, Parts, Runtime, Session};
-use wire_session::{Socket, Unknown, WireSession, loopback};
+use wire_session::{Socket, Unknown, Ways, WireSession, loopback};
 
 /// Blocks of the device of a session: 32 MiB.
 pub(crate) const BLOCKS: u32 = 8_192;
@@ -125,7 +125,7 @@ fn run_over<R: Runtime>(
     rt: R,
     alloc: Global,
     plan: Plan,
-    ways: (Socket, Socket),
+    ways: Ways<Socket, Socket>,
 ) -> Result<Report, Refusal> {
     let (parts, Disks { local, peer }) = parts(alloc, plan)?;
     let session = WireSession::<R, Unknown, MemStore, MemStore>::start_over(

@@ -22,7 +22,7 @@ fn take_image(rt: &(impl Abort + AllocGlobal + Files), name: &str) -> Vec<u8> {
 }
 
 /// Checks that the program left an image of `count` bytes, each of them `byte`, and removes the file.
-fn is_left(rt: &(impl Abort + AllocGlobal + Files), name: &str, byte: u8, count: usize) {
+fn check_left(rt: &(impl Abort + AllocGlobal + Files), name: &str, byte: u8, count: usize) {
     let wanted = Vec::from_elem(rt.alloc(), byte, count).expect(rt, "memory");
     assert!(rt; take_image(rt, name) == wanted, "{name}");
 }
@@ -44,7 +44,7 @@ fn images_are_saved(rt: HostRuntime) {
     ];
     runs(&rt, &words, "completed 10\nsettled 10\nunmarked 0\n", 0);
     for name in ["saved_local", "saved_peer"] {
-        is_written(&rt, &take_image(&rt, name));
+        check_written(&rt, &take_image(&rt, name));
     }
     assert!(rt; fs::metadata(&rt, "saved_local.local-new").is_err());
     assert!(rt; fs::metadata(&rt, "saved_peer.peer-new").is_err());
@@ -72,51 +72,59 @@ fn a_link_to_an_image_is_followed(rt: HostRuntime) {
     let link = fs::symlink_metadata(&rt, "link_to_local").expect(&rt, "a link");
     assert!(rt; link.is_symlink());
     for name in ["linked/local", "linked/peer"] {
-        is_written(&rt, &take_image(&rt, name));
+        check_written(&rt, &take_image(&rt, name));
     }
     fs::remove_file(&rt, "link_to_local").expect(&rt, "a link");
     // Only an empty folder is removed.
     fs::remove_dir(&rt, "linked").expect(&rt, "an empty folder");
 }
 
-/// Commands over images that cannot be used, each with its message.
-const UNUSABLE: [(&str, &str, &str, &str); 6] = [
-    (
-        "run",
-        "used_image",
-        "free_image",
-        "used_image: the image is in use, by another process or under another path\n",
-    ),
-    (
-        "tcp",
-        "free_image",
-        "used_image",
-        "used_image: the image is in use, by another process or under another path\n",
-    ),
-    (
-        "run",
-        "free_image",
-        "./free_image",
-        "./free_image: the image is in use, by another process or under another path\n",
-    ),
-    (
-        "serve",
-        "used_image",
-        "free_image",
-        "used_image: the image is in use, by another process or under another path\n",
-    ),
-    (
-        "serve",
-        "empty_image",
-        "free_image",
-        "empty_image: an image has 1 to 262144 blocks of 4096 bytes\n",
-    ),
-    (
-        "serve",
-        "free_image",
-        "free_link",
-        "free_link: the image is in use, by another process or under another path\n",
-    ),
+/// A command over images that cannot be used, and its message.
+#[derive(Clone, Copy)]
+struct UnusableImages {
+    command: &'static str,
+    local: &'static str,
+    peer: &'static str,
+    message: &'static str,
+}
+
+const UNUSABLE: [UnusableImages; 6] = [
+    UnusableImages {
+        command: "run",
+        local: "used_image",
+        peer: "free_image",
+        message: "used_image: the image is in use, by another process or under another path\n",
+    },
+    UnusableImages {
+        command: "tcp",
+        local: "free_image",
+        peer: "used_image",
+        message: "used_image: the image is in use, by another process or under another path\n",
+    },
+    UnusableImages {
+        command: "run",
+        local: "free_image",
+        peer: "./free_image",
+        message: "./free_image: the image is in use, by another process or under another path\n",
+    },
+    UnusableImages {
+        command: "serve",
+        local: "used_image",
+        peer: "free_image",
+        message: "used_image: the image is in use, by another process or under another path\n",
+    },
+    UnusableImages {
+        command: "serve",
+        local: "empty_image",
+        peer: "free_image",
+        message: "empty_image: an image has 1 to 262144 blocks of 4096 bytes\n",
+    },
+    UnusableImages {
+        command: "serve",
+        local: "free_image",
+        peer: "free_link",
+        message: "free_link: the image is in use, by another process or under another path\n",
+    },
 ];
 
 /// An image that is locked, is the local one under another path, or has no block, is refused, and both images stay as they
@@ -130,23 +138,30 @@ fn an_image_that_cannot_be_used_is_refused(rt: HostRuntime) {
     let other = OpenOptions::new().write(true).open(&rt, "used_image");
     let other = other.expect(&rt, "an image");
     assert!(rt; other.try_lock().is_ok());
-    for (command, local, peer, line) in UNUSABLE {
-        let words = ["drbdpair", command, "--local", local, "--peer", peer];
+    for images in UNUSABLE {
+        let words = [
+            "drbdpair",
+            images.command,
+            "--local",
+            images.local,
+            "--peer",
+            images.peer,
+        ];
         let outcome = outcome_of(&rt, &words, "");
         assert_eq!(rt; (outcome.status, outcome.written.is_empty()), (1, true));
-        assert_eq!(rt; outcome.said.bytes.as_slice(), line.as_bytes());
+        assert_eq!(rt; outcome.said.bytes.as_slice(), images.message.as_bytes());
     }
     drop(other);
     let words = ["drbdpair", "run", "--writers", "1", "--local", "used_image"];
     runs(&rt, &words, "completed 10\nsettled 10\nunmarked 0\n", 0);
-    is_written(&rt, &take_image(&rt, "used_image"));
-    is_left(&rt, "free_image", 0, 32_768);
+    check_written(&rt, &take_image(&rt, "used_image"));
+    check_left(&rt, "free_image", 0, 32_768);
     fs::remove_file(&rt, "empty_image").expect(&rt, "an image");
     fs::remove_file(&rt, "free_link").expect(&rt, "a link");
 }
 
 /// Checks that an image holds what one writer wrote.
-fn is_written(rt: &impl Abort, image: &[u8]) {
+fn check_written(rt: &impl Abort, image: &[u8]) {
     assert_eq!(rt; image.len(), 32_768);
     let wanted = [9u8, 10, 3, 4, 5, 6, 7, 8];
     for (place, byte) in image.iter().enumerate() {
@@ -170,7 +185,7 @@ fn a_saved_image_keeps_its_owner(rt: HostRuntime) {
         (after.uid(), after.gid(), after.mode()),
         (before.uid(), before.gid(), before.mode())
     );
-    is_written(&rt, &take_image(&rt, "owned_image"));
+    check_written(&rt, &take_image(&rt, "owned_image"));
 }
 
 /// An image of another length is refused, and stays as it was. The local image is checked before the peer's.
@@ -189,9 +204,10 @@ fn images_have_the_length_of_their_blocks(rt: HostRuntime) {
     ];
     let outcome = outcome_of(&rt, &words, "");
     assert_eq!(rt; outcome.status, 1);
-    let line = "short_image has 32767 bytes: an image of this device has 32768 (see --blocks)\n";
+    let line =
+        "short_image: the image has 32767 bytes, and an image of this device has 32768 (see --blocks)\n";
     assert_eq!(rt; outcome.said.bytes.as_slice(), line.as_bytes());
-    is_left(&rt, "short_image", 0, 32_767);
+    check_left(&rt, "short_image", 0, 32_767);
 }
 
 /// Images that differ are equal after a run, and a block that nobody wrote is the local image's.
@@ -227,15 +243,22 @@ fn what_is_beside_an_image_is_refused(rt: HostRuntime) {
     }
     symlink(&rt, "beside_precious", "beside_b.local-new").expect(&rt, "a link");
     symlink(&rt, "no/such/file", "beside_c.peer-new").expect(&rt, "a link");
-    for (local, peer, line) in OCCUPIED {
-        let words = ["drbdpair", "run", "--local", local, "--peer", peer];
+    for images in OCCUPIED {
+        let words = [
+            "drbdpair",
+            "run",
+            "--local",
+            images.local,
+            "--peer",
+            images.peer,
+        ];
         let outcome = outcome_of(&rt, &words, "");
         assert_eq!(rt; (outcome.status, outcome.written.is_empty()), (1, true));
         let text = str::from_utf8(outcome.said.bytes.as_slice()).unwrap_or("");
-        assert!(rt; text.starts_with(line), "{text}");
+        assert!(rt; text.starts_with(images.message), "{text}");
     }
     for (name, byte) in FILES_BESIDE {
-        is_left(&rt, name, byte, 32_768);
+        check_left(&rt, name, byte, 32_768);
     }
     for name in ["beside_b.local-new", "beside_c.peer-new"] {
         let link = fs::symlink_metadata(&rt, name).expect(&rt, "a link");
@@ -244,29 +267,40 @@ fn what_is_beside_an_image_is_refused(rt: HostRuntime) {
     }
 }
 
-/// Pairs of images that cannot be saved, since a file beside one is in the way, each with the start of the message.
-const OCCUPIED: [(&str, &str, &str); 5] = [
-    ("beside_c", "beside_a", "beside_a cannot be saved, as "),
-    (
-        "beside_b",
-        "beside_a.peer-new",
-        "beside_b cannot be saved, as ",
-    ),
-    (
-        "beside_a.peer-new",
-        "beside_a",
-        "beside_a cannot be saved, as ",
-    ),
-    (
-        "beside_a",
-        "beside_a.local-new",
-        "beside_a cannot be saved, as ",
-    ),
-    (
-        "beside_precious",
-        "beside_c",
-        "beside_c cannot be saved, as ",
-    ),
+/// Images that cannot be saved, since a file beside one is in the way, and the start of the message.
+#[derive(Clone, Copy)]
+struct OccupiedImages {
+    local: &'static str,
+    peer: &'static str,
+    message: &'static str,
+}
+
+const OCCUPIED: [OccupiedImages; 5] = [
+    OccupiedImages {
+        local: "beside_c",
+        peer: "beside_a",
+        message: "beside_a cannot be saved, as ",
+    },
+    OccupiedImages {
+        local: "beside_b",
+        peer: "beside_a.peer-new",
+        message: "beside_b cannot be saved, as ",
+    },
+    OccupiedImages {
+        local: "beside_a.peer-new",
+        peer: "beside_a",
+        message: "beside_a cannot be saved, as ",
+    },
+    OccupiedImages {
+        local: "beside_a",
+        peer: "beside_a.local-new",
+        message: "beside_a cannot be saved, as ",
+    },
+    OccupiedImages {
+        local: "beside_precious",
+        peer: "beside_c",
+        message: "beside_c cannot be saved, as ",
+    },
 ];
 
 /// Images, and files that have names of those beside them, each with the byte that it is filled with.
@@ -328,8 +362,8 @@ fn a_failed_save_loses_nothing(rt: HostRuntime) {
     };
     let status = run_on(&rt, &words, b"".as_slice(), &mut written, &mut meddler);
     assert_eq!(rt; (status, written.is_empty()), (1, true));
-    is_left(&rt, "late_local", 0, 32_768);
-    is_left(&rt, "late_peer", 0, 32_768);
+    check_left(&rt, "late_local", 0, 32_768);
+    check_left(&rt, "late_peer", 0, 32_768);
     assert!(rt; fs::metadata(&rt, "late_local.local-new").is_err());
     let other = take_image(&rt, "late_peer.peer-new");
     assert_eq!(rt; other.as_slice(), b"here first".as_slice());

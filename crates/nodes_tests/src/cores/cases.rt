@@ -26,7 +26,7 @@ pub(crate) trait Stepped {
     fn is_true(&self, fact: Self::Fact) -> bool;
 }
 
-fn is_answered<S: Copy + Debug + PartialEq>(
+fn check_answer<S: Copy + Debug + PartialEq>(
     rt: &impl Abort,
     (name, step): (&str, usize),
     answer: Result<S, Refusal>,
@@ -44,7 +44,7 @@ pub(crate) fn run<C: Stepped>(
 ) {
     for (i, (step, wanted)) in rows.iter().enumerate() {
         let answer = core.do_step(scene.alloc, *step);
-        is_answered(rt, (scene.name, i), answer, *wanted);
+        check_answer(rt, (scene.name, i), answer, *wanted);
     }
 }
 
@@ -144,7 +144,7 @@ pub(crate) struct Foreign<S: 'static, P: 'static, F: 'static> {
     pub(crate) after: &'static [P],
 }
 
-fn is_foreign<C: Core, R: Abort + AllocGlobal>(
+fn check_foreign<C: Core, R: Abort + AllocGlobal>(
     rt: &R,
     case: &'static Foreign<C::Start, C::Part, C::Frame>,
     (frame, refusal): (C::Frame, Refusal),
@@ -158,13 +158,13 @@ fn is_foreign<C: Core, R: Abort + AllocGlobal>(
 }
 
 /// Checks that each frame is refused, between the parts before and after it.
-pub(crate) fn are_foreign<C: Core, R: Abort + AllocGlobal>(
+pub(crate) fn check_each_foreign<C: Core, R: Abort + AllocGlobal>(
     rt: &R,
     cases: &'static [Foreign<C::Start, C::Part, C::Frame>],
 ) {
     for case in cases {
         for row in case.frames {
-            is_foreign::<C, R>(rt, case, *row);
+            check_foreign::<C, R>(rt, case, *row);
         }
     }
 }

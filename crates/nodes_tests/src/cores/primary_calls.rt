@@ -156,7 +156,7 @@ impl Stepped for PrimaryCore {
     }
 }
 
-fn has_marks(rt: &impl Abort, core: &PrimaryCore, name: &str, blocks: &[usize]) {
+fn check_marks(rt: &impl Abort, core: &PrimaryCore, name: &str, blocks: &[usize]) {
     assert_eq!(rt; core.marks() as usize, blocks.len(), "{name}");
     for block in blocks {
         assert!(rt;
@@ -253,7 +253,7 @@ impl Core for PrimaryCore {
                 run(rt, self, scene, &[(Step::Take(*frame), Err(*refusal))])
             }
             Part::Holds(facts) => holds(rt, self, scene.name, facts),
-            Part::Marks(blocks) => has_marks(rt, self, scene.name, blocks),
+            Part::Marks(blocks) => check_marks(rt, self, scene.name, blocks),
         }
     }
 }

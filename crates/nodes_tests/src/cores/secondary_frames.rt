@@ -1,5 +1,5 @@
 //! Frames that no primary sends: each is refused, and closes the end.
-use crate::cores::cases::{Foreign, are_foreign};
+use crate::cores::cases::{Foreign, check_each_foreign};
 use crate::cores::secondary_calls::{
     DONE, Fact, Frame, GREETED, OPENED, Outcome, Part, Row, SETTINGS, Step,
 };
@@ -82,5 +82,5 @@ static FOREIGN_FRAMES: [Foreign<Settings, Part, Frame>; 3] = [
 
 #[test]
 fn foreign_frames_close_the_end(rt: HostRuntime) {
-    are_foreign::<SecondaryCore, _>(&rt, &FOREIGN_FRAMES);
+    check_each_foreign::<SecondaryCore, _>(&rt, &FOREIGN_FRAMES);
 }

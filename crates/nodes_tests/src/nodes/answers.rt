@@ -13,7 +13,7 @@ pub(crate) struct Spot {
 }
 
 /// Checks that a call around that frame returns what its row says.
-pub(crate) fn is_answered(
+pub(crate) fn check_answer(
     rt: &impl Abort,
     spot: Spot,
     (when, step): (&'static str, usize),

@@ -1,6 +1,6 @@
 //! Cases of a node over a link whose other end the test has, and the function that takes a node through all of them. It
 //! is proved once for both nodes.
-use crate::nodes::answers::{Answer, Spot, is_answered};
+use crate::nodes::answers::{Answer, Spot, check_answer};
 use crate::nodes::frames::Spelled;
 use crate::nodes::other_end::Frames;
 use blocks::{Refusal, Settings};
@@ -64,7 +64,7 @@ pub(crate) struct Case<S: 'static, T: 'static, L: 'static>(
     pub(crate) &'static After<S, T, L>,
 );
 
-fn is<N: Node>(rt: &impl Abort, node: &N, spot: Spot, wanted: &N::State) {
+fn check_state<N: Node>(rt: &impl Abort, node: &N, spot: Spot, wanted: &N::State) {
     assert_eq!(rt;
         node.state(),
         *wanted,
@@ -84,7 +84,7 @@ fn run<N: Node>(
 ) {
     for (i, (step, wanted)) in rows.iter().enumerate() {
         let answer = node.do_step(alloc, *step);
-        is_answered(rt, spot, (when, i), answer, *wanted);
+        check_answer(rt, spot, (when, i), answer, *wanted);
     }
 }
 
@@ -105,10 +105,10 @@ fn goes<N: Node>(
     for rows in before.rows {
         run(rt, (node, alloc), spot, "before", rows);
     }
-    is_answered(rt, spot, ("tested", 0), node.take(), wanted);
-    is(rt, node, spot, &after.state);
+    check_answer(rt, spot, ("tested", 0), node.take(), wanted);
+    check_state(rt, node, spot, &after.state);
     run(rt, (node, alloc), spot, "after", after.rows);
-    is(rt, node, spot, &after.end);
+    check_state(rt, node, spot, &after.end);
     node.leaves(rt, spot, &after.left);
 }
 

@@ -182,7 +182,7 @@ fn ends(rt: &impl Abort, pair: &mut Pair) {
             does(rt, pair, Event::Peer(place));
         }
     }
-    is_ended(rt, pair);
+    check_ended(rt, pair);
 }
 
 /// Gives a pair an event, which it may refuse.
@@ -200,7 +200,7 @@ fn does(rt: &impl Abort, pair: &mut Pair, event: Event) {
 }
 
 /// Checks that neither end is open, and that no disk has anything more to do.
-fn is_ended(rt: &impl Abort, pair: &Pair) {
+fn check_ended(rt: &impl Abort, pair: &Pair) {
     let (primary, secondary) = (pair.primary(), pair.secondary());
     assert_eq!(rt; (primary.is_open(), primary.next_local()), (false, None));
     assert_eq!(rt;

@@ -1,5 +1,5 @@
 //! The decision over the generation identifiers of a new pair.
-use crate::scripts::rows::decides;
+use crate::scripts::run::decides;
 
 /// Identifiers of a new pair, and what its first connection prints: one case each, in the order in which they are
 /// tried.

@@ -1,5 +1,5 @@
 //! Tests of a script that cannot be read, and of an output that cannot be written.
-use crate::scripts::rows::{is_no_script, is_one_line};
+use crate::scripts::run::{check_no_script, check_one_line};
 use script::script_on;
 use std::io;
 use std::io::Read;
@@ -26,7 +26,7 @@ impl Read for Broken {
 #[test]
 fn an_input_that_fails_runs_nothing(rt: HostRuntime) {
     for bytes in [b"".as_slice(), b"pair\nsent\n".as_slice()] {
-        is_no_script(&rt, &mut Broken { bytes });
+        check_no_script(&rt, &mut Broken { bytes });
     }
 }
 
@@ -40,5 +40,5 @@ fn an_output_that_fails_stops_a_script(rt: HostRuntime) {
     let status = script_on(alloc, &mut input, &mut written, &mut errors);
     assert_eq!(rt; status, 1);
     assert_eq!(rt; room.as_slice(), b"pair ok\n".as_slice());
-    is_one_line(&rt, &errors);
+    check_one_line(&rt, &errors);
 }

@@ -1,9 +1,9 @@
 //! Tests of the keys of a pair, and of their values.
-use crate::scripts::rows::{pair_line, prints};
+use crate::scripts::run::{pair_line, prints};
 use std::process::Abort;
 
 /// Checks that after `pair` none of these are keys.
-fn are_no_keys(rt: &(impl Abort + AllocGlobal), keys: &[&str]) {
+fn check_no_keys(rt: &(impl Abort + AllocGlobal), keys: &[&str]) {
     for words in keys {
         let script = pair_line(rt, words);
         prints(rt, script.as_str(), "", "line 1: not a command\n", 2);
@@ -11,7 +11,7 @@ fn are_no_keys(rt: &(impl Abort + AllocGlobal), keys: &[&str]) {
 }
 
 /// Checks that a pair with these keys is refused.
-fn are_refused(rt: &(impl Abort + AllocGlobal), keys: &[&str]) {
+fn check_refused(rt: &(impl Abort + AllocGlobal), keys: &[&str]) {
     for words in keys {
         let script = pair_line(rt, words);
         prints(rt, script.as_str(), "pair refused 15\n", "", 0);
@@ -20,7 +20,7 @@ fn are_refused(rt: &(impl Abort + AllocGlobal), keys: &[&str]) {
 
 #[test]
 fn settings_have_ranges(rt: HostRuntime) {
-    are_refused(
+    check_refused(
         &rt,
         &[
             "blocks=0",
@@ -47,7 +47,7 @@ fn settings_have_ranges(rt: HostRuntime) {
 
 #[test]
 fn a_key_stands_once(rt: HostRuntime) {
-    are_no_keys(
+    check_no_keys(
         &rt,
         &[
             "protocol=A protocol=A",
@@ -66,7 +66,7 @@ fn a_key_stands_once(rt: HostRuntime) {
 
 #[test]
 fn a_key_has_a_name_and_a_value(rt: HostRuntime) {
-    are_no_keys(
+    check_no_keys(
         &rt,
         &[
             "",

@@ -32,7 +32,7 @@ fn long_script(rt: &(impl Abort + AllocGlobal), last: &str) -> String {
 }
 
 /// Runs the script, and checks that it ends with this status, and that all 301 lines are printed in this many calls.
-fn is_printed(rt: &(impl Abort + AllocGlobal), script: &str, wanted: u8, calls: u32) {
+fn check_printed(rt: &(impl Abort + AllocGlobal), script: &str, wanted: u8, calls: u32) {
     let alloc = rt.alloc();
     let mut out = Output {
         bytes: Vec::new(alloc),
@@ -51,6 +51,6 @@ fn output_is_written_in_large_pieces(rt: HostRuntime) {
     // The last line stops the second script. All that was printed before is there.
     for (last, wanted, calls) in [("", 0, 1), ("sent\n", 2, 1)] {
         let script = long_script(&rt, last);
-        is_printed(&rt, script.as_str(), wanted, calls);
+        check_printed(&rt, script.as_str(), wanted, calls);
     }
 }

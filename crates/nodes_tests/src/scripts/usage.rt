@@ -1,9 +1,9 @@
 //! Tests of lines of a script that are commands, and of lines that stop it.
-use crate::scripts::rows::{is_no_script, joined, prints};
+use crate::scripts::run::{check_no_script, joined, prints};
 use std::process::Abort;
 
 /// Checks that after a pair none of these lines is a command.
-fn are_no_commands(rt: &(impl Abort + AllocGlobal), lines: &[&str]) {
+fn check_no_commands(rt: &(impl Abort + AllocGlobal), lines: &[&str]) {
     for line in lines {
         let script = joined(rt, &["pair\n", line, "\nmarks\n"]);
         prints(
@@ -51,7 +51,7 @@ const COMMANDS: [&str; 20] = [
 ];
 
 /// Checks that after these lines each command stops the script, which has a pair only later.
-fn have_no_pair(rt: &(impl Abort + AllocGlobal), before: &str, out: &str, err: &str) {
+fn check_no_pair(rt: &(impl Abort + AllocGlobal), before: &str, out: &str, err: &str) {
     for command in COMMANDS {
         let script = joined(rt, &[before, command, "\npair\n"]);
         prints(rt, script.as_str(), out, err, 2);
@@ -60,8 +60,8 @@ fn have_no_pair(rt: &(impl Abort + AllocGlobal), before: &str, out: &str, err: &
 
 #[test]
 fn a_pair_comes_first(rt: HostRuntime) {
-    have_no_pair(&rt, "#\n", "", "line 2: no pair\n");
-    have_no_pair(
+    check_no_pair(&rt, "#\n", "", "line 2: no pair\n");
+    check_no_pair(
         &rt,
         "pair slots=0\n\n",
         "pair refused 15\n",
@@ -199,7 +199,7 @@ fn these_are_no_commands(rt: HostRuntime) {
         TOO_MANY_BLOCKS,
         OTHER_BYTES,
     ] {
-        are_no_commands(&rt, lines);
+        check_no_commands(&rt, lines);
     }
 }
 
@@ -217,6 +217,6 @@ const NO_TEXTS: &[&[u8]] = &[
 fn a_script_is_text(rt: HostRuntime) {
     for script in NO_TEXTS {
         let mut input = *script;
-        is_no_script(&rt, &mut input);
+        check_no_script(&rt, &mut input);
     }
 }

@@ -2,7 +2,7 @@
 ghost use Rattle.std.specs.Prelude.{◌≡◌, ◌-◌, [], length, take, unwrap_or, None, Some, IfOk};
 
 use crate::frames::links::direction;
-use crate::frames::samples::{Sample, is_read, sampled};
+use crate::frames::samples::{Sample, check_read, sampled};
 use blocks::{Protocol, Refusal};
 use endpoint::{PacketReceiver, PacketSender, joined};
 use link::{PlainIn, PlainOut};
@@ -63,12 +63,11 @@ fn goes_through(rt: &impl Abort, alloc: Global, sample: &'static Sample) {
     let mut direction = pushed(rt, alloc, sample);
     let read = direction.carry();
     joined(&direction.sender, &direction.taker);
-    is_read(rt, alloc, 0, &read, Ok(sample));
+    check_read(rt, alloc, 0, &read, Ok(sample));
 }
 
-// If each request for memory is refused in turn, this fails only where the link is made.
 #[test]
-fn a_short_frame_takes_no_memory(rt: HostRuntime) {
+fn a_short_frame_goes_through_a_link(rt: HostRuntime) {
     goes_through(&rt, rt.alloc(), &Sample::Protocol(Protocol::C));
 }
 
@@ -83,11 +82,11 @@ fn a_connection_drops_the_packets_of_the_one_before(rt: HostRuntime) {
     direction.sender.restart(2);
     direction.taker.restart(2);
     let read = direction.carry();
-    is_read(&rt, rt.alloc(), 0, &read, Err(Refusal::NothingThere));
+    check_read(&rt, rt.alloc(), 0, &read, Err(Refusal::NothingThere));
 }
 
 // Checks that the sender is full and refuses a packet.
-fn is_full(rt: &impl Abort, alloc: Global, sender: &mut PacketSender<PlainOut>, blocks: u64)
+fn check_full(rt: &impl Abort, alloc: Global, sender: &mut PacketSender<PlainOut>, blocks: u64)
     requires { sender.old.partly ≡ None }
 {
     let refused = sender.push(alloc, Packet::Sizes { blocks });
@@ -97,12 +96,12 @@ fn is_full(rt: &impl Abort, alloc: Global, sender: &mut PacketSender<PlainOut>, 
 #[test]
 fn a_full_link_refuses_a_packet(rt: HostRuntime) {
     let Direction { mut sender, taker } = pushed(&rt, rt.alloc(), &Sample::Sizes(8));
-    is_full(&rt, rt.alloc(), &mut sender, 16);
+    check_full(&rt, rt.alloc(), &mut sender, 16);
     joined(&sender, &taker);
 }
 
 // Checks that the taker has no queue and finds nothing.
-fn is_empty(rt: &impl Abort, taker: &mut PacketReceiver<PlainIn>) {
+fn check_empty(rt: &impl Abort, taker: &mut PacketReceiver<PlainIn>) {
     taker.ready().expect(rt, "an open end");
     let taken = taker.take().err();
     let is_there = taker.give_queue().is_some();
@@ -116,8 +115,8 @@ fn a_side_without_its_queue_is_full_or_empty(rt: HostRuntime) {
         mut sender,
         mut taker,
     } = direction;
-    is_empty(&rt, &mut taker);
+    check_empty(&rt, &mut taker);
     let is_there = (sender.give_queue().is_some(), sender.give_queue().is_some());
     assert_eq!(rt; is_there, (true, false));
-    is_full(&rt, rt.alloc(), &mut sender, 8);
+    check_full(&rt, rt.alloc(), &mut sender, 8);
 }

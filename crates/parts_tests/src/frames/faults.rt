@@ -1,6 +1,6 @@
 //! Faulty frames: each is refused for its first fault, as one frame and as a stream.
-use crate::frames::samples::{Sample, is_read};
-use crate::frames::streams::is_one_frame;
+use crate::frames::samples::{Sample, check_read};
+use crate::frames::streams::check_one_frame;
 use crate::vectors::{
     BARRIER, OTHER_MAGIC, PROTOCOL_C, RESYNC, RS_WRITE_ACK, SHORT_BARRIER, WRITE, WRITE_ACK,
     WRONG_BARRIER, frame_of, with_blocks,
@@ -60,9 +60,9 @@ fn bytes_of(rt: &impl Abort, alloc: Global, row: &Row) -> Vec<u8> {
 }
 
 // Checks that the bytes are refused for this as one frame.
-fn is_refused(rt: &impl Abort, alloc: Global, row: usize, bytes: &[u8], refusal: Refusal) {
+fn check_refused(rt: &impl Abort, alloc: Global, row: usize, bytes: &[u8], refusal: Refusal) {
     let read = decode(frame_of(rt, alloc, bytes));
-    is_read(rt, alloc, row, &read, Err(refusal));
+    check_read(rt, alloc, row, &read, Err(refusal));
 }
 
 #[test]
@@ -70,8 +70,8 @@ fn a_fault_comes_with_its_last_byte(rt: HostRuntime) {
     let alloc = rt.alloc();
     for (i, row) in FAULTS.iter().enumerate() {
         let bytes = bytes_of(&rt, alloc, row);
-        is_one_frame(&rt, alloc, i, &bytes, Err(row.3), &[]);
-        is_refused(&rt, alloc, i, &bytes, row.3);
+        check_one_frame(&rt, alloc, i, &bytes, Err(row.3), &[]);
+        check_refused(&rt, alloc, i, &bytes, row.3);
     }
 }
 
@@ -89,7 +89,7 @@ static BROKEN: [&[u8]; 6] = [
 #[test]
 fn a_frame_is_whole(rt: HostRuntime) {
     for (row, bytes) in BROKEN.iter().enumerate() {
-        is_refused(&rt, rt.alloc(), row, bytes, Refusal::BadLength);
+        check_refused(&rt, rt.alloc(), row, bytes, Refusal::BadLength);
     }
 }
 
@@ -122,6 +122,6 @@ fn a_hello_wants_its_next_frame(rt: HostRuntime) {
     let alloc = rt.alloc();
     for (row, (bytes, hello, wanted)) in HELLOS.iter().enumerate() {
         let packet = read(frame_of(&rt, alloc, bytes), *hello);
-        is_read(&rt, alloc, row, &packet, *wanted);
+        check_read(&rt, alloc, row, &packet, *wanted);
     }
 }

@@ -3,7 +3,7 @@ ghost use Rattle.std.specs.Prelude.{◌≡◌, ◌≤◌, length};
 ghost use Rattle.parts_tests.specs.Lending.{taken_in};
 
 use crate::frames::links::direction;
-use crate::frames::samples::{Sample, is_read};
+use crate::frames::samples::{Sample, check_read};
 use crate::vectors::{BARRIER, OTHER_MAGIC, SHORT_BARRIER, SIZES, WRONG_BARRIER};
 use blocks::Refusal;
 use endpoint::PacketReceiver;
@@ -68,10 +68,10 @@ impl Frames {
 type Row = (&'static [u8], Result<&'static Sample, Refusal>);
 
 // Checks that frames of these bytes are read as their rows say, one after another.
-fn are_read(rt: &impl Abort, alloc: Global, frames: &mut Frames, rows: &'static [Row]) {
+fn check_each_read(rt: &impl Abort, alloc: Global, frames: &mut Frames, rows: &'static [Row]) {
     for (row, (bytes, wanted)) in rows.iter().enumerate() {
         assert!(rt; bytes.len() <= 40);
-        is_read(rt, alloc, row, &frames.receive(bytes), *wanted);
+        check_read(rt, alloc, row, &frames.receive(bytes), *wanted);
     }
 }
 
@@ -87,10 +87,10 @@ static HELLO: [Row; 4] = [
 fn a_hello_refuses_another_command_first(rt: HostRuntime) {
     let alloc = rt.alloc();
     let mut frames = Frames::new(alloc).expect(&rt, "a link");
-    are_read(&rt, alloc, &mut frames, &HELLO);
+    check_each_read(&rt, alloc, &mut frames, &HELLO);
     // The next connection begins with a hello.
     frames.restart().expect(&rt, "a connection");
-    are_read(&rt, alloc, &mut frames, &HELLO);
+    check_each_read(&rt, alloc, &mut frames, &HELLO);
 }
 
 static FRAMES: [Row; 4] = [
@@ -104,5 +104,5 @@ static FRAMES: [Row; 4] = [
 fn frames_are_read_or_refused(rt: HostRuntime) {
     let alloc = rt.alloc();
     let mut frames = Frames::new(alloc).expect(&rt, "a link");
-    are_read(&rt, alloc, &mut frames, &FRAMES);
+    check_each_read(&rt, alloc, &mut frames, &FRAMES);
 }

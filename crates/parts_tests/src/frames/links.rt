@@ -37,7 +37,7 @@ fn carry(sender: &mut PlainOut, taker: &mut PlainIn) -> Result<Frame, Refusal>
 }
 
 // Checks that the taking end gets a frame of these bytes, or finds nothing if there are none.
-fn is_brought(rt: &impl Abort, sender: &mut PlainOut, taker: &mut PlainIn, bytes: &'static [u8])
+fn check_brought(rt: &impl Abort, sender: &mut PlainOut, taker: &mut PlainIn, bytes: &'static [u8])
     requires { IsDirection sender.old taker.old }
     ensures { IsDirection sender.new taker.new }
 {
@@ -49,7 +49,7 @@ fn is_brought(rt: &impl Abort, sender: &mut PlainOut, taker: &mut PlainIn, bytes
 }
 
 // Checks that the sending end accepts the frame.
-fn is_accepted(rt: &impl Abort, sender: &mut PlainOut, frame: Frame)
+fn check_accepted(rt: &impl Abort, sender: &mut PlainOut, frame: Frame)
     ensures number { sender.new.number ≡ sender.old.number }
     ensures direction { (taker : InState) → IsDirection sender.old taker → IsDirection sender.new taker }
 {
@@ -60,25 +60,25 @@ fn is_accepted(rt: &impl Abort, sender: &mut PlainOut, frame: Frame)
 #[test]
 fn a_link_for_one_frame_carries_two(rt: HostRuntime) {
     let (mut sender, mut taker) = direction(rt.alloc()).expect(&rt, "a link");
-    is_accepted(&rt, &mut sender, Frame::inline(&PROTOCOL_C));
+    check_accepted(&rt, &mut sender, Frame::inline(&PROTOCOL_C));
     let second = sender
         .offer(Frame::inline(&BARRIER))
         .expect_err(&rt, "a full link");
     let refused = (second.refusal().number(), taker.take().err());
     assert_eq!(rt; refused, (11, Some(Refusal::NothingThere)));
-    is_brought(&rt, &mut sender, &mut taker, &PROTOCOL_C);
-    is_accepted(&rt, &mut sender, second.frame);
-    is_brought(&rt, &mut sender, &mut taker, &BARRIER);
-    is_brought(&rt, &mut sender, &mut taker, &[]);
+    check_brought(&rt, &mut sender, &mut taker, &PROTOCOL_C);
+    check_accepted(&rt, &mut sender, second.frame);
+    check_brought(&rt, &mut sender, &mut taker, &BARRIER);
+    check_brought(&rt, &mut sender, &mut taker, &[]);
 }
 
 #[test]
 fn a_connection_drops_the_frames_of_the_one_before(rt: HostRuntime) {
     let (mut sender, mut taker) = direction(rt.alloc()).expect(&rt, "a link");
-    is_accepted(&rt, &mut sender, Frame::inline(&PROTOCOL_C));
+    check_accepted(&rt, &mut sender, Frame::inline(&PROTOCOL_C));
     sender.restart(2);
     taker.restart(2);
-    is_brought(&rt, &mut sender, &mut taker, &[]);
-    is_accepted(&rt, &mut sender, Frame::inline(&BARRIER));
-    is_brought(&rt, &mut sender, &mut taker, &BARRIER);
+    check_brought(&rt, &mut sender, &mut taker, &[]);
+    check_accepted(&rt, &mut sender, Frame::inline(&BARRIER));
+    check_brought(&rt, &mut sender, &mut taker, &BARRIER);
 }

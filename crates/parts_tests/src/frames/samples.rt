@@ -88,7 +88,7 @@ pub(crate) fn sampled(rt: &impl Abort, alloc: Global, sample: &Sample) -> Packet
 }
 
 /// Checks that a frame was read as a row of a table says.
-pub(crate) fn is_read(
+pub(crate) fn check_read(
     rt: &impl Abort,
     alloc: Global,
     row: usize,

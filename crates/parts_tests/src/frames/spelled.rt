@@ -1,8 +1,8 @@
 //! Tests that each packet has one frame: encoding the packet gives the bytes, and reading the bytes gives the packet.
 ghost use Rattle.packets.specs.Spelling.{IsSpellable};
 
-use crate::frames::samples::{Sample, is_read, sampled};
-use crate::frames::streams::is_one_frame;
+use crate::frames::samples::{Sample, check_read, sampled};
+use crate::frames::streams::check_one_frame;
 use crate::vectors::{
     BARRIER, BARRIER_ACK, LARGEST_WRITE, PROTOCOL_C, RECV_ACK, RESYNC, RS_WRITE_ACK, SIZES,
     SYNC_UUID, TWO_WRITES_ACK, UUIDS, WRITE, WRITE_ACK, frame_of, with_blocks,
@@ -12,24 +12,111 @@ use packets::{Frame, Packet, decode, encode};
 use std::alloc::Global;
 use std::process::Abort;
 
-/// A packet, and its frame: the front, how many blocks follow it, the byte that fills them, and how many bytes the
-/// frame has.
-type Row = (Sample, &'static [u8], u8, u8, usize);
+/// A packet, and its frame.
+struct SpelledPacket {
+    sample: Sample,
+    /// The bytes before the frame's blocks.
+    front: &'static [u8],
+    /// How many blocks follow them.
+    blocks: u8,
+    /// The byte that fills the blocks.
+    byte: u8,
+    /// How many bytes the frame has.
+    length: usize,
+}
 
-static FRAMES: [Row; 13] = [
-    (Sample::Write, &WRITE, 1, 0xAA, 4128),
-    (Sample::LargestWrite, &LARGEST_WRITE, 32, 0x11, 131_104),
-    (Sample::Barrier(1), &BARRIER, 0, 0, 16),
-    (Sample::RecvAck, &RECV_ACK, 0, 0, 32),
-    (Sample::WriteAck, &WRITE_ACK, 0, 0, 32),
-    (Sample::BarrierAck(1, 1), &BARRIER_ACK, 0, 0, 16),
-    (Sample::BarrierAck(1, 2), &TWO_WRITES_ACK, 0, 0, 16),
-    (Sample::Protocol(Protocol::C), &PROTOCOL_C, 0, 0, 12),
-    (Sample::Sizes(8), &SIZES, 0, 0, 16),
-    (Sample::Uuids(TUPLE), &UUIDS, 0, 0, 40),
-    (Sample::SyncUuid(9), &SYNC_UUID, 0, 0, 16),
-    (Sample::Resync, &RESYNC, 1, 0xAA, 4128),
-    (Sample::RsWriteAck, &RS_WRITE_ACK, 0, 0, 32),
+static FRAMES: [SpelledPacket; 13] = [
+    SpelledPacket {
+        sample: Sample::Write,
+        front: &WRITE,
+        blocks: 1,
+        byte: 0xAA,
+        length: 4128,
+    },
+    SpelledPacket {
+        sample: Sample::LargestWrite,
+        front: &LARGEST_WRITE,
+        blocks: 32,
+        byte: 0x11,
+        length: 131_104,
+    },
+    SpelledPacket {
+        sample: Sample::Barrier(1),
+        front: &BARRIER,
+        blocks: 0,
+        byte: 0,
+        length: 16,
+    },
+    SpelledPacket {
+        sample: Sample::RecvAck,
+        front: &RECV_ACK,
+        blocks: 0,
+        byte: 0,
+        length: 32,
+    },
+    SpelledPacket {
+        sample: Sample::WriteAck,
+        front: &WRITE_ACK,
+        blocks: 0,
+        byte: 0,
+        length: 32,
+    },
+    SpelledPacket {
+        sample: Sample::BarrierAck(1, 1),
+        front: &BARRIER_ACK,
+        blocks: 0,
+        byte: 0,
+        length: 16,
+    },
+    SpelledPacket {
+        sample: Sample::BarrierAck(1, 2),
+        front: &TWO_WRITES_ACK,
+        blocks: 0,
+        byte: 0,
+        length: 16,
+    },
+    SpelledPacket {
+        sample: Sample::Protocol(Protocol::C),
+        front: &PROTOCOL_C,
+        blocks: 0,
+        byte: 0,
+        length: 12,
+    },
+    SpelledPacket {
+        sample: Sample::Sizes(8),
+        front: &SIZES,
+        blocks: 0,
+        byte: 0,
+        length: 16,
+    },
+    SpelledPacket {
+        sample: Sample::Uuids(TUPLE),
+        front: &UUIDS,
+        blocks: 0,
+        byte: 0,
+        length: 40,
+    },
+    SpelledPacket {
+        sample: Sample::SyncUuid(9),
+        front: &SYNC_UUID,
+        blocks: 0,
+        byte: 0,
+        length: 16,
+    },
+    SpelledPacket {
+        sample: Sample::Resync,
+        front: &RESYNC,
+        blocks: 1,
+        byte: 0xAA,
+        length: 4128,
+    },
+    SpelledPacket {
+        sample: Sample::RsWriteAck,
+        front: &RS_WRITE_ACK,
+        blocks: 0,
+        byte: 0,
+        length: 32,
+    },
 ];
 
 const TUPLE: Tuple = Tuple {
@@ -64,22 +151,22 @@ fn goes_both_ways(
 ) {
     let packet = sampled(rt, alloc, sample);
     let read = respelled(rt, alloc, row, &packet, bytes);
-    is_one_frame(rt, alloc, row, bytes, Ok(()), &[packet]);
-    is_read(rt, alloc, row, &read, Ok(sample));
+    check_one_frame(rt, alloc, row, bytes, Ok(()), &[packet]);
+    check_read(rt, alloc, row, &read, Ok(sample));
 }
 
 #[test]
 fn each_packet_has_its_frame(rt: HostRuntime) {
     let alloc = rt.alloc();
-    for (row, (sample, front, blocks, byte, length)) in FRAMES.iter().enumerate() {
-        let bytes = with_blocks(&rt, alloc, front, *blocks, *byte);
-        assert_eq!(rt; bytes.len(), *length);
-        goes_both_ways(&rt, alloc, row, sample, &bytes);
+    for (row, spelled) in FRAMES.iter().enumerate() {
+        let bytes = with_blocks(&rt, alloc, spelled.front, spelled.blocks, spelled.byte);
+        assert_eq!(rt; bytes.len(), spelled.length);
+        goes_both_ways(&rt, alloc, row, &spelled.sample, &bytes);
     }
 }
 
 // Checks that a frame of more than 40 bytes gives them back.
-fn is_long(rt: &impl Abort, frame: Frame, bytes: &[u8]) {
+fn check_long(rt: &impl Abort, frame: Frame, bytes: &[u8]) {
     assert!(rt; frame.as_slice().len() > 40);
     assert!(rt; frame.into_bytes().as_slice() == bytes);
 }
@@ -89,7 +176,7 @@ fn a_short_frame_stands_inline(rt: HostRuntime) {
     let alloc = rt.alloc();
     let frame = Frame::inline(&BARRIER);
     assert!(rt; frame.as_slice() == BARRIER.as_slice());
-    is_read(&rt, alloc, 0, &decode(frame), Ok(&Sample::Barrier(1)));
+    check_read(&rt, alloc, 0, &decode(frame), Ok(&Sample::Barrier(1)));
     let long = with_blocks(&rt, alloc, &WRITE, 1, 0xAA);
-    is_long(&rt, frame_of(&rt, alloc, &long), &long);
+    check_long(&rt, frame_of(&rt, alloc, &long), &long);
 }

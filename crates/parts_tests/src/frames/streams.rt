@@ -24,7 +24,7 @@ fn feed(
 
 // Checks that a new decoder returns this for each piece, and gives these packets. If it is fed byte by byte, a piece
 // changes nothing before its last byte.
-fn is_decoded(
+fn check_decoded(
     rt: &impl Abort,
     alloc: Global,
     row: usize,
@@ -53,7 +53,7 @@ fn is_decoded(
 
 /// Checks what the decoder returns for the stream of a table's row, and that it gives these packets, in one piece, and
 /// byte by byte with its last byte.
-pub(crate) fn is_one_frame(
+pub(crate) fn check_one_frame(
     rt: &impl Abort,
     alloc: Global,
     row: usize,
@@ -62,8 +62,8 @@ pub(crate) fn is_one_frame(
     wanted: &[Packet],
 ) {
     let pieces = [(bytes, answer, wanted.len())];
-    is_decoded(rt, alloc, row, false, &pieces, wanted);
-    is_decoded(rt, alloc, row, true, &pieces, wanted);
+    check_decoded(rt, alloc, row, false, &pieces, wanted);
+    check_decoded(rt, alloc, row, true, &pieces, wanted);
 }
 
 /// A barrier and its acknowledgement.
@@ -137,12 +137,12 @@ fn a_stream_comes_in_any_pieces(rt: HostRuntime) {
     let alloc = rt.alloc();
     for (row, (is_byte_by_byte, pieces, samples)) in STREAMS.iter().enumerate() {
         let wanted = all_of(&rt, alloc, samples);
-        is_decoded(&rt, alloc, row, *is_byte_by_byte, pieces, &wanted);
+        check_decoded(&rt, alloc, row, *is_byte_by_byte, pieces, &wanted);
     }
 }
 
 // Checks that the bytes are read as these packets in two pieces, cut here.
-fn is_read_in_two(rt: &impl Abort, alloc: Global, bytes: &[u8], cut: usize, wanted: &[Packet]) {
+fn check_read_in_two(rt: &impl Abort, alloc: Global, bytes: &[u8], cut: usize, wanted: &[Packet]) {
     assert!(rt; cut <= bytes.len());
     let (front, end) = bytes.split_at(cut);
     let transcript = decode_all(alloc, &[front, end]).expect(rt, "memory");
@@ -156,6 +156,6 @@ fn a_write_comes_in_two_pieces(rt: HostRuntime) {
     let write = with_blocks(&rt, alloc, &WRITE, 1, 0xAA);
     let wanted = [sampled(&rt, alloc, &Sample::Write)];
     for cut in 0..=write.len() {
-        is_read_in_two(&rt, alloc, &write, cut, &wanted);
+        check_read_in_two(&rt, alloc, &write, cut, &wanted);
     }
 }

@@ -20,20 +20,20 @@ fn mark_last(rt: &impl Abort, bitmap: &mut Bitmap) {
 }
 
 /// Checks that this many blocks are marked, and that this is the first.
-fn has(rt: &impl Abort, bitmap: &Bitmap, count: u32, first: u64) {
+fn check_marks(rt: &impl Abort, bitmap: &Bitmap, count: u32, first: u64) {
     let found = (bitmap.count(), bitmap.first_from(Block(0)));
     assert_eq!(rt; found, (count, Some(Block(first))));
 }
 
 /// Checks that the last 32 blocks of the last extent are marked.
-fn has_the_last_32(rt: &impl Abort, bitmap: &Bitmap) {
-    has(rt, bitmap, 32, 262_112);
+fn check_last_32(rt: &impl Abort, bitmap: &Bitmap) {
+    check_marks(rt, bitmap, 32, 262_112);
     let found = (bitmap.count_in(Extent(255)), bitmap.count_in(Extent(254)));
     assert_eq!(rt; found, (32, 0));
 }
 
 /// Checks that the last word of the bitmap says so.
-fn has_the_last_word(rt: &impl Abort, bitmap: &Bitmap) {
+fn check_last_word(rt: &impl Abort, bitmap: &Bitmap) {
     let word = bitmap.words().get(4095).copied();
     assert_eq!(rt; word, Some(0xFFFF_FFFF_0000_0000));
 }
@@ -42,7 +42,7 @@ fn has_the_last_word(rt: &impl Abort, bitmap: &Bitmap) {
 fn clears_one(rt: &impl Abort, bitmap: &mut Bitmap) {
     assert_eq!(rt; bitmap.len(), 262_144);
     bitmap.clear(Block(262_112));
-    has(rt, bitmap, 31, 262_113);
+    check_marks(rt, bitmap, 31, 262_113);
     assert!(rt; !bitmap.is_marked(Block(262_112)));
     assert!(rt; bitmap.is_marked(Block(262_113)));
 }
@@ -52,8 +52,8 @@ fn the_last_32_blocks_of_the_largest_device(rt: HostRuntime) {
     let mut bitmap = largest(rt.alloc()).expect(&rt, "memory");
     mark_last(&rt, &mut bitmap);
     mark_last(&rt, &mut bitmap);
-    has_the_last_32(&rt, &bitmap);
-    has_the_last_word(&rt, &bitmap);
+    check_last_32(&rt, &bitmap);
+    check_last_word(&rt, &bitmap);
     clears_one(&rt, &mut bitmap);
     bitmap.mark_all();
     assert_eq!(rt; bitmap.count(), 262_144);

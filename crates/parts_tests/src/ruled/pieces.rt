@@ -54,7 +54,11 @@ fn frames_come_in_pieces_of_any_size(rt: HostRuntime) {
 }
 
 /// Checks that a header of another protocol is given as it is, and that what follows it is read on.
-fn is_given_alone<R: Wait, I: FrameIn>(rt: &impl Abort, outward: &mut PieceOut<R>, inward: &mut I) {
+fn check_given_alone<R: Wait, I: FrameIn>(
+    rt: &impl Abort,
+    outward: &mut PieceOut<R>,
+    inward: &mut I,
+) {
     push(rt, outward, &OTHER_MAGIC, 3);
     push(rt, outward, &BARRIER[..15], 16);
     gives(rt, inward, &OTHER_MAGIC);
@@ -66,7 +70,7 @@ fn is_given_alone<R: Wait, I: FrameIn>(rt: &impl Abort, outward: &mut PieceOut<R
 #[test]
 fn a_header_that_is_none_is_a_frame_of_eight_bytes(rt: HostRuntime) {
     let (mut outward, mut inward) = taker(&rt, rt.alloc(), 16);
-    is_given_alone(&rt, &mut outward, &mut inward);
+    check_given_alone(&rt, &mut outward, &mut inward);
 }
 
 /// Returns the end that pops the pieces of a write.

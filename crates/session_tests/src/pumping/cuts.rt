@@ -57,10 +57,10 @@ fn takes<R: Wait + Clock + Copy + Drop + Abort, D: Read>(
     let mut peer = new_peer(&rt, alloc, disk(&rt, alloc), 8);
     let mut outward = open_peer(rt, alloc, &mut peer, RuledOut::new(back));
     let found = taken(&rt, buffer, reader, &mut outward, &mut peer);
-    is(&rt, found, wanted);
+    check_taken(&rt, found, wanted);
 }
 
-fn is(rt: &impl Abort, found: Taken, wanted: Taken) {
+fn check_taken(rt: &impl Abort, found: Taken, wanted: Taken) {
     assert_eq!(rt; found, wanted);
 }
 

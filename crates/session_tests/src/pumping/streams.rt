@@ -106,52 +106,91 @@ fn is_front(bytes: &[u8], part: &[u8], count: usize) -> bool {
     part.len() == count && bytes.starts_with(part)
 }
 
-/// The bytes that a write takes at most, and that a writer takes until it fails; why the pump ends, and the bytes that
-/// the writer then has of 70 pieces of 1,000 bytes. A buffer is full with 65 of them, and a stop leaves the others in
-/// the row.
-type Writer = (usize, usize, PumpEnd, usize);
+/// A writer, and what a pump gives it of 70 pieces of 1,000 bytes. A buffer is full with 65 of them, and a stop leaves
+/// the others in the row.
+#[derive(Clone, Copy)]
+struct Writer {
+    /// The bytes that a write takes at most.
+    step: usize,
+    /// The bytes that the writer takes until it fails.
+    left: usize,
+    /// Why the pump ends.
+    end: PumpEnd,
+    /// The bytes that the writer then has.
+    count: usize,
+}
 
 const WRITERS: [Writer; 6] = [
-    (1, usize::MAX, PumpEnd::Stopped, 65_000),
-    (7, usize::MAX, PumpEnd::Stopped, 65_000),
-    (1_400, usize::MAX, PumpEnd::Stopped, 65_000),
-    (usize::MAX, usize::MAX, PumpEnd::Stopped, 65_000),
-    (7, 0, PumpEnd::Failed, 0),
-    (1_400, 3_001, PumpEnd::Failed, 3_001),
+    Writer {
+        step: 1,
+        left: usize::MAX,
+        end: PumpEnd::Stopped,
+        count: 65_000,
+    },
+    Writer {
+        step: 7,
+        left: usize::MAX,
+        end: PumpEnd::Stopped,
+        count: 65_000,
+    },
+    Writer {
+        step: 1_400,
+        left: usize::MAX,
+        end: PumpEnd::Stopped,
+        count: 65_000,
+    },
+    Writer {
+        step: usize::MAX,
+        left: usize::MAX,
+        end: PumpEnd::Stopped,
+        count: 65_000,
+    },
+    Writer {
+        step: 7,
+        left: 0,
+        end: PumpEnd::Failed,
+        count: 0,
+    },
+    Writer {
+        step: 1_400,
+        left: 3_001,
+        end: PumpEnd::Failed,
+        count: 3_001,
+    },
 ];
 
 /// Writes what is in a row. Returns why the pump ended and what the writer got.
-fn written<R: Wait + Clock>(
+fn pumped_out<R: Wait + Clock>(
     rt: &R,
     alloc: Global,
     inward: &mut PieceIn<R>,
     buffer: &mut Buffer,
-    (step, left): (usize, usize),
+    writer: Writer,
 ) -> (PumpEnd, Vec<u8>) {
     let stop = AtomicBool::new(false);
-    let mut writer = Trickle {
+    let mut trickle = Trickle {
         stop: &stop,
-        step,
-        left,
+        step: writer.step,
+        left: writer.left,
         interrupts: false,
         got: Vec::new(alloc),
     };
-    let ended = pump_out(rt, inward, &mut writer, buffer, &stop, &Bell::new());
-    (ended, writer.got)
+    let ended = pump_out(rt, inward, &mut trickle, buffer, &stop, &Bell::new());
+    (ended, trickle.got)
 }
 
 /// Checks that a writer gets the bytes of the row's pieces, these, in order. Returns what it got.
-fn is_written<R: Wait + Clock + Abort>(
+fn written<R: Wait + Clock + Abort>(
     rt: &R,
     alloc: Global,
     inward: &mut PieceIn<R>,
     buffer: &mut Buffer,
-    (step, left, end, count): Writer,
+    writer: Writer,
     bytes: &[u8],
 ) -> Vec<u8> {
-    let (ended, got) = written(rt, alloc, inward, buffer, (step, left));
-    assert_eq!(rt; ended, end, "a writer of {step} bytes");
-    assert!(rt; is_front(bytes, &got, count));
+    let (ended, got) = pumped_out(rt, alloc, inward, buffer, writer);
+    assert_eq!(rt; ended, writer.end, "a writer of {} bytes", writer.step);
+    assert!(rt; is_front(bytes, &got, writer.count));
     let kept = drain(rt, alloc, inward);
     assert!(rt; kept.len() == 5_000 && bytes.ends_with(&kept));
     got
@@ -178,7 +217,7 @@ fn carries<R: Wait + Clock + Copy + Drop + Abort>(rt: R, alloc: Global, writer: 
     let mut buffer = Buffer::new(alloc).expect(&rt, "memory");
     let (mut outward, mut inward) = row(rt, alloc, 80).expect(&rt, "a row");
     push_each(&rt, &mut outward, &bytes);
-    let got = is_written(&rt, alloc, &mut inward, &mut buffer, writer, &bytes);
+    let got = written(&rt, alloc, &mut inward, &mut buffer, writer, &bytes);
     comes_in(&rt, alloc, (&mut outward, &mut inward), &mut buffer, &got);
 }
 
@@ -189,17 +228,72 @@ fn a_writer_gets_the_pieces_in_order(rt: HostRuntime) {
     }
 }
 
-/// The bytes that a read gives at most, and that a reader gives until it fails; whether it asks for a stop, and the
-/// row's room in pieces; why the pump ends, and the bytes that it pushed of 3,000.
-type Reader = (usize, usize, bool, usize, PumpEnd, usize);
+/// A reader of 3,000 bytes, and what a pump pushes of them into a row.
+#[derive(Clone, Copy)]
+struct Reader {
+    /// The bytes that a read gives at most.
+    step: usize,
+    /// The bytes that the reader gives until it fails.
+    left: usize,
+    /// Whether it asks for a stop.
+    stops: bool,
+    /// The row's room in pieces.
+    room: usize,
+    /// Why the pump ends.
+    end: PumpEnd,
+    /// The bytes that it pushed.
+    count: usize,
+}
 
 const READERS: [Reader; 6] = [
-    (1, usize::MAX, false, 3_000, PumpEnd::EndOfInput, 3_000),
-    (7, usize::MAX, false, 3_000, PumpEnd::EndOfInput, 3_000),
-    (usize::MAX, usize::MAX, false, 3, PumpEnd::EndOfInput, 3_000),
-    (7, 0, false, 3, PumpEnd::Failed, 0),
-    (1_000, 1_234, false, 3, PumpEnd::Failed, 1_234),
-    (usize::MAX, usize::MAX, true, 2, PumpEnd::Stopped, 2_800),
+    Reader {
+        step: 1,
+        left: usize::MAX,
+        stops: false,
+        room: 3_000,
+        end: PumpEnd::EndOfInput,
+        count: 3_000,
+    },
+    Reader {
+        step: 7,
+        left: usize::MAX,
+        stops: false,
+        room: 3_000,
+        end: PumpEnd::EndOfInput,
+        count: 3_000,
+    },
+    Reader {
+        step: usize::MAX,
+        left: usize::MAX,
+        stops: false,
+        room: 3,
+        end: PumpEnd::EndOfInput,
+        count: 3_000,
+    },
+    Reader {
+        step: 7,
+        left: 0,
+        stops: false,
+        room: 3,
+        end: PumpEnd::Failed,
+        count: 0,
+    },
+    Reader {
+        step: 1_000,
+        left: 1_234,
+        stops: false,
+        room: 3,
+        end: PumpEnd::Failed,
+        count: 1_234,
+    },
+    Reader {
+        step: usize::MAX,
+        left: usize::MAX,
+        stops: true,
+        room: 2,
+        end: PumpEnd::Stopped,
+        count: 2_800,
+    },
 ];
 
 /// Pushes what a reader gives of these bytes into a row. Returns why the pump ended.
@@ -208,35 +302,31 @@ fn pushed<R: Wait + Clock>(
     outward: &mut PieceOut<R>,
     buffer: &mut Buffer,
     bytes: &[u8],
-    (step, left, stops): (usize, usize, bool),
+    reader: Reader,
 ) -> PumpEnd {
     let stop = AtomicBool::new(false);
-    let mut reader = Drip {
+    let mut drip = Drip {
         stop: &stop,
-        stops,
-        step,
-        left,
+        stops: reader.stops,
+        step: reader.step,
+        left: reader.left,
         interrupts: false,
         rest: bytes,
     };
-    pump_in(rt, outward, &mut reader, buffer, &stop, &Bell::new())
+    pump_in(rt, outward, &mut drip, buffer, &stop, &Bell::new())
 }
 
 /// Checks that what a reader gives comes out of the row in order.
-fn takes<R: Wait + Clock + Copy + Drop + Abort>(
-    rt: R,
-    alloc: Global,
-    (step, left, stops, room, end, count): Reader,
-) {
+fn takes<R: Wait + Clock + Copy + Drop + Abort>(rt: R, alloc: Global, reader: Reader) {
     let bytes = counted(&rt, alloc, 3_000);
     let mut buffer = Buffer::new(alloc).expect(&rt, "memory");
+    let room = reader.room;
     assert!(rt; room > 0);
     let (mut outward, mut inward) = row(rt, alloc, room).expect(&rt, "a row");
-    let reader = (step, left, stops);
     let ended = pushed(&rt, &mut outward, &mut buffer, &bytes, reader);
-    assert_eq!(rt; ended, end, "a reader of {step} bytes");
+    assert_eq!(rt; ended, reader.end, "a reader of {} bytes", reader.step);
     let taken = drain(&rt, alloc, &mut inward);
-    assert!(rt; is_front(&bytes, &taken, count));
+    assert!(rt; is_front(&bytes, &taken, reader.count));
 }
 
 #[test]

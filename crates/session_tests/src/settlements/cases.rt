@@ -1,7 +1,7 @@
 //! Cases of two nodes before they settle.
 
 use crate::nodes::{Local, Peer, close, connect, open_alone, submit, write};
-use blocks::Refusal;
+use blocks::{ConnectionWords, Refusal};
 use primary::Receipt;
 use settle::{Settled, settle};
 use std::alloc::Global;
@@ -36,7 +36,7 @@ const NOTHING: Settled = Settled {
     unmarked: 0,
 };
 
-fn is<R: Wait + Drop>(
+fn check_settlement<R: Wait + Drop>(
     rt: &impl Abort,
     local: &mut Local<R>,
     peer: &mut Peer<R>,
@@ -47,15 +47,15 @@ fn is<R: Wait + Drop>(
 }
 
 /// Checks that the nodes settle to this, and again: a settlement changes nothing.
-fn is_twice<R: Wait + Drop>(
+fn check_settles_twice<R: Wait + Drop>(
     rt: &impl Abort,
     local: &mut Local<R>,
     peer: &mut Peer<R>,
     receipts: &[Receipt],
     wanted: Settled,
 ) {
-    is(rt, local, peer, receipts, Ok(wanted));
-    is(rt, local, peer, receipts, Ok(wanted));
+    check_settlement(rt, local, peer, receipts, Ok(wanted));
+    check_settlement(rt, local, peer, receipts, Ok(wanted));
 }
 
 /// Settles four writes. Each write is an item of the stream, and ends its epoch with a barrier.
@@ -69,7 +69,7 @@ fn writes<R: Wait + Drop>(
     for block in 0..4 {
         write(rt, alloc, local, peer, block, receipts);
     }
-    is(rt, local, peer, receipts, Err(Refusal::NotDrained));
+    check_settlement(rt, local, peer, receipts, Err(Refusal::NotDrained));
     close(rt, local, peer);
     let wanted = Settled {
         sent: 8,
@@ -78,7 +78,7 @@ fn writes<R: Wait + Drop>(
         confirmed: 4,
         unmarked: 0,
     };
-    is_twice(rt, local, peer, receipts, wanted);
+    check_settles_twice(rt, local, peer, receipts, wanted);
 }
 
 /// Sends two writes, and has the peer take one of them.
@@ -96,8 +96,8 @@ fn takes_one<R: Wait + Drop>(
 }
 
 /// Checks that something is in the way of a settlement.
-fn is_not_drained<R: Wait + Drop>(rt: &impl Abort, local: &mut Local<R>, peer: &mut Peer<R>) {
-    is(rt, local, peer, &[], Err(Refusal::NotDrained));
+fn check_not_drained<R: Wait + Drop>(rt: &impl Abort, local: &mut Local<R>, peer: &mut Peer<R>) {
+    check_settlement(rt, local, peer, &[], Err(Refusal::NotDrained));
 }
 
 /// Checks that each of the items is in the way until it is done. What the peer did not take is marked.
@@ -109,12 +109,12 @@ fn unfinished<R: Wait + Drop>(
 ) {
     takes_one(rt, alloc, local, peer);
     local.close().expect(rt, "a primary that was open");
-    is_not_drained(rt, local, peer);
+    check_not_drained(rt, local, peer);
     peer.close().expect(rt, "a secondary that was open");
-    is_not_drained(rt, local, peer);
+    check_not_drained(rt, local, peer);
     peer.peer(0).expect(rt, "an item");
     for number in 1..3 {
-        is_not_drained(rt, local, peer);
+        check_not_drained(rt, local, peer);
         local.local(number).expect(rt, "a write");
     }
     let wanted = Settled {
@@ -123,7 +123,7 @@ fn unfinished<R: Wait + Drop>(
         applied: 1,
         ..NOTHING
     };
-    is_twice(rt, local, peer, &[], wanted);
+    check_settles_twice(rt, local, peer, &[], wanted);
 }
 
 /// Settles after each of two connections. The second one begins with a resync of nothing, which is two items.
@@ -135,7 +135,12 @@ fn connections<R: Wait + Copy + Drop>(
 ) {
     write(out, alloc, local, peer, 2, receipts);
     close(out, local, peer);
-    connect((rt, out, alloc), local, peer, (4, 5));
+    connect(
+        (rt, out, alloc),
+        local,
+        peer,
+        ConnectionWords { sync: 4, loss: 5 },
+    );
     write(out, alloc, local, peer, 3, receipts);
     close(out, local, peer);
     let wanted = Settled {
@@ -145,15 +150,19 @@ fn connections<R: Wait + Copy + Drop>(
         confirmed: 2,
         unmarked: 0,
     };
-    is_twice(out, local, peer, receipts, wanted);
-    open_alone((rt, out, alloc), local, (6, 7));
+    check_settles_twice(out, local, peer, receipts, wanted);
+    open_alone(
+        (rt, out, alloc),
+        local,
+        ConnectionWords { sync: 6, loss: 7 },
+    );
     local.close().expect(out, "a primary that was open");
     // Nothing went over a third connection, which the secondary did not open.
     let wanted = Settled {
         confirmed: 2,
         ..NOTHING
     };
-    is_twice(out, local, peer, receipts, wanted);
+    check_settles_twice(out, local, peer, receipts, wanted);
 }
 
 /// Checks that receipts of other nodes are refused after a write.
@@ -166,7 +175,7 @@ fn strange<R: Wait + Drop>(
 ) {
     write(rt, alloc, local, peer, 2, receipts);
     close(rt, local, peer);
-    is(rt, local, peer, receipts, Err(Refusal::StrangeReceipt));
+    check_settlement(rt, local, peer, receipts, Err(Refusal::StrangeReceipt));
 }
 
 /// Connects the nodes, and has them settle.
@@ -177,7 +186,12 @@ fn goes_connected<R: Wait + Copy + Drop>(
     receipts: &mut Vec<Receipt>,
     case: Case,
 ) {
-    connect((rt, out, alloc), local, peer, (2, 3));
+    connect(
+        (rt, out, alloc),
+        local,
+        peer,
+        ConnectionWords { sync: 2, loss: 3 },
+    );
     match case {
         Case::Write(block) => write(out, alloc, local, peer, block, receipts),
         Case::Writes => writes(out, alloc, local, peer, receipts),
@@ -201,11 +215,11 @@ pub(crate) fn goes<R: Wait + Copy + Drop>(
                 unmarked,
                 ..NOTHING
             };
-            is_twice(out, local, peer, receipts, wanted);
+            check_settles_twice(out, local, peer, receipts, wanted);
         }
         Case::Failing => {
-            is(out, local, peer, receipts, Err(Refusal::ReadFault));
-            is(out, local, peer, receipts, Ok(NOTHING));
+            check_settlement(out, local, peer, receipts, Err(Refusal::ReadFault));
+            check_settlement(out, local, peer, receipts, Ok(NOTHING));
         }
         _ => goes_connected((rt, out, alloc), local, peer, receipts, case),
     }

@@ -1,6 +1,6 @@
 //! The connection's stream in the transfer log: its items, its epochs, and its end.
-ghost use Rattle.std.specs.Prelude.{◌≡◌, ◌-◌, ◌<◌, OnErr, IsOk, IfOk, IfErr, None};
-ghost use Rattle.transferlog.specs.Log.{barrier_acked, connecting, drained, may_confirm, resync_acked, resync_placed, uuids_placed};
+ghost use Rattle.std.specs.Prelude.{◌≡◌, ◌&&◌, ◌-◌, ◌<◌, OnErr, IsOk, IfOk, IfErr, None};
+ghost use Rattle.transferlog.specs.Log.{asks_answers, barrier_acked, connecting, drained, lacks_answer, may_confirm, resync_acked, resync_placed, uuids_placed};
 ghost use Rattle.blocks.specs.declared.refusal.Refusal.TheVariants.{NoMemory};
 
 use super::TransferLog;
@@ -84,11 +84,18 @@ impl TransferLog {
     fn may_confirm(&self, number: u32, size: u32) -> bool
         ensures { result ≡ may_confirm number size self.now.state }
     {
-        let lacks = asks_answers(self.protocol)
+        // The peer may ask for any size: the writes are looked at once it is that of the oldest epoch.
+        self.epochs.is_awaited(number, size) && !self.waits_for_answers(size)
+    }
+
+    // Returns whether, under protocols B and C, one of the first `size` unacknowledged writes is not answered.
+    fn waits_for_answers(&self, size: u32) -> bool
+        ensures { result ≡ (asks_answers self.now.state.protocol && lacks_answer size self.now.state) }
+    {
+        asks_answers(self.protocol)
             && self
                 .ring
-                .lacks_answer(self.acknowledged_through + 1, u64::from(size));
-        self.epochs.is_awaited(number, size) && !lacks
+                .lacks_answer(self.acknowledged_through + 1, u64::from(size))
     }
 
     /// Ends the stream, as the connection is closed, and takes the connection from each write. Completes the writes

@@ -1,14 +1,11 @@
-use Rattle.std.proofs.Common.{◌≡◌, Bool, true, not, sym, ◌∙◌, ap, subst}
-use Rattle.std.specs.Prelude.{is_some}
+use Rattle.std.proofs.Common.{◌≡◌, Bool, true, not, sym, ◌∙◌, ap, subst, rules}
 use Rattle.std.proofs.lemmas.Bool.{both_ways, not-false}
 use Rattle.blocks.specs.declared.settings.Settings.{Settings}
 use Rattle.blocks.specs.declared.tuple.Tuple.{Tuple}
 use Rattle.handover.specs.Left.{left_by}
 use Rattle.handover.specs.Next.{identifiers_of}
 use Rattle.handover.proofs.Alike.{are_alike, alike-same, same-alike}
-use Rattle.handover.proofs.Handing.{at-rest, reached-leave, reached-parts, length-left, marks-left, parts-sound}
-use Rattle.model.specs.Primary.{primary_connection}
-use Rattle.model.specs.Secondary.{secondary_connection}
+use Rattle.handover.proofs.Handing.{reached-leave, reached-parts, length-left, marks-left, parts-sound}
 use Rattle.model.specs.Settlement.{is_at_rest}
 use Rattle.model.specs.Theorems.{IsSoundOpening}
 use Rattle.handover.proofs.parts.parts_after.Goals as goal
@@ -41,22 +38,16 @@ returns-clause-same g c = λ p s hp hs.
 
 pub returns-clause-sound : goal.returns-clause-sound
 returns-clause-sound g c = λ p s hp hs joined honest.
-    let rest : is_at_rest p s ≡ true = at-rest p s
-    (not-false (primary_connection p).closed (sym (c.is_open.ensures p hp) ∙ c.if-is_open.false))
-    (not-false (secondary_connection s).closed (sym (c.is_open-else-is_open.ensures s hs)
-    ∙ c.if-is_open-2.false))
-    (sym (c.is_drained.ensures s hs) ∙ c.if-not-is_drained.false) (ap is_some (sym (c.next_local.ensures p hp)) ∙ sym c.is_some.ensures ∙ c.if-is_some.false) in
+    let passed : c.is_at_rest.result ≡ true = search rules in
+    let rest : is_at_rest p s ≡ true = sym (c.is_at_rest.ensures p s hp hs) ∙ passed in
     let left = returns-clause-left g c p s hp hs in
     parts-sound _ p s left (returns-clause-same g c p s hp hs)
     (subst (λ (t : Tuple). IsSoundOpening (left_by p s t)) (sym left.peer) (reached-leave p s hp.reached hs.reached honest joined rest))
 
 pub returns-clause-unparted : goal.returns-clause-unparted
 returns-clause-unparted g c = λ p s hp hs joined honest unparted same.
-    let rest : is_at_rest p s ≡ true = at-rest p s
-    (not-false (primary_connection p).closed (sym (c.is_open.ensures p hp) ∙ c.if-is_open.false))
-    (not-false (secondary_connection s).closed (sym (c.is_open-else-is_open.ensures s hs)
-    ∙ c.if-is_open-2.false))
-    (sym (c.is_drained.ensures s hs) ∙ c.if-not-is_drained.false) (ap is_some (sym (c.next_local.ensures p hp)) ∙ sym c.is_some.ensures ∙ c.if-is_some.false) in
+    let passed : c.is_at_rest.result ≡ true = search rules in
+    let rest : is_at_rest p s ≡ true = sym (c.is_at_rest.ensures p s hp hs) ∙ passed in
     let left = returns-clause-left g c p s hp hs in
     ap (λ (t : Tuple). t.bitmap) left.own ∙ reached-parts p s hp.reached hs.reached honest joined unparted rest
     (sym (ap (λ (t : Tuple). t.current) left.own) ∙ same ∙ ap (λ (t : Tuple). t.current) left.peer)

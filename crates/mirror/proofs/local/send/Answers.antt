@@ -6,6 +6,6 @@ use Rattle.primary_protocol.specs.Steps.{replied}
 use Rattle.mirror.proofs.Runs.{local-step}
 use Rattle.mirror.proofs.local.send.Goals as goal
 
-pub returns : goal.returns
-returns g c = local-step (Sends (has_room c.send.result) (is_out_of_memory c.send.result)) c.args.local.now c.send.new.self (replied reply.Ok c.send.result)
+pub returns-clause-runs : goal.returns-clause-runs
+returns-clause-runs g c = local-step (Sends (has_room c.send.result) (is_out_of_memory c.send.result)) c.args.local.now c.send.new.self (replied reply.Ok c.send.result)
     (λ h. refl) c.send.ensures.step

@@ -5,8 +5,8 @@ use Rattle.primary_protocol.specs.Steps.{replied}
 use Rattle.mirror.proofs.Runs.{local-step}
 use Rattle.mirror.proofs.local.write.Goals as goal
 
-pub returns-in-Some : goal.returns-in-Some
-returns-in-Some g c = elim c.local.ensures.step [
+pub returns-in-Some-clause-runs : goal.returns-in-Some-clause-runs
+returns-in-Some-clause-runs g c = elim c.local.ensures.step [
   | inl done ↦ local-step (WritesLocally _) c.args.local.now c.local.new.self (replied reply.Ok c.local.result) (λ h. refl) done.1
   | inr failed ↦ local-step (FailsLocally _ failed.1.0) c.args.local.now c.local.new.self (replied reply.Ok c.local.result) (λ h. refl) failed.1.1
 ]

@@ -7,8 +7,8 @@ use Rattle.mirror.proofs.Opens.{refused-for, may-open}
 use Rattle.mirror.proofs.opening.connect.Goals as goal
 
 pub returns-in_err-open-clause-refused : goal.returns-in_err-open-clause-refused
-returns-in_err-open-clause-refused g c h k has had = refused-for c.args.words.0 c.args.words.1 h c.may_open-2.result c.open.result
-    c.from_residual-in_err-open.result c.in_err-open.field-0.0 (λ e. first_refusal (connect_tests c.args.words.0 c.args.words.1 h k) ≡ Some e)
+returns-in_err-open-clause-refused g c h k has had = refused-for c.args.words.sync c.args.words.loss h c.may_open-2.result c.open.result
+    c.from_residual-in_err-open.result c.in_err-open.field-0.0 (λ e. first_refusal (connect_tests c.args.words.sync c.args.words.loss h k) ≡ Some e)
     (c.may_open-2.ensures h has) (search rules) c.in_err-open.was (c.open.ensures.step.replies h has) (search rules)
 
 pub returns-clause-unchanged : goal.returns-clause-unchanged

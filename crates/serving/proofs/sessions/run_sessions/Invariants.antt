@@ -3,7 +3,7 @@ use Rattle.std.proofs.Common.{List}
 use Rattle.blocks.specs.SettingsRange.{standard}
 use Rattle.handover.specs.Left.{IsUnparted}
 use Rattle.serving.specs.Sessions.{HasCome, IsFirst, opening}
-use Rattle.serving.specs.declared.rest.Rest.{Rest}
+use Rattle.serving.specs.declared.session_end.SessionEnd.{SessionEnd}
 use Rattle.settle.specs.Settled.{WasHonest}
 use Rattle.serving.proofs.sessions.run_sessions.Given as goal
 
@@ -11,7 +11,7 @@ abbrev pub invariant-loop : goal.invariant-loop
 invariant-loop g l = record {
   honest : WasHonest (opening l.rest);
   unparted : IsUnparted (opening l.rest);
-  came : (first : Rest) × (earlier : List Rest)
+  came : (first : SessionEnd) × (earlier : List SessionEnd)
       × (IsFirst (record standard { protocol = l.fn.service.protocol; blocks = l.fn.service.blocks }) l.fn.disks.local.disk l.fn.disks.peer.disk first
       × HasCome first earlier l.rest);
 }

@@ -1,5 +1,4 @@
-use Rattle.std.proofs.Common.{rules, arith}
-use Rattle.std.proofs.lemmas.Grind.{common_steps}
+use Rattle.std.proofs.Common.{rules}
 use Rattle.nbd.proofs.connection.Connection.is_closed.Goals as goal
 
 pub returns-in_default : goal.returns-in_default

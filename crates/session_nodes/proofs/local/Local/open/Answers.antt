@@ -5,15 +5,15 @@ use Rattle.session_nodes.proofs.local.Local.open.Goals as goal
 
 pub invariant_of-result : goal.invariant_of-result
 invariant_of-result g c =
-    had-from g.B.Beginning.opening c.args.words.0 c.args.words.1 c.open.new.self _ c.requires.began
-    (first-over c.args.words.0 c.args.words.1 c.in_ok-node.node c.open.new.self _ (g.O.FrameOut.state c.args.link.0)
+    had-from g.B.Beginning.opening c.args.words.sync c.args.words.loss c.open.new.self _ c.requires.began
+    (first-over c.args.words.sync c.args.words.loss c.in_ok-node.node c.open.new.self _ (g.O.FrameOut.state c.args.link.0)
     (g.I.FrameIn.state c.args.link.1) c.requires.outward c.requires.inward refl
     c.in_ok-node.ensures.history c.in-Ok.ensures.step (ap (λ (v : PrimaryView). v.outgoing) c.in-Ok.ensures.link)
     (ap (λ (v : PrimaryView). v.incoming) c.in-Ok.ensures.link))
 
 pub returns-in-Ok : goal.returns-in-Ok
 returns-in-Ok g c = record {
-  opened = first-over c.args.words.0 c.args.words.1 c.in_ok-node.node c.open.new.self _ (g.O.FrameOut.state c.args.link.0)
+  opened = first-over c.args.words.sync c.args.words.loss c.in_ok-node.node c.open.new.self _ (g.O.FrameOut.state c.args.link.0)
       (g.I.FrameIn.state c.args.link.1) c.requires.outward c.requires.inward refl
       c.in_ok-node.ensures.history c.in-Ok.ensures.step (ap (λ (v : PrimaryView). v.outgoing) c.in-Ok.ensures.link)
       (ap (λ (v : PrimaryView). v.incoming) c.in-Ok.ensures.link);

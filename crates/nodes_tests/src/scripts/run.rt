@@ -20,21 +20,21 @@ pub(crate) fn prints(
 }
 
 /// Checks that standard error has one line.
-pub(crate) fn is_one_line(rt: &impl Abort, errors: &[u8]) {
+pub(crate) fn check_one_line(rt: &impl Abort, errors: &[u8]) {
     let ends = errors.iter().filter(|byte| **byte == b'\n').count();
     assert_eq!(rt; ends, 1);
     assert_eq!(rt; errors.last(), Some(&b'\n'));
 }
 
 /// Checks that the input is no script: nothing is printed, and one line on standard error says so.
-pub(crate) fn is_no_script(rt: &(impl Abort + AllocGlobal), input: &mut impl Read) {
+pub(crate) fn check_no_script(rt: &(impl Abort + AllocGlobal), input: &mut impl Read) {
     let alloc = rt.alloc();
     let mut written = Vec::new(alloc);
     let mut errors = Vec::new(alloc);
     let status = script_on(alloc, input, &mut written, &mut errors);
     assert_eq!(rt; status, 1);
     assert!(rt; written.is_empty());
-    is_one_line(rt, &errors);
+    check_one_line(rt, &errors);
 }
 
 /// Returns the text that was written, so that a failed comparison shows lines.

@@ -39,7 +39,7 @@ fn holds_one_piece<R: Wait, M: RingInvariant>(
 }
 
 /// Checks the same of a row with the invariant `M`.
-fn is_empty_and_then_full<M: RingInvariant, R: Wait + Abort + Copy>(rt: R, alloc: Global)
+fn check_empty_and_then_full<M: RingInvariant, R: Wait + Abort + Copy>(rt: R, alloc: Global)
     requires { M.holds [] [] }
 {
     let (mut outward, mut inward) = row_with_invariant::<R, M>(rt, alloc, 1).expect(
@@ -51,7 +51,7 @@ fn is_empty_and_then_full<M: RingInvariant, R: Wait + Abort + Copy>(rt: R, alloc
 
 #[test]
 fn a_row_with_an_invariant_is_empty_and_then_full(rt: HostRuntime) {
-    is_empty_and_then_full::<Brand, &HostRuntime>(&rt, rt.alloc());
+    check_empty_and_then_full::<Brand, &HostRuntime>(&rt, rt.alloc());
 }
 
 /// Checks that a frame goes through a link with the invariant `M`, which then has none.

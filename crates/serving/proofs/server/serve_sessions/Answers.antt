@@ -1,5 +1,5 @@
 use Rattle.std.proofs.Common.{refl}
-use Rattle.serving.proofs.server.finish.Goals as goal
+use Rattle.serving.proofs.server.serve_sessions.Goals as goal
 
 pub returns-in-Ok : goal.returns-in-Ok
 returns-in-Ok g c = record {

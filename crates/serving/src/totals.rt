@@ -1,0 +1,42 @@
+//! The results of a server's sessions.
+ghost use Rattle.std.specs.Prelude.{◌≡◌};
+ghost use Rattle.serving.specs.Sessions.{counted};
+
+use settle::Settled;
+
+/// The results of a server's sessions.
+#[derive(Clone, Copy, Debug, PartialEq, Eq)]
+pub(crate) struct Totals {
+    /// Writes that were completed.
+    pub(crate) completed: u64,
+    /// Receipts that the settlements confirmed.
+    pub(crate) confirmed: u64,
+    /// Blocks without a mark on which the disks differed, after the last session.
+    pub(crate) unmarked: u32,
+    /// Blocks that were marked after the last session: the peer's image may not have them.
+    pub(crate) marked: u32,
+}
+
+impl Totals {
+    /// The results before the first session.
+    pub(crate) const NOTHING: Totals = Totals {
+        completed: 0,
+        confirmed: 0,
+        unmarked: 0,
+        marked: 0,
+    };
+
+    /// Adds the results of one session, after which this many blocks are marked.
+    pub(crate) fn with_session(&self, completed: usize, settled: Settled, marked: u32) -> Totals
+        ensures completed { result.completed ≡ counted self.now.completed completed }
+        ensures confirmed { result.confirmed ≡ counted self.now.confirmed settled.confirmed }
+        ensures last { (result.unmarked ≡ settled.unmarked) × (result.marked ≡ marked) }
+    {
+        Totals {
+            completed: self.completed.saturating_add(completed as u64),
+            confirmed: self.confirmed.saturating_add(settled.confirmed),
+            unmarked: settled.unmarked,
+            marked,
+        }
+    }
+}
