@@ -1,5 +1,5 @@
 -- What a node did, as a run of its history.
-use Rattle.std.specs.Prelude.{◌≡◌, true, false, List, None, is_some, ◌⊎◌}
+use Rattle.std.specs.Prelude.{◌≡◌, true, false, All, List, None, is_some, ◌⊎◌}
 use Rattle.blocks.specs.Numbered.{is_busy}
 use Rattle.blocks.specs.declared.refusal.Refusal.{Refusal}
 use Rattle.blocks.specs.declared.refusal.Refusal.TheVariants.{NotConnected}
@@ -10,19 +10,21 @@ use Rattle.model.specs.Refusals.{first_refusal}
 use Rattle.model.specs.Secondary.{SecondaryHistory, next_pending}
 use Rattle.primary.specs.State as local
 use Rattle.primary.specs.State.{node as primary_node}
+use Rattle.primary.specs.Work.{IsWork as IsLocalWork}
 use Rattle.primary_protocol.specs.Node as local_node
 use Rattle.secondary.specs.State as peer
+use Rattle.secondary.specs.Work.{IsWork as IsPeerWork}
 use Rattle.secondary_protocol.specs.Node as peer_node
 
--- Whichever history the primary had, some events lead from it to one that it has then.
+-- Whichever history the primary had, some steps of its work lead from it to one that it has then.
 pub record LocalRuns (v w : local.PrimaryView) : Type 0 where
   pub run : (h : PrimaryHistory) → local_node.NodeHas (local.node v) h
-      → (events : List PrimaryEvent) × local_node.NodeHas (local.node w) (primary_run events h)
+      → (events : List PrimaryEvent) × (All IsLocalWork events × local_node.NodeHas (local.node w) (primary_run events h))
 
 -- the same of the secondary
 pub record PeerRuns (v w : peer.SecondaryView) : Type 0 where
   pub run : (h : SecondaryHistory) → peer_node.NodeHas (peer.node v) h
-      → (events : List SecondaryEvent) × peer_node.NodeHas (peer.node w) (secondary_run events h)
+      → (events : List SecondaryEvent) × (All IsPeerWork events × peer_node.NodeHas (peer.node w) (secondary_run events h))
 
 -- a refusal of a step that has nothing to do now, or waits for another one
 abbrev pub IsNoFailure : Refusal → Type 0

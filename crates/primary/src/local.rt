@@ -1,5 +1,5 @@
 //! Writes of the local disk.
-ghost use Rattle.std.specs.Prelude.{◌≡◌, true};
+ghost use Rattle.std.specs.Prelude.{◌≡◌, ◌<◌, true, OnOk};
 ghost use Rattle.blocks.specs.declared.outcome.Reply.TheVariants as reply;
 ghost use Rattle.model.specs.Pair.{local_fault_kept};
 ghost use Rattle.model.specs.Primary.{PrimaryHistory, next_local};
@@ -49,6 +49,7 @@ impl<O: FrameOut + Drop, I: FrameIn + Drop> Primary<O, I, FaultStore> {
     /// `UnknownJob` (16) as for `local`, else `BadRange` (1) if the write has fewer blocks. It takes no memory.
     pub fn local_fault(&mut self, number: u64, kept: u64) -> Result<Done, Refusal>
         ensures step { IsStep (local_fault_kept number kept) (node self.old) (replied reply.Ok result) (node self.new) }
+        ensures counted { OnOk result (self.old.faults < self.new.faults) }
         ensures works { self.old.steady ≡ true → self.new.steady ≡ true }
         ensures rest { self.new ≡ record self.old {
           core = self.new.core;

@@ -1,7 +1,7 @@
 //! Copying marked blocks to the peer.
-ghost use Rattle.std.specs.Prelude.{◌≡◌, true, IfErr, OnErr};
+ghost use Rattle.std.specs.Prelude.{◌≡◌, ◌<◌, true, IfErr, OnErr};
 ghost use Rattle.blocks.specs.declared.outcome.Reply.TheVariants as reply;
-ghost use Rattle.blocks.specs.declared.refusal.Refusal.TheVariants.{NoMemory};
+ghost use Rattle.blocks.specs.declared.refusal.Refusal.TheVariants.{NoMemory, ReadFault};
 ghost use Rattle.endpoint.specs.Calls.{is_out_of_memory};
 ghost use Rattle.model.specs.LocalRuns.{FailsResync};
 ghost use Rattle.primary_protocol.specs.Node.{NodeSteps};
@@ -50,6 +50,7 @@ impl<O: FrameOut + Drop, I: FrameIn + Drop> Primary<O, I, FaultStore> {
     /// afterwards.
     pub fn resync_fault(&mut self) -> Result<Done, Refusal>
         ensures step { NodeSteps (FailsResync (is_out_of_memory result)) (node self.old) (replied reply.Ok result) (node self.new) }
+        ensures counted { IfErr result (λ e. e ≡ ReadFault → self.old.faults < self.new.faults) }
         ensures works { self.old.steady ≡ true → self.new.steady ≡ true }
         ensures rest { self.new ≡ record self.old { faults = self.new.faults; steady = self.new.steady } }
     {

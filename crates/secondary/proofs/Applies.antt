@@ -1,5 +1,5 @@
 -- A node whose disk does an item, or fails it.
-use Rattle.std.proofs.Common.{ℕ, ◌≡◌, ◌+◌, ◌≤◌, Bool, true, List, length, take, Option, Some, None, Result, Ok, Err, refl, sym, ◌∙◌, ap, subst, subst₂, arith}
+use Rattle.std.proofs.Common.{ℕ, ◌≡◌, ◌+◌, ◌≤◌, true, List, length, take, Option, Some, None, Result, Ok, Err, refl, sym, ◌∙◌, ap, subst, subst₂, arith}
 use Rattle.std.specs.Prelude.{is_some}
 use Rattle.blocks.specs.Contents.{blocks_of, overwritten, IsTorn}
 use Rattle.blocks.specs.Faults.{FaultState, written}

@@ -1,5 +1,5 @@
 -- A node that sends what it owes.
-use Rattle.std.proofs.Common.{◌≡◌, ◌⊎◌, inl, inr, Bool, true, false, List, [], ◌∷◌, ◌++◌, Option, Some, None, Result, Ok, Err, refl, sym, ◌∙◌, ap, subst, arith}
+use Rattle.std.proofs.Common.{◌≡◌, ◌⊎◌, inl, inr, true, false, List, [], ◌∷◌, ◌++◌, Option, Some, None, Result, Ok, Err, refl, sym, ◌∙◌, ap, subst, arith}
 use Rattle.std.specs.Prelude.{ok_or, IfSome}
 use Rattle.blocks.specs.declared.refusal.Refusal.{Refusal}
 use Rattle.blocks.specs.declared.refusal.Refusal.TheVariants.{LinkFull, NoMemory, NotConnected, NothingThere}
@@ -17,11 +17,11 @@ use Rattle.model.specs.Frames.{Packet, command_of}
 use Rattle.model.specs.Refusals.{done_with}
 use Rattle.model.specs.LocalRuns.{Acknowledges}
 use Rattle.secondary_protocol.specs.Core.{EndState, SecondaryState, ack_out, due, owed, sent}
-use Rattle.secondary_protocol.specs.Node.{NodeState, NodeIsHad, NodeSteps}
+use Rattle.secondary_protocol.specs.Node.{NodeState, NodeSteps}
 use Rattle.secondary_protocol.specs.Steps.{replied}
 use Rattle.secondary_protocol.proofs.Node.Calls.{due-open, node-pushes, node-full, node-no-memory, node-not-due}
 use Rattle.secondary_protocol.proofs.Node.Runs.{node-had}
-use Rattle.secondary.specs.State.{SecondaryView, node, pushed_of, taken_of, IsDue, IsNumbered, IsNode}
+use Rattle.secondary.specs.State.{SecondaryView, node, pushed_of, IsNumbered, IsNode}
 use Rattle.secondary.proofs.Kept.{due-none}
 
 -- a frame with no blocks is not refused for want of memory

@@ -1,22 +1,19 @@
 -- A node that takes a frame.
-use Rattle.std.proofs.Common.{ℕ, zero, suc, ◌≡◌, Bool, true, false, List, [], ◌∷◌, ◌++◌, length, Option, Some, None, Result, Ok, Err, refl, sym, ◌∙◌, ap, subst}
-use Rattle.std.proofs.Common.{arith, nat_lt, nat_le, ◌==◌, ◌↔◌}
+use Rattle.std.proofs.Common.{ℕ, ◌≡◌, Bool, true, false, List, [], ◌∷◌, ◌++◌, length, Option, Some, None, Result, Ok, Err, refl, sym, ◌∙◌, ap, subst}
+use Rattle.std.proofs.Common.{arith, nat_lt, nat_le, ◌↔◌}
 use Rattle.std.proofs.lemmas.Bool.{both_ways}
 use Rattle.blocks.specs.declared.refusal.Refusal.{Refusal}
 use Rattle.blocks.specs.declared.outcome.Done.{Done}
-use Rattle.model.specs.Frames.{Packet, DataFrame, RsDataReplyFrame, BarrierFrame, ProtocolFrame, UuidsFrame, SizesFrame, SyncUuidFrame, Received}
+use Rattle.model.specs.Frames.{Packet, DataFrame, RsDataReplyFrame, BarrierFrame, UuidsFrame, SyncUuidFrame, Received}
 use Rattle.model.specs.LocalRuns.{Receives}
 use Rattle.endpoint.specs.PacketSender.{PacketSenderState}
 use Rattle.blocks.specs.declared.refusal.Refusal.TheVariants.{NoMemory, NotConnected, NothingThere, PendingFull}
 use Rattle.blocks.specs.declared.outcome.What.{What}
 use Rattle.blocks.specs.declared.outcome.What.TheVariants as what
 use Rattle.blocks.specs.declared.command.Command.TheVariants as command
-use Rattle.model.specs.Acknowledgements.{same_protocol}
 use Rattle.std.specs.Prelude.{is_none, is_some, if◌then◌else◌, IfSome}
 use Rattle.std.specs.Option.{option_map}
 use Rattle.model.specs.Refusals.{first_refusal}
-use Rattle.packets.specs.declared.packet.Packet as packets
-use Rattle.endpoint.specs.Meaning.{received}
 use Rattle.endpoint.specs.Calls.{Takes, TookOne, is_out_of_memory}
 use Rattle.secondary.specs.Calls.{ReceivesOne}
 use Rattle.endpoint.specs.PacketReceiver.{PacketReceiverState, with_received, SameRow}

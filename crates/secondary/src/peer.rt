@@ -1,5 +1,5 @@
 //! Applying items to the disk.
-ghost use Rattle.std.specs.Prelude.{◌≡◌, true};
+ghost use Rattle.std.specs.Prelude.{◌≡◌, ◌<◌, true, OnOk};
 ghost use Rattle.model.specs.Pair.{peer_fault_kept};
 ghost use Rattle.secondary_protocol.specs.Node.{IsStep};
 ghost use Rattle.secondary_protocol.specs.Steps.{replied};
@@ -43,6 +43,7 @@ impl<O: FrameOut + Drop, I: FrameIn + Drop> Secondary<O, I, FaultStore> {
     /// takes no memory.
     pub fn peer_fault(&mut self, place: u32, kept: u64) -> Result<Done, Refusal>
         ensures step { IsStep (peer_fault_kept place kept) (node self.old) (replied (λ done. done) result) (node self.new) }
+        ensures counted { OnOk result (self.old.faults < self.new.faults) }
         ensures works { self.old.steady ≡ true → self.new.steady ≡ true }
         ensures rest { self.new ≡ record self.old {
           core = self.new.core;

@@ -41,6 +41,7 @@ impl<O: FrameOut + Drop, I: FrameIn + Drop, S: Store + Drop> Secondary<O, I, S> 
     /// `ReadFault` (14) if the disk fails.
     pub fn read(&mut self, first: u64, count: u64) -> Result<Vec<u8>, Refusal>
         ensures read { IfOk result (λ bytes. (h : SecondaryHistory) → NodeHas (node self.old) h → IsRead (secondary_map h) first count bytes.items) }
+        ensures within { OnOk result (is_range self.old.core.settings first count ≡ true) }
         ensures rest { self.new ≡ record self.old { faults = self.new.faults; steady = self.new.steady } }
         ensures works { self.old.steady ≡ true → self.new.steady ≡ true }
         // A steady disk does not fail, and nothing changes.

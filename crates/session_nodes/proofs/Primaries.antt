@@ -3,6 +3,7 @@ use Rattle.std.proofs.Common.{ℕ, zero, suc, ◌≡◌, ◌<◌, ◌≤◌, ◌
 use Rattle.std.proofs.Common.{Some, None, slice_get, Ok, refl, sym, ◌∙◌, ap, subst, arith}
 use Rattle.std.specs.Prelude.{unwrap_or, Result, Err, IfOk, IfSome, OnErr, is_some}
 use Rattle.std.proofs.lemmas.List.{length-append}
+use Rattle.std.proofs.lemmas.List.Elements.{All-append, All-cons, All-nil}
 use Rattle.std.proofs.lemmas.Bool.{cases_lt}
 use Rattle.std.proofs.lemmas.Option.{slice_get_within}
 use Rattle.blocks.specs.declared.refusal.Refusal.{Refusal}
@@ -39,6 +40,7 @@ use Rattle.primary_protocol.proofs.Node.Keeps.{closes-keeps, receipts-keeps}
 use Rattle.primary_protocol.proofs.Node.Runs.{opens-to, refused-same}
 use Rattle.primary_protocol.proofs.Node.Takes.{takes-keep}
 use Rattle.primary.specs.State.{IsRestarted, PrimaryView, node}
+use Rattle.primary.specs.Work.{IsWork}
 use Rattle.session_nodes.specs.Traffic.{KnowTraffic}
 use Rattle.session_nodes.proofs.Ends.{NextTraffic, SameEnds, traffic-begins, traffic-first, traffic-stays}
 use Rattle.session_nodes.specs.Primaries.{sent, came, PrimaryHas, PrimaryBegan, PrimaryIsHad, IsPrimaryStep, PrimarySteps, PrimaryRuns}
@@ -216,13 +218,15 @@ steps-over event none step is v w returned same said after = record {
   after = λ h was. subst (PrimaryHas w) (sym (is h)) (has-step event none v w h was same (subst (NodeHas (node w)) (is h) (after h was.has)));
 }
 
--- A step is a run of one event, and runs go on.
-pub runs-step : (event : PrimaryEvent) (v w : PrimaryView) (returned : Reply) → ((h : PrimaryHistory) → (primary_step event h).1 ≡ primary_after event h)
+-- A step of the work is a run of one event, and runs go on.
+pub runs-step : (event : PrimaryEvent) → IsWork event → (v w : PrimaryView) (returned : Reply)
+    → ((h : PrimaryHistory) → (primary_step event h).1 ≡ primary_after event h)
     → PrimarySteps event v returned w → PrimaryRuns v w
-runs-step event v w returned is steps h was = (event ∷ [], subst (PrimaryHas w) (is h) (steps.after h was))
+runs-step event work v w returned is steps h was =
+    (event ∷ [], (All-cons IsWork event [] work (All-nil IsWork), subst (PrimaryHas w) (is h) (steps.after h was)))
 
 pub runs-self : (v : PrimaryView) → PrimaryRuns v v
-runs-self v h was = ([], was)
+runs-self v h was = ([], (All-nil IsWork, was))
 
 run-both : (events more : List PrimaryEvent) (h : PrimaryHistory) → primary_run more (primary_run events h) ≡ primary_run (events ++ more) h
 run-both [] more h = refl
@@ -231,8 +235,8 @@ run-both (event ∷ events) more h = run-both events more (primary_after event h
 pub runs-on : (u v w : PrimaryView) → PrimaryRuns u v → PrimaryRuns v w → PrimaryRuns u w
 runs-on u v w first second h was =
     let one = first h was in
-    let two = second (primary_run one.0 h) one.1 in
-    (one.0 ++ two.0, subst (PrimaryHas w) (run-both one.0 two.0 h) two.1)
+    let two = second (primary_run one.0 h) one.1.1 in
+    (one.0 ++ two.0, (All-append IsWork one.0 two.0 one.1.0 two.1.0, subst (PrimaryHas w) (run-both one.0 two.0 h) two.1.1))
 
 -- A run from an opening goes on.
 began-run : (o : Option Opening) (events : List PrimaryEvent) (h : PrimaryHistory) → PrimaryBegan o h → PrimaryBegan o (primary_run events h)
@@ -243,7 +247,7 @@ began-run (Some opening) events h began =
 pub had-runs : {o : Option Opening} (v w : PrimaryView) → PrimaryIsHad o v → PrimaryRuns v w → PrimaryIsHad o w
 had-runs {o} v w had runs = record {
   history = _;
-  has = (runs had.history had.has).1;
+  has = (runs had.history had.has).1.1;
   began = began-run o (runs had.history had.has).0 had.history had.began;
 }
 

@@ -3,6 +3,7 @@ use Rattle.std.proofs.Common.{ℕ, suc, ◌≡◌, ◌<◌, ◌≤◌, ◌-◌, 
 use Rattle.std.proofs.Common.{Some, None, slice_get, Ok, refl, sym, ◌∙◌, ap, subst, arith, ◌==◌}
 use Rattle.std.specs.Prelude.{Result, Err, IfSome, OnOk, OnErr, find, unwrap_or, is_some}
 use Rattle.std.proofs.lemmas.List.{length-append}
+use Rattle.std.proofs.lemmas.List.Elements.{All-append, All-cons, All-nil}
 use Rattle.std.proofs.lemmas.Bool.{cases_Bool, not-false, and_parts, cases_lt}
 use Rattle.std.proofs.lemmas.Option.{slice_get_cases, slice_get_within}
 use Rattle.blocks.specs.declared.refusal.Refusal.{Refusal}
@@ -35,6 +36,7 @@ use Rattle.secondary_protocol.specs.Steps.{plainly, replied}
 use Rattle.secondary_protocol.specs.Node.{IsReached, NodeHas, NodeSteps, secondary_step}
 use Rattle.secondary_protocol.proofs.Node.Runs.{opens-to, refused-same}
 use Rattle.secondary.specs.State.{IsRestarted, SecondaryView, node}
+use Rattle.secondary.specs.Work.{IsWork}
 use Rattle.session_nodes.specs.Traffic.{KnowTraffic}
 use Rattle.session_nodes.proofs.Ends.{NextTraffic, SameEnds, traffic-begins, traffic-first, traffic-stays}
 use Rattle.session_nodes.specs.Secondaries.{sent, came, SecondaryHas, SecondaryBegan, SecondaryIsHad, SecondarySteps, SecondaryRuns}
@@ -291,14 +293,15 @@ steps-over event none is v w returned same steps = record {
 pub outgoing-stays : (v w : SecondaryView) → w ≡ record v { core = w.core; incoming = w.incoming } → w.outgoing ≡ v.outgoing
 outgoing-stays v w rest = ap (λ (x : SecondaryView). x.outgoing) rest
 
--- A step is a run of one event, and runs go on.
-pub runs-step : (event : SecondaryEvent) (v w : SecondaryView) (returned : Reply)
+-- A step of the work is a run of one event, and runs go on.
+pub runs-step : (event : SecondaryEvent) → IsWork event → (v w : SecondaryView) (returned : Reply)
     → ((h : SecondaryHistory) → (secondary_step event h).1 ≡ secondary_after event h)
     → SecondarySteps event v returned w → SecondaryRuns v w
-runs-step event v w returned is steps h was = (event ∷ [], subst (SecondaryHas w) (is h) (steps.after h was))
+runs-step event work v w returned is steps h was =
+    (event ∷ [], (All-cons IsWork event [] work (All-nil IsWork), subst (SecondaryHas w) (is h) (steps.after h was)))
 
 pub runs-self : (v : SecondaryView) → SecondaryRuns v v
-runs-self v h was = ([], was)
+runs-self v h was = ([], (All-nil IsWork, was))
 
 run-both : (events more : List SecondaryEvent) (h : SecondaryHistory) → secondary_run more (secondary_run events h) ≡ secondary_run (events ++ more) h
 run-both [] more h = refl
@@ -307,8 +310,8 @@ run-both (event ∷ events) more h = run-both events more (secondary_after event
 pub runs-on : (u v w : SecondaryView) → SecondaryRuns u v → SecondaryRuns v w → SecondaryRuns u w
 runs-on u v w first second h was =
     let one = first h was in
-    let two = second (secondary_run one.0 h) one.1 in
-    (one.0 ++ two.0, subst (SecondaryHas w) (run-both one.0 two.0 h) two.1)
+    let two = second (secondary_run one.0 h) one.1.1 in
+    (one.0 ++ two.0, (All-append IsWork one.0 two.0 one.1.0 two.1.0, subst (SecondaryHas w) (run-both one.0 two.0 h) two.1.1))
 
 -- A run from an opening goes on.
 began-run : (o : Option Opening) (events : List SecondaryEvent) (h : SecondaryHistory) → SecondaryBegan o h → SecondaryBegan o (secondary_run events h)
@@ -319,14 +322,18 @@ began-run (Some opening) events h began =
 pub had-runs : {o : Option Opening} (v w : SecondaryView) → SecondaryIsHad o v → SecondaryRuns v w → SecondaryIsHad o w
 had-runs {o} v w had runs = record {
   history = _;
-  has = (runs had.history had.has).1;
+  has = (runs had.history had.has).1.1;
   began = began-run o (runs had.history had.has).0 had.history had.began;
 }
 
 pub had-over : {o : Option Opening} (event : SecondaryEvent) (v w : SecondaryView) (returned : Reply)
     → ((h : SecondaryHistory) → (secondary_step event h).1 ≡ secondary_after event h) → SecondaryIsHad o v → SecondarySteps event v returned w
     → SecondaryIsHad o w
-had-over {o} event v w returned is had steps = had-runs v w had (runs-step event v w returned is steps)
+had-over {o = o} event v w returned is had steps = record {
+  history = (secondary_step event had.history).1;
+  has = steps.after had.history had.has;
+  began = subst (SecondaryBegan o) (sym (is had.history)) (began-run o (event ∷ []) had.history had.began);
+}
 
 -- a node that runs from an opening, of which the caller may know nothing
 pub had-from : (o : Option Opening) (v : SecondaryView) (h : SecondaryHistory) → IfSome o (λ opening. h ≡ secondary_at opening)

@@ -1,5 +1,5 @@
 -- A primary whose connections all went over one link.
-use Rattle.std.specs.Prelude.{ℕ, suc, ◌≡◌, ◌<◌, List, take, Some, None, slice_get, length, true, false, ◌&&◌, Option, is_none, Result}
+use Rattle.std.specs.Prelude.{ℕ, suc, ◌≡◌, ◌<◌, List, take, Some, None, slice_get, length, true, false, ◌&&◌, All, Option, is_none, Result}
 use Rattle.model.specs.Contents.{IsRead}
 use Rattle.model.specs.Primary.{PrimaryConnection, PrimaryHistory, primary_connection_at, frames_due, local_map}
 use Rattle.model.specs.Frames.{Packet, Received}
@@ -10,11 +10,13 @@ use Rattle.blocks.specs.declared.outcome.Done.{Done}
 use Rattle.blocks.specs.declared.outcome.Reply.{Reply}
 use Rattle.blocks.specs.declared.outcome.Reply.TheVariants as reply
 use Rattle.blocks.specs.declared.outcome.What.TheVariants as what
+use Rattle.endpoint.specs.Calls as link
 use Rattle.endpoint.specs.Calls.{is_out_of_memory}
 use Rattle.primary_protocol.specs.Node.{NodeHas, primary_step}
 use Rattle.primary_protocol.specs.Steps.{replied}
 use Rattle.primary_protocol.specs.Transitions.{whole_blocks}
 use Rattle.primary.specs.State.{PrimaryView, node}
+use Rattle.primary.specs.Work.{IsWork}
 use Rattle.session_nodes.specs.Traffic.{KnowTraffic}
 
 -- what the history pushed on the connection with this number, the present one or an earlier one
@@ -59,13 +61,15 @@ pub record IsPrimaryStep {Returned : Type 0} (step : PrimaryHistory → Returned
 abbrev pub PrimarySteps : PrimaryEvent → PrimaryView → Reply → PrimaryView → Type 0
 PrimarySteps event = IsPrimaryStep (primary_step event)
 
--- From every such history that the node refined, some events lead to one that it refines now.
+-- From every such history that the node refined, some steps of its work lead to one that it refines now.
 abbrev pub PrimaryRuns : PrimaryView → PrimaryView → Type 0
-PrimaryRuns v w = (h : PrimaryHistory) → PrimaryHas v h → (events : List PrimaryEvent) × PrimaryHas w (primary_run events h)
+PrimaryRuns v w = (h : PrimaryHistory) → PrimaryHas v h
+    → (events : List PrimaryEvent) × (All IsWork events × PrimaryHas w (primary_run events h))
 
 -- The call was the step of taking some frame, or none.
 pub record PrimaryTakes (result : Result Done Refusal) (v w : PrimaryView) : Type 0 where
   pub frame : Option Received
+  pub link : link.Takes frame result v.incoming w.incoming
   pub step : PrimarySteps (Takes frame (is_none frame && is_out_of_memory result)) v (replied reply.Ok result) w
 
 -- Some primary that began with this opening accepted a write of these bytes from block `first` on, under this number, by the model's

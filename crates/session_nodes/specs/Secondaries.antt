@@ -1,5 +1,5 @@
 -- A secondary whose connections all went over one link.
-use Rattle.std.specs.Prelude.{ℕ, suc, ◌≡◌, ◌<◌, ◌&&◌, List, take, Option, Some, None, Result, is_none, slice_get, length, true}
+use Rattle.std.specs.Prelude.{ℕ, suc, ◌≡◌, ◌<◌, ◌&&◌, All, List, take, Option, Some, None, Result, is_none, slice_get, length, true}
 use Rattle.model.specs.Secondary.{SecondaryConnection, SecondaryHistory, secondary_connection, secondary_connection_at, answers_due}
 use Rattle.model.specs.Frames.{Packet, Received}
 use Rattle.model.specs.LocalRuns.{SecondaryEvent, Receives, secondary_run}
@@ -7,10 +7,12 @@ use Rattle.model.specs.Theorems.{Opening, secondary_at}
 use Rattle.blocks.specs.declared.refusal.Refusal.{Refusal}
 use Rattle.blocks.specs.declared.outcome.Done.{Done}
 use Rattle.blocks.specs.declared.outcome.Reply.{Reply}
+use Rattle.endpoint.specs.Calls as link
 use Rattle.endpoint.specs.Calls.{is_out_of_memory}
 use Rattle.secondary_protocol.specs.Node.{NodeHas, secondary_step}
 use Rattle.secondary_protocol.specs.Steps.{replied}
 use Rattle.secondary.specs.State.{SecondaryView, node}
+use Rattle.secondary.specs.Work.{IsWork}
 use Rattle.session_nodes.specs.Traffic.{KnowTraffic}
 
 -- what the history pushed on the connection with this number, the present one or an earlier one
@@ -55,11 +57,13 @@ pub record IsSecondaryStep {Returned : Type 0} (step : SecondaryHistory → Retu
 abbrev pub SecondarySteps : SecondaryEvent → SecondaryView → Reply → SecondaryView → Type 0
 SecondarySteps event = IsSecondaryStep (secondary_step event)
 
--- From every such history that the node refined, some events lead to one that it refines now.
+-- From every such history that the node refined, some steps of its work lead to one that it refines now.
 abbrev pub SecondaryRuns : SecondaryView → SecondaryView → Type 0
-SecondaryRuns v w = (h : SecondaryHistory) → SecondaryHas v h → (events : List SecondaryEvent) × SecondaryHas w (secondary_run events h)
+SecondaryRuns v w = (h : SecondaryHistory) → SecondaryHas v h
+    → (events : List SecondaryEvent) × (All IsWork events × SecondaryHas w (secondary_run events h))
 
 -- The call was the step of taking some frame, or none.
 pub record SecondaryReceives (result : Result Done Refusal) (v w : SecondaryView) : Type 0 where
   pub frame : Option Received
+  pub link : link.Takes frame result v.incoming w.incoming
   pub step : SecondarySteps (Receives frame (is_none frame && is_out_of_memory result)) v (replied (λ done. done) result) w

@@ -1,15 +1,17 @@
 //! The primary under its lock.
-ghost use Rattle.std.specs.Prelude.{◌≡◌, ◌<◌, ◌≤◌, ◌*◌, ◌⊎◌, false, None, Some, Err, if◌then◌else◌, slice_get, unwrap_or, vec_len, IfOk, IfErr, IfSome, OnOk, OnErr};
+ghost use Rattle.std.specs.Prelude.{◌≡◌, ◌<◌, ◌≤◌, ◌*◌, ◌⊎◌, true, false, None, Some, Err, if◌then◌else◌, slice_get, unwrap_or, vec_len, IfOk, IfErr, IfSome, OnOk, OnErr};
 ghost use Rattle.blocks.specs.declared.outcome.Reply.{Reply};
 ghost use Rattle.blocks.specs.declared.outcome.Reply.TheVariants as reply;
 ghost use Rattle.blocks.specs.declared.outcome.What.TheVariants as what;
 ghost use Rattle.blocks.specs.declared.refusal.Refusal.TheVariants.{BadRange, NoMemory, NothingThere, ReadFault};
+ghost use Rattle.endpoint.specs.Calls as link;
 ghost use Rattle.endpoint.specs.Calls.{IsNewIn, IsNewOut, has_room, is_out_of_memory};
-ghost use Rattle.model.specs.Contents.{IsRead};
+ghost use Rattle.model.specs.Contents.{IsRead, is_range};
 ghost use Rattle.model.specs.LocalRuns.{Closes, Opens, Sends, Submits, primary_after};
 ghost use Rattle.model.specs.Primary.{PrimaryHistory, local_map, next_local, primary_opening};
 ghost use Rattle.model.specs.Theorems.{primary_at};
-ghost use Rattle.primary.specs.Calls.{WritesOne};
+ghost use Rattle.primary.specs.Calls.{CopiesOne, WritesOne};
+ghost use Rattle.primary_core.specs.Send.{owes_blocks};
 ghost use Rattle.primary_protocol.specs.Node.{take_receipt};
 ghost use Rattle.primary_protocol.specs.Steps.{plainly, replied};
 ghost use Rattle.primary_protocol.specs.Transitions.{whole_blocks};
@@ -100,8 +102,11 @@ impl<B: Beginning, O: FrameOut + Drop, I: FrameIn + Drop, S: Store + Drop> Local
     pub fn read(&mut self, first: u64, count: u64) -> Result<Vec<u8>, Refusal>
         ensures read { IfOk result (λ bytes. (h : PrimaryHistory) → PrimaryHas self.old h → IsRead (local_map h) first count bytes.items) }
         ensures held { IfOk result (λ bytes. HasHeld B.opening first count bytes.items) }
+        ensures within { OnOk result (is_range self.old.core.settings first count ≡ true) }
         ensures length { IfOk result (λ bytes. vec_len bytes ≡ count * 4096) }
-        ensures refused { IfErr result (λ e. (e ≡ BadRange) ⊎ ((e ≡ NoMemory) ⊎ (e ≡ ReadFault))) }
+        ensures refused { IfErr result (λ e. ((e ≡ BadRange) × (is_range self.old.core.settings first count ≡ false))
+            ⊎ (((e ≡ NoMemory) × (is_range self.old.core.settings first count ≡ true))
+            ⊎ ((e ≡ ReadFault) × (is_range self.old.core.settings first count ≡ true) × (self.old.faults < self.new.faults)))) }
         ensures kept { (h : PrimaryHistory) → PrimaryHas self.old h → PrimaryHas self.new h }
     {
         self.node.read(first, count)
@@ -111,6 +116,8 @@ impl<B: Beginning, O: FrameOut + Drop, I: FrameIn + Drop, S: Store + Drop> Local
     pub fn send(&mut self) -> Result<Done, Refusal>
         ensures step { PrimarySteps (Sends (has_room result) (is_out_of_memory result)) self.old (replied reply.Ok result) self.new }
         ensures runs { PrimaryRuns self.old self.new }
+        ensures link { link.Sends result self.old.outgoing self.new.outgoing }
+        ensures memory { IfErr result (λ e. e ≡ NoMemory → owes_blocks self.old.core ≡ true) }
     {
         self.node.send()
     }
@@ -147,6 +154,7 @@ impl<B: Beginning, O: FrameOut + Drop, I: FrameIn + Drop, S: Store + Drop> Local
     /// `Primary::resync_next`.
     pub fn resync_next(&mut self) -> Result<Done, Refusal>
         ensures runs { PrimaryRuns self.old self.new }
+        ensures copies { CopiesOne result self.old self.new }
     {
         self.node.resync_next()
     }

@@ -1,8 +1,8 @@
 //! The secondary under its lock.
-ghost use Rattle.std.specs.Prelude.{◌≡◌, ◌-◌, ◌+◌, ◌<◌, ◌≤◌, ◌&&◌, true, false, None, Err, slice_get, IfErr, IfOk, IfSome, OnErr, OnOk};
+ghost use Rattle.std.specs.Prelude.{◌≡◌, ◌≢◌, ◌-◌, ◌+◌, ◌<◌, ◌≤◌, ◌&&◌, true, false, None, Err, slice_get, IfErr, IfOk, IfSome, OnErr, OnOk};
 ghost use Rattle.blocks.specs.declared.outcome.Reply.{Reply};
-ghost use Rattle.blocks.specs.declared.refusal.Refusal.TheVariants.{NotDrained, NothingThere};
-ghost use Rattle.endpoint.specs.Calls.{IsNewIn, IsNewOut, has_room, is_out_of_memory};
+ghost use Rattle.blocks.specs.declared.refusal.Refusal.TheVariants.{NoMemory, NotDrained, NothingThere};
+ghost use Rattle.endpoint.specs.Calls.{IsNewIn, IsNewOut, Sends, has_room, is_out_of_memory};
 ghost use Rattle.model.specs.LocalRuns.{Acknowledges, ClosesToo, OpensToo, secondary_after};
 ghost use Rattle.model.specs.Secondary.{SecondaryHistory, secondary_connection, secondary_opening, is_drained, next_pending};
 ghost use Rattle.model.specs.Theorems.{secondary_at};
@@ -83,6 +83,8 @@ impl<B: Beginning, O: FrameOut + Drop, I: FrameIn + Drop, S: Store + Drop> Peer<
     pub fn ack_out(&mut self) -> Result<Done, Refusal>
         ensures step { SecondarySteps (Acknowledges (has_room result) (is_out_of_memory result)) self.old (replied (λ done. done) result) self.new }
         ensures runs { SecondaryRuns self.old self.new }
+        ensures link { Sends result self.old.outgoing self.new.outgoing }
+        ensures memory { IfErr result (λ e. e ≢ NoMemory) }
     {
         self.node.ack_out()
     }

@@ -12,8 +12,8 @@ returns-clause-runs g c =
     let returned = replied reply.Ok c.resync_next.result in
     let out_of_memory = is_out_of_memory c.resync_next.result in
     elim c.resync_next.ensures.step [
-      | inl done ↦ local-step (Resyncs out_of_memory) c.args.local.now c.resync_next.new.self returned (λ h. refl) done.1
-      | inr failed ↦ local-step (FailsResync out_of_memory) c.args.local.now c.resync_next.new.self returned (λ h. refl) failed.1
+      | inl done ↦ local-step (Resyncs out_of_memory) tt c.args.local.now c.resync_next.new.self returned (λ h. refl) done.1
+      | inr failed ↦ local-step (FailsResync out_of_memory) tt c.args.local.now c.resync_next.new.self returned (λ h. refl) failed.1
     ]
 
 pub returns-clause-copied : goal.returns-clause-copied

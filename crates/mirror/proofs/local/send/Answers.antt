@@ -7,5 +7,5 @@ use Rattle.mirror.proofs.Runs.{local-step}
 use Rattle.mirror.proofs.local.send.Goals as goal
 
 pub returns-clause-runs : goal.returns-clause-runs
-returns-clause-runs g c = local-step (Sends (has_room c.send.result) (is_out_of_memory c.send.result)) c.args.local.now c.send.new.self (replied reply.Ok c.send.result)
-    (λ h. refl) c.send.ensures.step
+returns-clause-runs g c = local-step (Sends (has_room c.send.result) (is_out_of_memory c.send.result)) tt c.args.local.now c.send.new.self
+    (replied reply.Ok c.send.result) (λ h. refl) c.send.ensures.step

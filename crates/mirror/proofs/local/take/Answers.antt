@@ -9,5 +9,5 @@ use Rattle.mirror.proofs.local.take.Goals as goal
 pub returns-clause-runs : goal.returns-clause-runs
 returns-clause-runs g c =
     let took = c.ack_in.ensures.step in
-    local-step (Takes took.frame (is_none took.frame && is_out_of_memory c.ack_in.result)) c.args.local.now c.ack_in.new.self (replied reply.Ok c.ack_in.result)
-    (λ h. refl) took.step
+    local-step (Takes took.frame (is_none took.frame && is_out_of_memory c.ack_in.result)) tt c.args.local.now c.ack_in.new.self
+    (replied reply.Ok c.ack_in.result) (λ h. refl) took.step

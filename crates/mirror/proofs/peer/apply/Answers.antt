@@ -6,6 +6,6 @@ use Rattle.mirror.proofs.peer.apply.Goals as goal
 
 pub returns-in-Ok-clause-runs : goal.returns-in-Ok-clause-runs
 returns-in-Ok-clause-runs g c = elim c.peer.ensures.step [
-  | inl done ↦ peer-step (Applies _) c.args.peer.now c.peer.new.self (replied (λ done. done) c.peer.result) (λ h. refl) done.1
-  | inr failed ↦ peer-step (FailsToApply _ failed.1.0) c.args.peer.now c.peer.new.self (replied (λ done. done) c.peer.result) (λ h. refl) failed.1.1
+  | inl done ↦ peer-step (Applies _) tt c.args.peer.now c.peer.new.self (replied (λ done. done) c.peer.result) (λ h. refl) done.1
+  | inr failed ↦ peer-step (FailsToApply _ failed.1.0) tt c.args.peer.now c.peer.new.self (replied (λ done. done) c.peer.result) (λ h. refl) failed.1.1
 ]

@@ -6,5 +6,5 @@ use Rattle.mirror.proofs.Runs.{peer-step}
 use Rattle.mirror.proofs.peer.send.Goals as goal
 
 pub returns-clause-runs : goal.returns-clause-runs
-returns-clause-runs g c = peer-step (Acknowledges (has_room c.ack_out.result) (is_out_of_memory c.ack_out.result)) c.args.peer.now c.ack_out.new.self
+returns-clause-runs g c = peer-step (Acknowledges (has_room c.ack_out.result) (is_out_of_memory c.ack_out.result)) tt c.args.peer.now c.ack_out.new.self
     (replied (λ done. done) c.ack_out.result) (λ h. refl) c.ack_out.ensures.step

@@ -8,5 +8,5 @@ use Rattle.mirror.proofs.peer.take.Goals as goal
 pub returns-clause-runs : goal.returns-clause-runs
 returns-clause-runs g c =
     let took = c.receive.ensures.step in
-    peer-step (Receives took.frame (is_none took.frame && is_out_of_memory c.receive.result)) c.args.peer.now c.receive.new.self
+    peer-step (Receives took.frame (is_none took.frame && is_out_of_memory c.receive.result)) tt c.args.peer.now c.receive.new.self
     (replied (λ done. done) c.receive.result) (λ h. refl) took.step

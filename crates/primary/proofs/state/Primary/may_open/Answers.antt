@@ -1,4 +1,4 @@
-use Rattle.std.proofs.Common.{◌≡◌, ◌∙◌, sym, ap, false, subst}
+use Rattle.std.proofs.Common.{◌∙◌, sym, ap, false, subst}
 use Rattle.endpoint.specs.Calls.{refusal_in}
 use Rattle.model.specs.Refusals.{first_refusal}
 use Rattle.primary_protocol.specs.Node.{NodeHas}

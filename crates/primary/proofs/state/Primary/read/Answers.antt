@@ -47,3 +47,6 @@ loop-offset-preserved g c =
       size = more.0;
       read = more.1;
     }
+
+pub returns-clause-within : goal.returns-clause-within
+returns-clause-within g c = one-range _ _ _ _ _ c.self.invariant c.self.view_is c.blocks-2.ensures (c.in_ok-range.ensures.accepted.0 refl)

@@ -16,6 +16,7 @@ takes-over g c =
     let event = Takes took.frame (is_none took.frame && is_out_of_memory c.ack_in.result) in
     record {
       frame = took.frame;
+      link = took.link;
       step = steps-over event tt (primary_step event) (λ h. refl) c.self.inside.node c.ack_in.new.self (replied reply.Ok c.ack_in.result)
           (ends-took c.ack_in.result took.frame took.link (ap (λ (v : PrimaryView). v.outgoing) c.ack_in.ensures.rest))
           took.step.replies took.step.after;
@@ -31,6 +32,6 @@ invariant_of-self g c =
 pub returns : goal.returns
 returns g c = rw (← c.self.view_is) (record {
   step = takes-over g c;
-  runs = let took = c.ack_in.ensures.step in runs-step (Takes took.frame (is_none took.frame && is_out_of_memory c.ack_in.result)) c.self.inside.node
+  runs = let took = c.ack_in.ensures.step in runs-step (Takes took.frame (is_none took.frame && is_out_of_memory c.ack_in.result)) tt c.self.inside.node
       c.ack_in.new.self (replied reply.Ok c.ack_in.result) (λ h. refl) (takes-over g c).step;
 })

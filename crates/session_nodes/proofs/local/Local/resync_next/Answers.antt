@@ -17,11 +17,11 @@ same g c = ends-of (ap (λ (x : PrimaryView). x.outgoing) c.resync_next.ensures.
 
 abbrev ran : (g : _) (c : goal.After-resync_next g) → PrimaryRuns c.self.inside.node c.resync_next.new.self
 ran g c = elim c.resync_next.ensures.step [
-  | inl done ↦ runs-step (Resyncs (is_out_of_memory c.resync_next.result)) c.self.inside.node c.resync_next.new.self (replied reply.Ok c.resync_next.result)
+  | inl done ↦ runs-step (Resyncs (is_out_of_memory c.resync_next.result)) tt c.self.inside.node c.resync_next.new.self (replied reply.Ok c.resync_next.result)
       (λ h. refl)
       (steps-over (Resyncs (is_out_of_memory c.resync_next.result)) tt (primary_step (Resyncs (is_out_of_memory c.resync_next.result)))
       (λ h. refl) c.self.inside.node c.resync_next.new.self (replied reply.Ok c.resync_next.result) (same g c) done.1.replies done.1.after)
-  | inr failed ↦ runs-step (FailsResync (is_out_of_memory c.resync_next.result)) c.self.inside.node c.resync_next.new.self
+  | inr failed ↦ runs-step (FailsResync (is_out_of_memory c.resync_next.result)) tt c.self.inside.node c.resync_next.new.self
       (replied reply.Ok c.resync_next.result)
       (λ h. refl)
       (steps-over (FailsResync (is_out_of_memory c.resync_next.result)) tt (primary_step (FailsResync (is_out_of_memory c.resync_next.result)))
@@ -32,4 +32,4 @@ pub invariant_of-self : goal.invariant_of-self
 invariant_of-self g c = had-runs c.self.inside.node c.resync_next.new.self c.self.invariant (ran g c)
 
 pub returns : goal.returns
-returns g c = rw (← c.self.view_is) (record { runs = ran g c })
+returns g c = rw (← c.self.view_is) (record { runs = ran g c; copies = c.resync_next.ensures.step })

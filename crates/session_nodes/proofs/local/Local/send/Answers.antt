@@ -1,8 +1,11 @@
-use Rattle.std.proofs.Common.{refl, ap}
+use Rattle.std.proofs.Common.{◌≡◌, true, refl, ap, subst}
+use Rattle.std.specs.Prelude.{IfErr}
 use Rattle.blocks.specs.declared.outcome.Reply.TheVariants as reply
+use Rattle.blocks.specs.declared.refusal.Refusal.TheVariants.{NoMemory}
 use Rattle.endpoint.specs.Calls.{has_room, is_out_of_memory}
 use Rattle.model.specs.LocalRuns.{Sends}
 use Rattle.primary.specs.State.{PrimaryView}
+use Rattle.primary_core.specs.Send.{owes_blocks}
 use Rattle.primary_protocol.specs.Node.{primary_step}
 use Rattle.primary_protocol.specs.Steps.{replied}
 use Rattle.session_nodes.specs.Primaries.{PrimarySteps}
@@ -24,10 +27,14 @@ invariant_of-self g c = had-over (Sends (has_room c.send.result) (is_out_of_memo
     (primary_step (Sends (has_room c.send.result) (is_out_of_memory c.send.result))) c.self.inside.node c.send.new.self
     (replied reply.Ok c.send.result) (λ h. refl) c.self.invariant (step-over g c)
 
-pub returns : goal.returns
-returns g c = rw (← c.self.view_is)
-    (record {
-      step = step-over g c;
-      runs = runs-step (Sends (has_room c.send.result) (is_out_of_memory c.send.result)) c.self.inside.node c.send.new.self
-          (replied reply.Ok c.send.result) (λ h. refl) (step-over g c);
-    })
+pub returns-clause-step : goal.returns-clause-step
+returns-clause-step g c = rw (← c.self.view_is) (step-over g c)
+
+pub returns-clause-runs : goal.returns-clause-runs
+returns-clause-runs g c = rw (← c.self.view_is)
+    (runs-step (Sends (has_room c.send.result) (is_out_of_memory c.send.result)) tt c.self.inside.node c.send.new.self
+    (replied reply.Ok c.send.result) (λ h. refl) (step-over g c))
+
+pub returns-clause-memory : goal.returns-clause-memory
+returns-clause-memory g c = subst (λ (v : PrimaryView). IfErr c.send.result (λ e. e ≡ NoMemory → owes_blocks v.core ≡ true)) c.self.view_is
+    c.send.ensures.memory

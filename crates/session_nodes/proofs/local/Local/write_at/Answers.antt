@@ -16,10 +16,10 @@ same g c = ends-of (ap (λ (x : PrimaryView). x.outgoing) c.local.ensures.rest)
 
 abbrev ran : (g : _) (c : goal.After-local g) → PrimaryRuns c.self.inside.node c.local.new.self
 ran g c = elim c.local.ensures.step [
-  | inl done ↦ runs-step (WritesLocally c.args.number) c.self.inside.node c.local.new.self (replied reply.Ok c.local.result) (λ h. refl)
+  | inl done ↦ runs-step (WritesLocally c.args.number) tt c.self.inside.node c.local.new.self (replied reply.Ok c.local.result) (λ h. refl)
       (steps-over (WritesLocally c.args.number) tt (primary_step (WritesLocally c.args.number)) (λ h. refl) c.self.inside.node c.local.new.self
       (replied reply.Ok c.local.result) (same g c) done.1.replies done.1.after)
-  | inr failed ↦ runs-step (FailsLocally c.args.number failed.1.0) c.self.inside.node c.local.new.self (replied reply.Ok c.local.result) (λ h. refl)
+  | inr failed ↦ runs-step (FailsLocally c.args.number failed.1.0) tt c.self.inside.node c.local.new.self (replied reply.Ok c.local.result) (λ h. refl)
       (steps-over (FailsLocally c.args.number failed.1.0) tt (primary_step (FailsLocally c.args.number failed.1.0))
       (λ h. refl) c.self.inside.node c.local.new.self (replied reply.Ok c.local.result) (same g c) failed.1.1.replies failed.1.1.after)
 ]

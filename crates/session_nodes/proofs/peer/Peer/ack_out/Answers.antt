@@ -24,6 +24,8 @@ invariant_of-self g c = had-over (Acknowledges (has_room c.ack_out.result) (is_o
 pub returns : goal.returns
 returns g c = rw (← c.self.view_is) (record {
   step = step-over g c;
-  runs = runs-step (Acknowledges (has_room c.ack_out.result) (is_out_of_memory c.ack_out.result)) c.self.inside.node c.ack_out.new.self
+  runs = runs-step (Acknowledges (has_room c.ack_out.result) (is_out_of_memory c.ack_out.result)) tt c.self.inside.node c.ack_out.new.self
       (replied (λ done. done) c.ack_out.result) (λ h. refl) (step-over g c);
+  link = c.ack_out.ensures.link;
+  memory = c.ack_out.ensures.memory;
 })

@@ -14,9 +14,9 @@ same g c = ends-of (ap (λ (x : SecondaryView). x.outgoing) c.peer.ensures.rest)
 
 abbrev ran : (g : _) (c : goal.After-peer g) → SecondaryRuns c.self.inside.node c.peer.new.self
 ran g c = elim c.peer.ensures.step [
-  | inl done ↦ runs-step (Applies c.args.place) c.self.inside.node c.peer.new.self (replied (λ done. done) c.peer.result) (λ h. refl)
+  | inl done ↦ runs-step (Applies c.args.place) tt c.self.inside.node c.peer.new.self (replied (λ done. done) c.peer.result) (λ h. refl)
       (steps-over (Applies c.args.place) tt (λ h. refl) c.self.inside.node c.peer.new.self (replied (λ done. done) c.peer.result) (same g c) done.1)
-  | inr failed ↦ runs-step (FailsToApply c.args.place failed.1.0) c.self.inside.node c.peer.new.self (replied (λ done. done) c.peer.result) (λ h. refl)
+  | inr failed ↦ runs-step (FailsToApply c.args.place failed.1.0) tt c.self.inside.node c.peer.new.self (replied (λ done. done) c.peer.result) (λ h. refl)
       (steps-over (FailsToApply c.args.place failed.1.0) tt (λ h. refl) c.self.inside.node c.peer.new.self (replied (λ done. done) c.peer.result)
       (same g c) failed.1.1)
 ]

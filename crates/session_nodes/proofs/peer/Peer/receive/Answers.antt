@@ -12,6 +12,7 @@ takes-over g c =
     let took = c.receive.ensures.step in
     record {
       frame = took.frame;
+      link = took.link;
       step = steps-over (Receives took.frame (is_none took.frame && is_out_of_memory c.receive.result)) tt (λ h. refl) c.self.inside.node c.receive.new.self
           (replied (λ done. done) c.receive.result)
           (ends-took c.receive.result took.frame took.link
@@ -27,6 +28,6 @@ invariant_of-self g c =
 pub returns : goal.returns
 returns g c = rw (← c.self.view_is) (record {
   step = takes-over g c;
-  runs = let took = c.receive.ensures.step in runs-step (Receives took.frame (is_none took.frame && is_out_of_memory c.receive.result)) c.self.inside.node
+  runs = let took = c.receive.ensures.step in runs-step (Receives took.frame (is_none took.frame && is_out_of_memory c.receive.result)) tt c.self.inside.node
       c.receive.new.self (replied (λ done. done) c.receive.result) (λ h. refl) (takes-over g c).step;
 })
