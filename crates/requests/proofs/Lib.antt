@@ -1,2 +1,3 @@
--- What a request's receipts are.
+-- What a request's receipts are, and requests of which nothing was begun.
 pub mod Appending
+pub mod Fronts

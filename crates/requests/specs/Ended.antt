@@ -1,5 +1,5 @@
 -- A request that has ended.
-use Rattle.std.specs.Prelude.{Bool, true, false, ℕ, ◌*◌, List, [], Vec, Result, Ok, Err}
+use Rattle.std.specs.Prelude.{Bool, true, false, ℕ, ◌*◌, List, [], Vec, Option, Some, None, Result, Ok, Err}
 use Rattle.std.specs.Global.{Global}
 use Rattle.nbd.specs.declared.command.Command.{Command}
 use Rattle.nbd.specs.declared.command.Command.TheVariants.{Read, Write, Disconnect, Flush, WriteZeroes}
@@ -32,8 +32,14 @@ abbrev pub read_bytes : Result (Vec ℕ Global) Errno → List ℕ
 read_bytes (Ok bytes) = bytes.items
 read_bytes (Err errno) = []
 
--- the request, whether it was done, and the bytes that its reply has
+-- why it failed, if it did
+abbrev pub read_error : Result (Vec ℕ Global) Errno → Option Errno
+read_error (Ok bytes) = None
+read_error (Err errno) = Some errno
+
+-- the request, whether it was done, the bytes that its reply has, and why it failed: no error exactly if it was done
 pub record EndedState : Type 0 where
   pub request : Request
   pub is_done : Bool
   pub bytes : List ℕ
+  pub error : Option Errno

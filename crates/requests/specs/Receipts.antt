@@ -1,5 +1,5 @@
 -- The receipts of what a request writes.
-use Rattle.std.specs.Prelude.{true, ℕ, ◌≡◌, ◌*◌, List, [], ◌∷◌, ◌++◌, All, flat_map, length, map, replicate, Result, is_ok, OnOk}
+use Rattle.std.specs.Prelude.{true, ℕ, ◌≡◌, ◌⊎◌, ◌*◌, List, [], ◌∷◌, ◌++◌, All, flat_map, length, map, replicate, Result, is_ok, OnOk}
 use Rattle.model.specs.Settlement.{Receipt}
 use Rattle.nbd.specs.Pieces.{pieces}
 use Rattle.nbd.specs.declared.command.Command.TheVariants as command
@@ -47,6 +47,13 @@ pub record HasMore {A B : Type 0} (of : A → B) (wanted : List B) (old new : Li
   pub appended : new ≡ old ++ more
   pub each : map of more ≡ wanted
 
+-- A front of these was appended, each of them in its turn, and nothing else.
+pub record HasFront {A B : Type 0} (of : A → B) (wanted : List B) (old new : List A) : Type 0 where
+  pub more : List A
+  pub rest : List B
+  pub appended : new ≡ old ++ more
+  pub each : map of more ++ rest ≡ wanted
+
 -- What was begun is all that a WRITE or WRITE_ZEROES writes: each range has its part of the payload, one after another from
 -- its front, or zeros.
 pub record HasBegun (request : Request) (begun : List BegunState) : Type 0 where
@@ -56,7 +63,19 @@ pub record HasBegun (request : Request) (begun : List BegunState) : Type 0 where
   pub zeroed : request.command ≡ command.WriteZeroes → map span_of begun ≡ pieces request.first_block request.block_count
   pub zeros : request.command ≡ command.WriteZeroes → All IsZeros begun
 
--- What was begun, and whether all was: a FLUSH begins nothing, and that is not refused.
+-- What was begun for a request, all of it or a front: of a WRITE its first ranges, each with its part of the payload, and of a
+-- WRITE_ZEROES the first ones with zeros. Any other command writes nothing.
+pub record IsFrontOf (request : Request) (begun : List BegunState) : Type 0 where
+  pub written : request.command ≡ command.Write → (more : List (ℕ × ℕ)) × (map span_of begun ++ more ≡ pieces request.first_block request.block_count)
+  pub contents : request.command ≡ command.Write → (rest : List ℕ) × (begun_bytes begun ++ rest ≡ request.payload)
+  pub whole : request.command ≡ command.Write → All IsWhole begun
+  pub zeroed : request.command ≡ command.WriteZeroes → (more : List (ℕ × ℕ)) × (map span_of begun ++ more ≡ pieces request.first_block request.block_count)
+  pub zeros : request.command ≡ command.WriteZeroes → All IsZeros begun
+  pub nothing : (request.command ≡ command.Read) ⊎ ((request.command ≡ command.Flush) ⊎ (request.command ≡ command.Disconnect)) → begun ≡ []
+
+-- What was begun, and whether all was: a front of it if not. A FLUSH and a DISC begin nothing, and that is not refused.
 pub record Begins (request : Request) (begins : Result Unit Errno) (begun : List BegunState) : Type 0 where
   pub all : OnOk begins (HasBegun request begun)
-  pub flush : request.command ≡ command.Flush → (is_ok begins ≡ true) × (begun ≡ [])
+  pub front : IsFrontOf request begun
+  pub flush : request.command ≡ command.Flush → is_ok begins ≡ true
+  pub disconnect : request.command ≡ command.Disconnect → is_ok begins ≡ true

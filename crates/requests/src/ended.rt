@@ -18,11 +18,11 @@ pub struct Ended {
 
 impl Model for Ended {
     ghost use Rattle.std.specs.Prelude.{◌≡◌, vec_len, is_ok, IfOk};
-    ghost use Rattle.requests.specs.Ended.{EndedState, data_bytes, read_bytes};
+    ghost use Rattle.requests.specs.Ended.{EndedState, data_bytes, read_bytes, read_error};
 
     ghost Value = { EndedState };
 
-    ghost view = { λ e. record { request = e.request; is_done = is_ok e.result; bytes = read_bytes e.result } };
+    ghost view = { λ e. record { request = e.request; is_done = is_ok e.result; bytes = read_bytes e.result; error = read_error e.result } };
 
     ghost invariant = { λ e. IfOk e.result (λ bytes. vec_len bytes ≡ data_bytes e.request.command e.request.block_count) };
 }

@@ -1,8 +1,10 @@
 //! Reading ranges of a device, and beginning to write them, one after another.
-ghost use Rattle.std.specs.Prelude.{◌≡◌, ◌*◌, ◌<◌, ◌^◌, ◌++◌, All, List, ℕ, length, vec_len, IfOk, OnOk};
+ghost use Rattle.std.specs.Prelude.{◌≡◌, ◌*◌, ◌<◌, ◌^◌, ◌++◌, All, List, ℕ, length, vec_len, IfOk, OnOk, OnErr};
+ghost use Rattle.blocks.specs.declared.refusal.Refusal.TheVariants.{BadRange, NoMemory};
 ghost use Rattle.nbd.specs.Pieces.{pair_of};
+ghost use Rattle.nbd.specs.declared.errno.Errno.TheVariants as errno;
 ghost use Rattle.requests.specs.Reads.{AreHeld};
-ghost use Rattle.requests.specs.Receipts.{BeginsOne, HasMore, IsAccepted, IsWhole, IsZeros, begun_bytes, span_of};
+ghost use Rattle.requests.specs.Receipts.{BeginsOne, HasFront, HasMore, IsAccepted, IsWhole, IsZeros, begun_bytes, span_of};
 
 use crate::payload::front;
 use crate::requests::Requests;
@@ -51,7 +53,7 @@ fn read_range<D: Device>(device: &D, range: Range) -> Result<Vec<u8>, Errno>
     }
 }
 
-/// Begins to write the payload to these ranges, each from the place in it where the one before ends.
+/// Begins to write the payload to these ranges, each from the place in it where the one before ends, until one is refused.
 pub(crate) fn begin_write<D: Device>(
     requests: &Requests,
     device: &D,
@@ -60,8 +62,9 @@ pub(crate) fn begin_write<D: Device>(
     begun: &mut Vec<Begun>,
 ) -> Result<(), Errno>
     ensures ranges { OnOk result (HasMore span_of ranges begun.old.items begun.new.items) }
-    ensures contents { OnOk result ((rest : List ℕ) × (begun_bytes begun.new.items ++ rest ≡ begun_bytes begun.old.items ++ payload)) }
-    ensures whole { OnOk result (All IsWhole begun.old.items → All IsWhole begun.new.items) }
+    ensures front { HasFront span_of ranges begun.old.items begun.new.items }
+    ensures contents { (rest : List ℕ) × (begun_bytes begun.new.items ++ rest ≡ begun_bytes begun.old.items ++ payload) }
+    ensures whole { All IsWhole begun.old.items → All IsWhole begun.new.items }
     ensures accepted { All (IsAccepted D.accepts) begun.old.items → All (IsAccepted D.accepts) begun.new.items }
 {
     let mut payload = payload;
@@ -72,7 +75,7 @@ pub(crate) fn begin_write<D: Device>(
     Ok(())
 }
 
-/// Begins to write zeros to these ranges, which have `count` blocks together.
+/// Begins to write zeros to these ranges, which have `count` blocks together, until one is refused.
 pub(crate) fn begin_zeroes<D: Device>(
     requests: &Requests,
     device: &D,
@@ -81,7 +84,8 @@ pub(crate) fn begin_zeroes<D: Device>(
     begun: &mut Vec<Begun>,
 ) -> Result<(), Errno>
     ensures ranges { OnOk result (HasMore span_of ranges begun.old.items begun.new.items) }
-    ensures zeros { OnOk result (All IsZeros begun.old.items → All IsZeros begun.new.items) }
+    ensures front { HasFront span_of ranges begun.old.items begun.new.items }
+    ensures zeros { All IsZeros begun.old.items → All IsZeros begun.new.items }
     ensures accepted { All (IsAccepted D.accepts) begun.old.items → All (IsAccepted D.accepts) begun.new.items }
 {
     let zeros = Zeros::new(requests.alloc, count)?;
@@ -102,6 +106,7 @@ fn begin_range<D: Device>(
 ) -> Result<(), Errno>
     requires { length bytes ≡ range.count * 4096 }
     ensures one { OnOk result (BeginsOne (pair_of range) bytes begun.old.items begun.new.items) }
+    ensures unchanged { OnErr result (begun.new.items ≡ begun.old.items) }
     ensures accepted { All (IsAccepted D.accepts) begun.old.items → All (IsAccepted D.accepts) begun.new.items }
 {
     requests.count_write();
@@ -119,7 +124,11 @@ fn begin_range<D: Device>(
 }
 
 /// Returns the error that a client gets for a refusal.
-pub(crate) fn errno_of(refusal: Refusal) -> Errno {
+pub(crate) fn errno_of(refusal: Refusal) -> Errno
+    ensures memory { refusal ≡ NoMemory → result ≡ errno.NoMemory }
+    ensures range { refusal ≡ BadRange → result ≡ errno.Invalid }
+    ensures other { (refusal ≡ NoMemory → ⊥) → (refusal ≡ BadRange → ⊥) → result ≡ errno.InputOutput }
+{
     match refusal {
         Refusal::NoMemory => Errno::NoMemory,
         Refusal::BadRange => Errno::Invalid,

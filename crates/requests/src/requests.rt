@@ -1,11 +1,13 @@
 //! Requests over a device.
-ghost use Rattle.std.specs.Prelude.{◌≡◌, All, List, ◌++◌, [], true, false, None, map, vec_len, is_ok, IfOk, OnOk};
+ghost use Rattle.std.specs.Prelude.{◌≡◌, ◌⊎◌, All, List, ◌++◌, [], true, false, None, map, vec_len, is_ok, IfErr, IfOk, OnOk};
 ghost use Rattle.model.specs.Settlement.{Receipt as Denoted};
 ghost use Rattle.nbd.specs.Pieces.{pieces};
 ghost use Rattle.nbd.specs.declared.command.Command.TheVariants as command;
+ghost use Rattle.nbd.specs.declared.errno.Errno.{Errno};
+ghost use Rattle.nbd.specs.declared.errno.Errno.TheVariants.{InputOutput, Invalid};
 ghost use Rattle.requests.specs.Ended.{asks_for_sync, data_bytes};
 ghost use Rattle.requests.specs.Reads.{AreHeld};
-ghost use Rattle.requests.specs.Receipts.{Begins, HasBegun, HasMore, IsAccepted, job_of, receipt_job};
+ghost use Rattle.requests.specs.Receipts.{Begins, HasBegun, HasMore, IsAccepted, IsFrontOf, job_of, receipt_job};
 
 use crate::answer::Answer;
 use crate::complete::complete_all;
@@ -63,9 +65,11 @@ impl Requests {
     }
 
     /// Begins a request: the writes of a WRITE or WRITE_ZEROES, and nothing for any other command. A caller with many
-    /// requests begins them all, and then ends one after another.
+    /// requests begins them all, and then ends one after another. What was begun is a front of what the request writes,
+    /// whether or not it is refused then.
     pub fn begin<D: Device>(&self, device: &D, request: Request) -> UnderWay
         ensures request { result.request ≡ request }
+        ensures begun { IsFrontOf request result.begun }
         ensures accepted { All (IsAccepted D.accepts) result.begun }
     {
         let round = self.storage.last_round();
@@ -99,6 +103,7 @@ impl Requests {
         ensures read { under_way.request.command ≡ command.Read → result.is_done ≡ true
             → AreHeld D.holds (pieces under_way.request.first_block under_way.request.block_count) result.bytes }
         ensures flush { under_way.request.command ≡ command.Flush → result.is_done ≡ true }
+        ensures disconnect { under_way.request.command ≡ command.Disconnect → result.error ≡ Some Invalid }
     {
         let UnderWay {
             request,
@@ -136,6 +141,8 @@ impl Requests {
         ensures unsynced { asks_for_sync ended.request ≡ false → ended.is_done ≡ true → result.reply.error ≡ None }
         ensures data { result.reply.error ≡ None → vec_len result.data ≡ data_bytes ended.request.command ended.request.block_count }
         ensures bytes { result.reply.error ≡ None → result.data.items ≡ ended.bytes }
+        ensures failed { (errno : Errno) → ended.error ≡ Some errno → result.reply.error ≡ Some errno }
+        ensures synced { ended.error ≡ None → (result.reply.error ≡ None) ⊎ (result.reply.error ≡ Some InputOutput) }
         ensures alone { (result.reply.error ≡ None → ⊥) → vec_len result.data ≡ 0 }
     {
         let Ended {
@@ -202,6 +209,7 @@ impl Requests {
             → IfOk result (λ bytes. AreHeld D.holds (pieces request.now.first_block request.now.block_count) bytes.items) }
         ensures data { IfOk result (λ bytes. vec_len bytes ≡ data_bytes request.now.command request.now.block_count) }
         ensures flush { request.now.command ≡ command.Flush → is_ok result ≡ true }
+        ensures disconnect { request.now.command ≡ command.Disconnect → result ≡ Err Invalid }
     {
         match request.command {
             Command::Read => {
@@ -221,7 +229,8 @@ impl Requests {
         request: &Request,
         last: u64,
     ) -> Result<(), Errno>
-        ensures { asks_for_sync request.now ≡ false → is_ok result ≡ true }
+        ensures unasked { asks_for_sync request.now ≡ false → is_ok result ≡ true }
+        ensures refused { IfErr result (λ e. e ≡ InputOutput) }
     {
         if asks_for_sync(request) {
             self.sync(rt, device, last)
@@ -239,7 +248,9 @@ impl Requests {
     //
     // Where the peer's image cannot be synced, the mirror goes on with the local one, as it does where the peer's disk fails a
     // write. The link is cut before anybody is answered, so that the peer's image counts as what it is.
-    fn sync<R: Wait + Clock>(&self, rt: &R, device: &impl Device, last: u64) -> Result<(), Errno> {
+    fn sync<R: Wait + Clock>(&self, rt: &R, device: &impl Device, last: u64) -> Result<(), Errno>
+        ensures { IfErr result (λ e. e ≡ InputOutput) }
+    {
         if self.storage.is_synced_after(last) {
             return Ok(());
         }

@@ -3,8 +3,8 @@ use halves::Begun;
 use nbd::{Errno, Request};
 use std::marker::Model;
 
-/// A request whose writes were begun. Invariant: if none was refused, the begun writes are all that it writes. A FLUSH writes
-/// nothing, so none of its writes is refused.
+/// A request whose writes were begun. Invariant: the begun writes are a front of what it writes, and all of it if none was
+/// refused. A FLUSH and a DISC write nothing, so none of their writes is refused.
 #[derive(Debug, Drop)]
 pub struct UnderWay {
     pub(crate) request: Request,
