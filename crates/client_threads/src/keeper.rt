@@ -1,6 +1,7 @@
 //! The thread that keeps the link up.
 use crate::service::Service;
 use crate::standstill::Standstill;
+use blocks::ConnectionWords;
 use halves::Device;
 use status_lines::LinkState;
 use status_page::{Report, Resync};
@@ -26,37 +27,85 @@ pub(crate) fn keep<R: Wait + Clock>(
     cut_every: Option<u32>,
     over: &AtomicBool,
 ) {
-    let mut looks = 0u64;
-    let mut standstill = Standstill::new();
-    let mut words = service.words();
-    // A session starts with an open link. No block is copied from a cut by this thread to the next connection.
-    let mut is_up = true;
+    // A session starts with an open link, unless a sync of the peer's image had failed before.
+    let mut link = KeptLink {
+        words: service.words(),
+        standstill: Standstill::new(),
+        is_up: !service.requests.is_peer_failed(),
+        looks: 0,
+    };
     for _ in rt.forever() {
         if over.load(Ordering::SeqCst) {
             break;
         }
-        let is_peer_failed = service.requests.is_peer_failed();
-        if is_cut_due(cut_every, looks) || (is_peer_failed && is_up) {
-            device.cut();
-            is_up = false;
-            looks = 0;
-        }
-        // While an end is open, or a disk has items to do, this is refused and changes nothing.
-        if !is_peer_failed && device.reconnect(words.sync, words.loss).is_ok() {
-            words = service.words();
-            standstill.restart();
-            is_up = true;
-        }
+        link.tend(service, device, cut_every);
         let marks = device.marks();
-        if is_up && standstill.look(marks) {
-            device.cut();
-            is_up = false;
-        }
+        link.cut_if_still(device, marks);
         let most = service.note_marks(marks);
         give_report(rt, service, device, most);
         thread::sleep(rt, Duration::from_millis(LOOK_MS));
-        looks = looks.saturating_add(1);
+        link.looks = link.looks.saturating_add(1);
     }
+}
+
+/// The link of a session, as the thread that keeps it up knows it.
+#[derive(Drop)]
+struct KeptLink {
+    // The words of the next connection.
+    words: ConnectionWords,
+    standstill: Standstill,
+    // No block is copied from a cut by this thread to the next connection.
+    is_up: bool,
+    // Looks since a cut was last due.
+    looks: u64,
+}
+
+impl KeptLink {
+    // Cuts the link if that is due, and opens it if it is down. Once a sync of the peer's image has failed, only cuts it.
+    fn tend(&mut self, service: &Service, device: &impl Device, cut_every: Option<u32>) {
+        if is_cut_due(cut_every, self.looks) {
+            self.cut(device);
+            self.looks = 0;
+        }
+        // While an end is open, or a disk has items to do, a reconnection is refused and changes nothing.
+        if !service.requests.is_peer_failed()
+            && device.reconnect(self.words.sync, self.words.loss).is_ok()
+        {
+            self.words = service.words();
+            self.standstill.restart();
+            self.is_up = true;
+        }
+        // Asked once more: a sync may have failed while the link was opened, and cut the connection before.
+        if self.is_up && service.requests.is_peer_failed() {
+            self.cut(device);
+        }
+    }
+
+    // Cuts the link if this many blocks are marked, and none was copied for some time.
+    fn cut_if_still(&mut self, device: &impl Device, marks: u32) {
+        if !self.is_up {
+            return;
+        }
+        let copied = if marks > 0 && is_resyncing(device) {
+            Some(device.applied())
+        } else {
+            None
+        };
+        if self.standstill.look(marks, copied) {
+            self.cut(device);
+        }
+    }
+
+    fn cut(&mut self, device: &impl Device) {
+        device.cut();
+        self.is_up = false;
+    }
+}
+
+// Returns whether marked blocks are being copied.
+fn is_resyncing(device: &impl Device) -> bool {
+    let (primary, _) = device.status();
+    primary.words.link == LinkState::SyncSource
 }
 
 // Returns whether the link is to be cut, this many looks after it was last.
@@ -70,12 +119,12 @@ fn is_cut_due(cut_every: Option<u32>, looks: u64) -> bool {
 // Gives a report on the session if one is asked for.
 fn give_report<R: Wait>(rt: &R, service: &Service, device: &impl Device, most: u32) {
     if service.reports.is_asked(rt) {
-        service.reports.give(rt, report(device, most));
+        service.reports.give(rt, report(service, device, most));
     }
 }
 
 // Returns the session's report on its nodes. While blocks are marked and the link is up, a resync goes on.
-fn report(device: &impl Device, most: u32) -> Report {
+fn report(service: &Service, device: &impl Device, most: u32) -> Report {
     let (primary, secondary) = device.status();
     let resync = match primary.words.link {
         LinkState::SyncSource => Some(Resync {
@@ -88,5 +137,6 @@ fn report(device: &impl Device, most: u32) -> Report {
         primary,
         secondary,
         resync,
+        is_peer_failed: service.requests.is_peer_failed(),
     }
 }

@@ -151,11 +151,6 @@ fn do_some<R: Wait + Clock>(
 // would not help it. A server that goes on has clients that wait meanwhile, so it gives this less time. Once a sync of the peer's
 // image has failed the link stays down, and there is nothing to wait for.
 fn wait_for_rest<R: Wait + Clock>(rt: &R, service: &Service, device: &impl Device) {
-    let (most, most_in_all) = if service.is_over() {
-        (LOOKS_TO_LEAVE, u32::MAX)
-    } else {
-        (LOOKS_TO_GO_ON, MOST_LOOKS_TO_GO_ON)
-    };
     let mut marks = u32::MAX;
     let mut applied = u32::MAX;
     let mut looks = 0u32;
@@ -179,7 +174,13 @@ fn wait_for_rest<R: Wait + Clock>(rt: &R, service: &Service, device: &impl Devic
         if looks == LOOKS_TO_CUT && left > 0 {
             device.cut();
         }
-        if looks >= most || in_all >= most_in_all {
+        // The server may be told to end meanwhile.
+        let has_waited = if service.is_over() {
+            looks >= LOOKS_TO_LEAVE
+        } else {
+            looks >= LOOKS_TO_GO_ON || in_all >= MOST_LOOKS_TO_GO_ON
+        };
+        if has_waited {
             break;
         }
         thread::sleep(rt, Duration::from_millis(LOOK_MS));

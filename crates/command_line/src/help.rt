@@ -134,7 +134,7 @@ and at the end. On a terminal a run of more than a second shows how far it is.
 
 A session that is refused prints refused R on standard error and none of the
 three lines, and changes no image. R is 7 if there was no memory or no thread.
-No other one is known to come. The proofs rule out all but these:
+No other one is known to come. What a run asks for rules out all but these:
 ";
 
 /// The exit statuses of a run.
@@ -160,7 +160,7 @@ memory, a thread or the output failed; or, at the end, blocks were not copied
 or differ without a mark, a sync has failed, or an image may have kept parts of
 a failed write, was replaced or has another length; 2 wrong usage; 3 a session
 was refused by another number than 7. Of several faults the last line tells the
-first, and a line before it each further one of blocks and of images.
+first, and a line before it each further one.
 ";
 
 /// What a run over sockets does.
@@ -171,7 +171,8 @@ for the images, for the three lines, and for refusals. If a socket fails, both
 ends of the link close, the writers go on without it, and the blocks that may
 differ are marked: the images may then differ, and the status is 0 all the same.
 If a socket fails in the hello, no image is changed, and the run fails with
-status 1: a socket failed, and the link was lost.
+status 1: a socket failed, and the link was lost. If foreign bytes come over it
+then, R may also be 20 to 25, 34 or 35.
 
   tcp --writers 4 --writes 50
                     => completed 200

@@ -2,7 +2,8 @@
 use blocks::{Settings, Tuple};
 
 /// What a session starts from: the settings of both nodes, the generation identifiers of each disk, the marks of the
-/// local one (a truth value for each block), and the first connection's two words.
+/// local one (a truth value for each block), the first connection's two words, and whether the link is cut right after the
+/// first hello, before anything is sent to the peer's disk.
 #[derive(Drop)]
 pub struct Parts {
     pub settings: Settings,
@@ -11,4 +12,5 @@ pub struct Parts {
     pub marks: Vec<bool>,
     pub sync: u64,
     pub loss: u64,
+    pub is_cut: bool,
 }

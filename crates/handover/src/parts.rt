@@ -87,6 +87,7 @@ pub fn parts_after<
         marks,
         sync: words.sync,
         loss: words.loss,
+        is_cut: false,
     })
 }
 

@@ -53,7 +53,7 @@ info_export e = number_bytes 2 0 ++ size_and_flags e
 
 -- NBD_INFO_BLOCK_SIZE: the least, the preferred and the most bytes of a request
 unfoldable pub info_block_size : List ℕ
-info_block_size = number_bytes 2 3 ++ number_bytes 4 4096 ++ number_bytes 4 4096 ++ number_bytes 4 131072
+info_block_size = number_bytes 2 3 ++ number_bytes 4 4096 ++ number_bytes 4 4096 ++ number_bytes 4 33554432
 
 -- whether a name is the export's: the empty name is the default export's
 abbrev pub is_named : Exported → List ℕ → Bool

@@ -4,6 +4,7 @@ ghost use Rattle.std.specs.Option.{option_copied};
 ghost use Rattle.nbd.specs.Options.{greeting, option_reply, size_and_flags, info_export, info_block_size, is_named, asked_name, export_name, listed, informed, informed_of, option_replied, replies};
 ghost use Rattle.nbd.specs.Steps.{IsReplied};
 
+use crate::command::MAX_REQUEST_BYTES;
 use crate::numbers::{put_u16, put_u32, put_u64, u16_at, u32_at};
 use crate::{Export, Short};
 use blocks::{BLOCK_BYTES, Refusal};
@@ -53,9 +54,6 @@ pub(crate) const REP_ERR_TOO_BIG: u32 = 0x8000_0009;
 const INFO_EXPORT: u16 = 0;
 
 const INFO_BLOCK_SIZE: u16 = 3;
-
-/// The most bytes of a request that INFO_BLOCK_SIZE names: a write of 32 blocks.
-const MOST_BYTES: u32 = 131_072;
 
 /// The zeros that end the reply to EXPORT_NAME unless the client set NO_ZEROES.
 const EXPORT_NAME_ZEROS: [u8; 124] = [0; 124];
@@ -272,8 +270,7 @@ fn informed(alloc: Global, export: &Export, option: u32) -> Result<Vec<u8>, Allo
     Ok(sent)
 }
 
-/// Returns the least, preferred and most bytes of a request. A client that sends more at once is served too, up to 32
-/// MiB.
+/// Returns the least, preferred and most bytes of a request.
 #[tactic(auto, unfolding(crate::specs::Options::info_block_size))]
 fn block_sizes() -> Short
     ensures { result ≡ info_block_size }
@@ -282,6 +279,6 @@ fn block_sizes() -> Short
     put_u16(&mut out, INFO_BLOCK_SIZE);
     put_u32(&mut out, BLOCK_BYTES as u32);
     put_u32(&mut out, BLOCK_BYTES as u32);
-    put_u32(&mut out, MOST_BYTES);
+    put_u32(&mut out, MAX_REQUEST_BYTES);
     out
 }

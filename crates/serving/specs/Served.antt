@@ -1,15 +1,23 @@
 -- What a server comes to.
-use Rattle.std.specs.Prelude.{ℕ, ◌≡◌, ◌<◌, ◌≤◌, false, List, IfSome}
+use Rattle.std.specs.Prelude.{ℕ, ◌≡◌, ◌<◌, ◌≤◌, false, List, Option, None, IfSome}
+use Rattle.std.specs.Io.KnownBytes.{Appends}
 use Rattle.blocks.specs.SettingsRange.{standard}
 use Rattle.blocks.specs.declared.settings.Settings.{Settings}
 use Rattle.options.specs.declared.serve.ServeOptions.{ServeOptions}
+use Rattle.result_lines.specs.Text.{results_text}
+use Rattle.result_lines.specs.declared.results.Results.{Results}
 use Rattle.serving.specs.Sessions.{IsServed}
 use Rattle.serving.specs.declared.end.End.{End}
 use Rattle.serving.specs.declared.session_end.SessionEnd.{SessionEnd}
+use Rattle.serving.specs.declared.totals.Totals.{Totals}
 
 -- the options ask for no size, or for one that a device has
 abbrev pub AreInRange : ServeOptions → Type 0
 AreInRange options = IfSome options.blocks (λ asked. (0 < asked) × (asked ≤ 262144))
+
+-- the results that are printed
+abbrev pub results : Totals → Results
+results totals = record { completed = totals.completed; settled = totals.confirmed; unmarked = totals.unmarked }
 
 -- no image may have kept a part of a write that failed
 abbrev pub AreWhole : SessionEnd → Type 0
@@ -32,9 +40,13 @@ pub record HasEnded (options : ServeOptions) (end : End) : Type 0 where
   pub peer : List (List ℕ)
   pub all : CameTo (record standard { protocol = options.protocol; blocks = blocks }) local peer end
 
--- such a server, whose disks are the same at the end, and whose images are whole
-pub record HasServed (options : ServeOptions) : Type 0 where
+-- such a server, whose disks are the same at the end, and whose images are whole, were not replaced, and failed no sync. What was
+-- printed, where the bytes that were there before and are there after are known, is its three lines.
+pub record HasServed (options : ServeOptions) (before after : Option (List ℕ)) : Type 0 where
   pub end : End
   pub ended : HasEnded options end
+  pub unchanged : (end.changed.local ≡ false) × (end.changed.peer ≡ false)
+  pub synced : (end.unsynced.local ≡ None) × (end.unsynced.peer ≡ None)
   pub alike : ended.all.rest.disks.local.disk ≡ ended.all.rest.disks.peer.disk
   pub whole : AreWhole ended.all.rest
+  pub printed : Appends before after (results_text (results end.totals))

@@ -72,6 +72,7 @@ pub record IsSession (o : Opening) (before : Totals) (rest : SessionEnd) : Type 
 pub record IsFirst (chosen : Settings) (local peer : List (List ℕ)) (first : SessionEnd) : Type 0 where
   pub settings : first.parts.settings ≡ chosen
   pub own : first.parts.own ≡ record { current = 1; bitmap = 0; first_historical = 0; second_historical = 0 }
+  pub same : local ≡ peer → first.parts.peer ≡ first.parts.own
   pub other : (local ≡ peer → ⊥) → first.parts.peer ≡ unknown
   pub marks : (block : ℕ) → unwrap_or (slice_get first.parts.marks.items block) false ≡ false
   pub totals : first.totals ≡ record { completed = 0; confirmed = 0; unmarked = 0; marked = 0 }

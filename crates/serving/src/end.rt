@@ -1,5 +1,8 @@
-//! How the sessions of a server ended, and the lines that it prints of them.
+//! The end of a server, and the lines that it prints.
 ghost use Rattle.std.specs.Prelude.{◌≡◌, false, None, OnOk};
+ghost use Rattle.std.specs.Io.KnownBytes.{Appends};
+ghost use Rattle.result_lines.specs.Text.{results_text};
+ghost use Rattle.serving.specs.Served.{results};
 
 use crate::fault::Fault;
 use crate::totals::Totals;
@@ -7,41 +10,62 @@ use image_store::Both;
 use std::io;
 use std::io::Write;
 
-/// How the sessions of a server ended, and its images.
+/// What the sessions of a server left, and what became of its images.
 #[derive(Drop)]
 pub(crate) struct End<'a> {
     pub(crate) totals: Totals,
     /// The images' paths.
     pub(crate) files: Both<&'a str>,
+    /// Whether an image was replaced, or has another length, while it was served.
+    pub(crate) changed: Both<bool>,
     /// Whether an image may have kept parts of a write that failed.
     pub(crate) torn: Both<bool>,
-    /// Why the first sync of an image that failed did so.
+    /// Why a sync of an image failed, the first that did.
     pub(crate) unsynced: Both<Option<io::Error>>,
 }
 
 impl<'a> End<'a> {
-    /// Prints the three lines. They are printed also if the disks may differ, which is a fault. Returns the first fault, and
-    /// writes a line on `err` for each further one: what to do about it may be another thing.
+    /// Prints the three lines, unless an image is no longer the file that was served. They are printed also if the disks may
+    /// differ, which is a fault. Returns the first fault, and writes a line on `err` for each further one: what to do about it
+    /// may be another thing.
     pub(crate) fn print<W: Write, E: Write>(
         &self,
         out: &mut W,
         err: &mut E,
     ) -> Result<(), Fault<'a>>
+        ensures printed { OnOk result (Appends (W.contents out.old) (W.contents out.new) (results_text (results self.now.totals))) }
+        ensures unchanged { OnOk result ((self.now.changed.local ≡ false) × (self.now.changed.peer ≡ false)) }
         ensures alike { OnOk result ((self.now.totals.unmarked ≡ 0) × (self.now.totals.marked ≡ 0)) }
         ensures whole { OnOk result ((self.now.torn.local ≡ false) × (self.now.torn.peer ≡ false)) }
         ensures synced { OnOk result ((self.now.unsynced.local ≡ None) × (self.now.unsynced.peer ≡ None)) }
     {
-        if let Err(error) = print_lines(&self.totals, out) {
-            return Err(Fault::Unwritten(error));
+        if self.changed.local || self.changed.peer {
+            return self.tell(None, err);
         }
-        match self.tell_further(err) {
-            None => Ok(()),
-            Some(first) => Err(first),
+        match self.totals.results().print(out) {
+            Ok(()) => self.tell(None, err),
+            Err(error) => self.tell(Some(Fault::Unwritten(error)), err),
         }
     }
 
-    // Returns the first fault, and writes a line for each further one.
-    fn tell_further<E: Write>(&self, err: &mut E) -> Option<Fault<'a>>
+    // Returns the first fault, which is `first` if there is one, and writes a line for each further one.
+    fn tell<E: Write>(&self, first: Option<Fault<'a>>, err: &mut E) -> Result<(), Fault<'a>>
+        ensures none { OnOk result (first.entry ≡ None) }
+        ensures unchanged { OnOk result ((self.now.changed.local ≡ false) × (self.now.changed.peer ≡ false)) }
+        ensures alike { OnOk result ((self.now.totals.unmarked ≡ 0) × (self.now.totals.marked ≡ 0)) }
+        ensures whole { OnOk result ((self.now.torn.local ≡ false) × (self.now.torn.peer ≡ false)) }
+        ensures synced { OnOk result ((self.now.unsynced.local ≡ None) × (self.now.unsynced.peer ≡ None)) }
+    {
+        match self.tell_further(first, err) {
+            None => Ok(()),
+            Some(fault) => Err(fault),
+        }
+    }
+
+    // The same, with no fault as none.
+    fn tell_further<E: Write>(&self, first: Option<Fault<'a>>, err: &mut E) -> Option<Fault<'a>>
+        ensures none { result ≡ None → first.entry ≡ None }
+        ensures unchanged { result ≡ None → (self.now.changed.local ≡ false) × (self.now.changed.peer ≡ false) }
         ensures alike { result ≡ None → (self.now.totals.unmarked ≡ 0) × (self.now.totals.marked ≡ 0) }
         ensures whole { result ≡ None → (self.now.torn.local ≡ false) × (self.now.torn.peer ≡ false) }
         ensures synced { result ≡ None → (self.now.unsynced.local ≡ None) × (self.now.unsynced.peer ≡ None) }
@@ -52,7 +76,17 @@ impl<'a> End<'a> {
             ..
         } = self.totals;
         let Both { local, peer } = self.files;
-        let mut first = None;
+        let mut first = first;
+        first = or_told(
+            err,
+            first,
+            self.changed.local.then_some(Fault::Changed(local)),
+        );
+        first = or_told(
+            err,
+            first,
+            self.changed.peer.then_some(Fault::Changed(peer)),
+        );
         first = or_told(
             err,
             first,
@@ -83,7 +117,7 @@ fn or_told<'a, E: Write>(
     first
 }
 
-// Returns the fault of an image of which a sync has failed for this reason.
+// Returns the fault of an image whose sync failed for this reason, if one did.
 fn unsynced(file: &str, error: Option<io::Error>) -> Option<Fault<'_>>
     ensures { result ≡ None → error ≡ None }
 {
@@ -91,11 +125,4 @@ fn unsynced(file: &str, error: Option<io::Error>) -> Option<Fault<'_>>
         Some(error) => Some(Fault::Unsynced(file, error)),
         None => None,
     }
-}
-
-fn print_lines<W: Write>(totals: &Totals, out: &mut W) -> io::Result<()> {
-    writeln!(out, "completed {}", totals.completed)?;
-    writeln!(out, "settled {}", totals.confirmed)?;
-    writeln!(out, "unmarked {}", totals.unmarked)?;
-    out.flush()
 }

@@ -55,17 +55,17 @@ pub(crate) fn blocks_of<'a, H: Files>(rt: &H, options: &ServeOptions<'a>) -> Res
     Ok(blocks as u32)
 }
 
-/// Checks that a locked image is still the file at its path, and an image of the device.
-pub(crate) fn check_unchanged<'a, H: Files<File = File>>(
+/// Returns which images are no longer the files that were locked, or images of a device of `blocks` blocks.
+pub(crate) fn changed_images<H: Files<File = File>>(
     rt: &H,
-    lock: &ImageLock,
-    file: &'a str,
+    locks: &Both<ImageLock>,
+    options: &ServeOptions<'_>,
     blocks: u32,
-) -> Result<(), Fault<'a>> {
-    if lock.is_unchanged(rt, file, u64::from(blocks) * BLOCK_BYTES as u64) {
-        Ok(())
-    } else {
-        Err(Fault::Changed(file))
+) -> Both<bool> {
+    let bytes = u64::from(blocks) * BLOCK_BYTES as u64;
+    Both {
+        local: !locks.local.is_unchanged(rt, options.local, bytes),
+        peer: !locks.peer.is_unchanged(rt, options.peer, bytes),
     }
 }
 

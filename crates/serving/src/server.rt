@@ -8,7 +8,7 @@ ghost use Rattle.serving.specs.declared.fault.Fault.TheVariants.{Refused};
 
 use crate::end::End;
 use crate::fault::Fault;
-use crate::images::{blocks_of, check_size, check_unchanged, lock_both, open_both, torn_images};
+use crate::images::{blocks_of, changed_images, check_size, lock_both, open_both, torn_images};
 use crate::session_end::Disks;
 use crate::sessions::run_sessions;
 use blocks::Refusal;
@@ -41,7 +41,7 @@ pub fn serve<
     W: Write,
     E: Write,
 >(rt: &H, options: &ServeOptions<'_>, input: I, out: &mut W, err: &mut E) -> SessionStatus
-    ensures done { result ≡ status.Done → HasServed options.now }
+    ensures done { result ≡ status.Done → HasServed options.now (W.contents out.old) (W.contents out.new) }
     ensures refused { (AreInRange options.now → ⊥) → result ≡ status.Refused }
 {
     match serve_images(rt, options, input, out, err) {
@@ -61,7 +61,7 @@ fn serve_images<
     W: Write,
     E: Write,
 >(rt: &H, options: &ServeOptions<'a>, input: I, out: &mut W, err: &mut E) -> Result<(), Fault<'a>>
-    ensures done { OnOk result (HasServed options.now) }
+    ensures done { OnOk result (HasServed options.now (W.contents out.old) (W.contents out.new)) }
     ensures refused { (AreInRange options.now → ⊥) → result ≡ Err (Refused BadSetting) }
 {
     match check_size(options) {
@@ -79,7 +79,7 @@ fn serve_sized<
     E: Write,
 >(rt: &H, options: &ServeOptions<'a>, input: I, out: &mut W, err: &mut E) -> Result<(), Fault<'a>>
     requires { AreInRange options.now }
-    ensures { OnOk result (HasServed options.now) }
+    ensures { OnOk result (HasServed options.now (W.contents out.old) (W.contents out.new)) }
 {
     let locks = lock_both(rt, options)?;
     let served = serve_locked(rt, options, &locks, input, err);
@@ -87,7 +87,7 @@ fn serve_sized<
     served?.print(out, err)
 }
 
-// Serves both images. Returns how this ended, if the images are still the files that were locked.
+// Serves both images. Returns how this ended.
 fn serve_locked<
     'a,
     H: Host + Files<File = File> + Net<Listener = TcpListener, Stream = TcpStream> + RandomSource,
@@ -109,12 +109,7 @@ fn serve_locked<
         Ok((disks, syncs)) => match start_service(
             rt, options, blocks, syncs, listeners, input, err,
         ) {
-            Ok(service) => {
-                let end = serve_sessions(rt, &service, options, disks)?;
-                check_unchanged(rt, &locks.local, options.local, blocks)?;
-                check_unchanged(rt, &locks.peer, options.peer, blocks)?;
-                Ok(end)
-            }
+            Ok(service) => serve_sessions(rt, &service, options, disks, locks),
             Err(fault) => Err(fault),
         },
         Err(fault) => Err(fault),
@@ -150,24 +145,26 @@ fn start_service<
 }
 
 // Runs the sessions of a server until it ends, and puts both images on stable storage.
-fn serve_sessions<'a, H: Runtime>(
+fn serve_sessions<'a, H: Runtime + Files<File = File>>(
     rt: &H,
     service: &Service,
     options: &ServeOptions<'a>,
     disks: Disks,
+    locks: &Both<ImageLock>,
 ) -> Result<End<'a>, Fault<'a>>
     ensures { IfOk result (CameTo (record standard { protocol = service.now.protocol; blocks = service.now.blocks }) disks.local.disk disks.peer.disk) }
 {
     let ran = run_sessions(*rt, service, options.cut_every, disks);
     let unsynced = service.requests.sync_images(rt);
     match ran {
-        Ok(rest) => Ok(End {
-            totals: rest.totals,
+        Ok(last) => Ok(End {
+            totals: last.totals,
             files: Both {
                 local: options.local,
                 peer: options.peer,
             },
-            torn: torn_images(&rest.disks),
+            changed: changed_images(rt, locks, options, service.blocks),
+            torn: torn_images(&last.disks),
             unsynced,
         }),
         Err(refusal) => Err(Fault::Refused(refusal)),

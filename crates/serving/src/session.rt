@@ -23,23 +23,28 @@ use volume::{Linked, Parts, Runtime, Session};
 /// Both ends of a direction of a link.
 type Direction<R> = (RuledOut<R>, RuledIn<R>);
 
-/// Runs a session over these disks, does the requests of clients over it, and returns what it leaves. The refusals
-/// are `BadSetting` (15), and those of `Session::start`, `Session::finish` and `settle`.
+/// Runs a session over these disks, does the requests of clients over it, and returns what it leaves. The refusals are
+/// `BadSetting` (15), `NoMemory` (7), and those of `Session::start`, `client_threads::work`, `Session::finish`, `settle` and
+/// `parts_after`. If a sync of the peer's image has failed, nothing is sent to it: the link is cut after the hello.
 pub(crate) fn run_session<R: Runtime>(
     rt: R,
     service: &Service,
     cut_every: Option<u32>,
-    rest: SessionEnd,
+    start: SessionEnd,
 ) -> Result<SessionEnd, Refusal>
-    requires honest { WasHonest (opening rest) }
-    requires unparted { IsUnparted (opening rest) }
-    ensures session { IfOk result (λ next. IsSession (opening rest) rest.totals next) }
+    requires honest { WasHonest (opening start) }
+    requires unparted { IsUnparted (opening start) }
+    ensures session { IfOk result (λ next. IsSession (opening start) start.totals next) }
 {
     let SessionEnd {
         disks,
         parts,
         totals,
-    } = rest;
+    } = start;
+    let parts = Parts {
+        is_cut: service.requests.is_peer_failed(),
+        ..parts
+    };
     match link(rt, service.alloc, parts.settings) {
         Ok((there, back)) => {
             run_named::<Brand, R>(rt, service, cut_every, there, back, disks, parts, totals)

@@ -25,9 +25,8 @@ pub(crate) struct SessionEnd {
     pub(crate) totals: Totals,
 }
 
-/// Settles two nodes at rest with the receipts that their session gave, if none of its writes was refused, and returns
-/// what the next session starts from, over the disks of these nodes. The refusals are that of a write, and those of `settle`
-/// and `parts_after`.
+/// Settles two nodes at rest with the receipts that their session gave, if its work was done, and returns what the next session
+/// starts from, over the disks of these nodes. The refusals are that of the work, and those of `settle` and `parts_after`.
 pub(crate) fn settle_session(
     service: &Service,
     totals: Totals,
@@ -40,12 +39,12 @@ pub(crate) fn settle_session(
     ensures comes { IfOk result (λ rest. IfOk worked (λ receipts. NodesComeTo primary secondary receipts.items totals rest.totals rest.parts)) }
 {
     let (mut primary, mut secondary) = (primary, secondary);
-    let compared = compare(service, totals, &mut primary, &mut secondary, worked);
+    let settled = settle_and_hand_over(service, totals, &mut primary, &mut secondary, worked);
     let disks = Both {
         local: primary.into_store(),
         peer: secondary.into_store(),
     };
-    match compared {
+    match settled {
         Ok((parts, totals)) => Ok(SessionEnd {
             disks,
             parts,
@@ -55,9 +54,8 @@ pub(crate) fn settle_session(
     }
 }
 
-// Settles both nodes, if no write was refused. Returns the parts of the next session, and the results of the sessions so
-// far.
-fn compare(
+// Settles both nodes, if the work was done. Returns the parts of the next session, and the results of the sessions so far.
+fn settle_and_hand_over(
     service: &Service,
     totals: Totals,
     primary: &mut Primary<impl FrameOut + Drop, impl FrameIn + Drop, impl Store + Drop>,

@@ -1,5 +1,5 @@
 //! One session after another, over the same disks.
-ghost use Rattle.std.specs.Prelude.{ℕ, ◌≡◌, false, slice_get, unwrap_or, IfOk, IsTrue};
+ghost use Rattle.std.specs.Prelude.{ℕ, ◌≡◌, ◌<◌, false, length, slice_get, unwrap_or, IfOk, IsTrue};
 ghost use Rattle.blocks.specs.SettingsRange.{standard};
 ghost use Rattle.serving.specs.Sessions.{IsFirst, IsServed};
 
@@ -8,6 +8,8 @@ use crate::session_end::{Disks, SessionEnd};
 use crate::totals::Totals;
 use blocks::{BLOCK_BYTES, Block, ConnectionWords, Refusal, Settings, Store, Tuple};
 use client_threads::Service;
+use image_store::ImageStore;
+use std::fs::File;
 use volume::{Parts, Runtime};
 
 /// Runs sessions over these disks until the server ends, and returns what the last one leaves. If the disks differ at
@@ -19,15 +21,15 @@ pub(crate) fn run_sessions<R: Runtime>(
     disks: Disks,
 ) -> Result<SessionEnd, Refusal>
     ensures served { IfOk result (IsServed (record standard { protocol = service.now.protocol; blocks = service.now.blocks }) disks.local.disk disks.peer.disk) }
-    ensures alike { IfOk result (λ rest. rest.totals.unmarked ≡ 0 → rest.totals.marked ≡ 0 → rest.disks.local.disk ≡ rest.disks.peer.disk) }
+    ensures alike { IfOk result (λ last. last.totals.unmarked ≡ 0 → last.totals.marked ≡ 0 → last.disks.local.disk ≡ last.disks.peer.disk) }
 {
-    let mut rest = first_rest(service, disks)?;
+    let mut last = first_start(service, disks)?;
     for _ in rt.forever() {
         service.requests.forget_writes();
-        rest = run_session(rt, service, cut_every, rest)?;
+        last = run_session(rt, service, cut_every, last)?;
         // Clients that are still here have requests that the next session answers.
         if service.is_over() && service.clients() == 0 {
-            return Ok(rest);
+            return Ok(last);
         }
     }
     unreachable!()
@@ -35,7 +37,7 @@ pub(crate) fn run_sessions<R: Runtime>(
 
 // Returns what the first session over these disks starts from: no block is marked, and if the disks differ, the peer's has
 // the identifiers of an unknown disk (0,0,0,0).
-fn first_rest(service: &Service, disks: Disks) -> Result<SessionEnd, Refusal>
+fn first_start(service: &Service, disks: Disks) -> Result<SessionEnd, Refusal>
     ensures { IfOk result (IsFirst (record standard { protocol = service.now.protocol; blocks = service.now.blocks }) disks.local.disk disks.peer.disk) }
 {
     let mut disks = disks;
@@ -77,12 +79,14 @@ fn first_parts(service: &Service, own: Tuple, peer: Tuple) -> Result<Parts, Refu
         marks,
         sync,
         loss,
+        is_cut: false,
     })
 }
 
 // Returns whether both disks have the same blocks.
 fn are_alike(disks: &mut Disks) -> bool
     ensures alike { IsTrue result → disks.old.local.disk ≡ disks.old.peer.disk }
+    ensures found { disks.old.local.disk ≡ disks.old.peer.disk → IsTrue result }
     ensures same { (disks.new.local.disk ≡ disks.old.local.disk) × (disks.new.peer.disk ≡ disks.old.peer.disk) }
 {
     let blocks = disks.local.blocks();
@@ -95,9 +99,11 @@ fn are_alike(disks: &mut Disks) -> bool
 }
 
 // Returns whether both disks have this block, with the same bytes.
-fn is_alike<S: Store, T: Store>(local: &mut S, peer: &mut T, block: Block) -> bool
-    ensures alike { IsTrue result → slice_get (S.contents local.old) block.0 ≡ slice_get (T.contents peer.old) block.0 }
-    ensures same { (S.contents local.new ≡ S.contents local.old) × (T.contents peer.new ≡ T.contents peer.old) }
+fn is_alike(local: &mut ImageStore<File>, peer: &mut ImageStore<File>, block: Block) -> bool
+    ensures alike { IsTrue result → slice_get local.old.disk block.0 ≡ slice_get peer.old.disk block.0 }
+    ensures found { block.0 < length local.old.disk → block.0 < length peer.old.disk
+        → slice_get local.old.disk block.0 ≡ slice_get peer.old.disk block.0 → IsTrue result }
+    ensures same { (local.new.disk ≡ local.old.disk) × (peer.new.disk ≡ peer.old.disk) }
 {
     if block.0 >= u64::from(local.blocks()) || block.0 >= u64::from(peer.blocks()) {
         return false;

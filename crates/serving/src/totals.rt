@@ -1,7 +1,9 @@
 //! The results of a server's sessions.
 ghost use Rattle.std.specs.Prelude.{◌≡◌};
+ghost use Rattle.serving.specs.Served.{results};
 ghost use Rattle.serving.specs.Sessions.{counted};
 
+use result_lines::Results;
 use settle::Settled;
 
 /// The results of a server's sessions.
@@ -25,6 +27,17 @@ impl Totals {
         unmarked: 0,
         marked: 0,
     };
+
+    /// Returns the results that are printed.
+    pub(crate) fn results(&self) -> Results
+        ensures { result ≡ results self.now }
+    {
+        Results {
+            completed: self.completed,
+            settled: self.confirmed,
+            unmarked: self.unmarked,
+        }
+    }
 
     /// Adds the results of one session, after which this many blocks are marked.
     pub(crate) fn with_session(&self, completed: usize, settled: Settled, marked: u32) -> Totals

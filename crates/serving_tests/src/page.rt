@@ -42,7 +42,13 @@ const LINES: &str =
     "cs:SyncSource ro:Primary/Secondary ds:UpToDate/Inconsistent pr:C pe:0 ap:1 ep:2 oos:12\ncs:SyncTarget ro:Secondary/Primary ds:Inconsistent/UpToDate pr:C pending:3 use:No whole:1\n";
 
 const JSON: &str =
-    "{\"primary\":{\"connection\":\"SyncSource\",\"disk\":\"UpToDate\",\"open_epochs\":2,\"open_writes\":1,\"out_of_sync_kib\":12,\"peer_disk\":\"Inconsistent\",\"peer_role\":\"Secondary\",\"protocol\":\"C\",\"role\":\"Primary\",\"unanswered_writes\":0},\"resync\":{\"left_kib\":12,\"percent\":25},\"secondary\":{\"connection\":\"SyncTarget\",\"disk\":\"Inconsistent\",\"is_consistent\":false,\"peer_disk\":\"UpToDate\",\"peer_role\":\"Primary\",\"pending_items\":3,\"protocol\":\"C\",\"role\":\"Secondary\",\"whole_epoch\":1}}";
+    "{\"peer_sync_failed\":false,\"primary\":{\"connection\":\"SyncSource\",\"disk\":\"UpToDate\",\"open_epochs\":2,\"open_writes\":1,\"out_of_sync_kib\":12,\"peer_disk\":\"Inconsistent\",\"peer_role\":\"Secondary\",\"protocol\":\"C\",\"role\":\"Primary\",\"unanswered_writes\":0},\"resync\":{\"left_kib\":12,\"percent\":25},\"secondary\":{\"connection\":\"SyncTarget\",\"disk\":\"Inconsistent\",\"is_consistent\":false,\"peer_disk\":\"UpToDate\",\"peer_role\":\"Primary\",\"pending_items\":3,\"protocol\":\"C\",\"role\":\"Secondary\",\"whole_epoch\":1}}";
+
+const LEFT_OUT: &str =
+    "cs:SyncSource ro:Primary/Secondary ds:UpToDate/Inconsistent pr:C pe:0 ap:1 ep:2 oos:12\ncs:SyncTarget ro:Secondary/Primary ds:Inconsistent/UpToDate pr:C pending:3 use:No whole:1\na sync of the peer's image failed: the link stays down until the server ends\n";
+
+const LEFT_OUT_JSON: &str =
+    "{\"peer_sync_failed\":true,\"primary\":{\"connection\":\"SyncSource\",\"disk\":\"UpToDate\",\"open_epochs\":2,\"open_writes\":1,\"out_of_sync_kib\":12,\"peer_disk\":\"Inconsistent\",\"peer_role\":\"Secondary\",\"protocol\":\"C\",\"role\":\"Primary\",\"unanswered_writes\":0},\"resync\":null,\"secondary\":{\"connection\":\"SyncTarget\",\"disk\":\"Inconsistent\",\"is_consistent\":false,\"peer_disk\":\"UpToDate\",\"peer_role\":\"Primary\",\"pending_items\":3,\"protocol\":\"C\",\"role\":\"Secondary\",\"whole_epoch\":1}}";
 
 /// Checks that a client that asks this gets this status and this body.
 fn check_answer(
@@ -71,6 +77,7 @@ fn a_client_is_answered(rt: HostRuntime) {
         primary,
         secondary,
         resync: Some(Resync { left: 3, all: 4 }),
+        is_peer_failed: false,
     };
     let cases: [(&str, &str, &str); 4] = [
         ("GET /", "HTTP/1.1 200 OK", LINES),
@@ -90,4 +97,18 @@ fn a_client_is_answered(rt: HostRuntime) {
         "no report within two seconds: a session gives way to the next, or a disk does not answer\n",
     );
     check_answer(&rt, "GET /", None, none);
+}
+
+#[test]
+fn a_client_is_told_that_the_peer_is_left_out(rt: HostRuntime) {
+    let (primary, secondary) = resync_lines();
+    let report = Report {
+        primary,
+        secondary,
+        resync: None,
+        is_peer_failed: true,
+    };
+    let ok = "HTTP/1.1 200 OK";
+    check_answer(&rt, "GET /", Some(&report), (ok, LEFT_OUT));
+    check_answer(&rt, "GET /status.json", Some(&report), (ok, LEFT_OUT_JSON));
 }

@@ -1,5 +1,6 @@
 -- The outcome of a session, as the model's settlement of its nodes has it.
-use Rattle.std.specs.Prelude.{ℕ, ◌≡◌, ◌*◌, false, List, Some, length, slice_get}
+use Rattle.std.specs.Prelude.{ℕ, ◌≡◌, ◌*◌, false, List, Option, Some, length, slice_get}
+use Rattle.std.specs.Io.KnownBytes.{Appends}
 use Rattle.std.specs.List.{list_any}
 use Rattle.blocks.specs.Contents.{blocks_of}
 use Rattle.blocks.specs.SettingsRange.{standard}
@@ -16,6 +17,7 @@ use Rattle.options.specs.declared.run.Path.TheVariants as path
 use Rattle.options.specs.declared.run.RunOptions.{RunOptions}
 use Rattle.primary.specs.State.{PrimaryView, node as primary_node}
 use Rattle.primary_protocol.specs.Node.{NodeHas as PrimaryHas}
+use Rattle.result_lines.specs.Text.{results_text}
 use Rattle.run_threads.specs.Plan.{AreOfPlan}
 use Rattle.secondary.specs.State.{SecondaryView, node as secondary_node}
 use Rattle.secondary_protocol.specs.Node.{NodeHas as SecondaryHas}
@@ -88,11 +90,14 @@ pub record IsRun (options : RunOptions) (local_image peer_image : List ℕ) (rep
   pub outcome : IsOutcome options opening report
   pub joined : options.path ≡ path.Link → IsJoined (primary_run outcome.here (primary_at opening)) (secondary_run outcome.there (secondary_at opening))
 
--- A run with these options over some images that made all of its writes, and after which no block without a mark differs.
-pub record HasRun (options : RunOptions) : Type 0 where
+-- A run with these options over some images that made all of its writes, and after which no block without a mark differs. What was
+-- printed, where the bytes that were there before and are there after are known, is its three lines: that all writes of the plan were
+-- completed, how many are confirmed, and that no block differs without a mark.
+pub record HasRun (options : RunOptions) (before after : Option (List ℕ)) : Type 0 where
   pub local_image : List ℕ
   pub peer_image : List ℕ
   pub report : Report
   pub run : IsRun options local_image peer_image report
   pub completed : report.completed ≡ options.writers * options.writes
   pub unmarked : report.unmarked ≡ 0
+  pub printed : Appends before after (results_text (record { completed = options.writers * options.writes; settled = report.confirmed; unmarked = 0 }))

@@ -28,6 +28,7 @@ pub(crate) fn parts(
     ensures opens { IfOk result (λ made. IsOpening (record standard { protocol = options.now.protocol; blocks = options.now.blocks }) images.local.items images.peer.items
         (opening_of made.0 (slice_get made.1.local) (slice_get made.1.peer))) }
     ensures honest { IfOk result (λ made. WasHonest (opening_of made.0 (slice_get made.1.local) (slice_get made.1.peer))) }
+    ensures words { IfOk result (λ made. (made.0.sync ≡ 2) × (made.0.loss ≡ 3)) }
     ensures disks { IfOk result (λ made. (made.1.local ≡ blocks_of 4096 images.local.items) × (made.1.peer ≡ blocks_of 4096 images.peer.items)) }
 {
     let settings = options.settings();
@@ -45,6 +46,7 @@ pub(crate) fn parts(
         marks: Vec::from_elem(alloc, false, settings.blocks as usize)?,
         sync: 2,
         loss: 3,
+        is_cut: false,
     };
     let local = MemStore::from_image(images.local)?;
     let peer = MemStore::from_image(images.peer)?;

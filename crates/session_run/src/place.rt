@@ -72,7 +72,7 @@ impl<'a> Place<'a> {
     }
 
     /// Moves the written file to the place of the image.
-    pub(crate) fn take<H: Files>(&self, rt: &H) -> Result<(), Fault<'a>> {
+    pub(crate) fn replace<H: Files>(&self, rt: &H) -> Result<(), Fault<'a>> {
         let Some(image) = &self.image else {
             return Ok(());
         };

@@ -10,6 +10,7 @@ use link::{FrameIn, FrameOut};
 use node_lines::{primary_line, secondary_line};
 use options::RunOptions;
 use primary::{Primary, Receipt};
+use result_lines::Results;
 use secondary::Secondary;
 use settle::{Settled, settle};
 use status_lines::{PrimaryLine, SecondaryLine};
@@ -29,6 +30,17 @@ pub(crate) struct Report {
 }
 
 impl Report {
+    /// Returns the results that are printed.
+    pub(crate) fn results(&self) -> Results
+        ensures { result ≡ record { completed = self.now.completed; settled = self.now.confirmed; unmarked = self.now.unmarked } }
+    {
+        Results {
+            completed: self.completed,
+            settled: self.confirmed,
+            unmarked: self.unmarked,
+        }
+    }
+
     /// Returns `Unmarked` if the disks differ on a block without a mark.
     pub(crate) fn check_marks<'a>(&self) -> Result<(), Fault<'a>>
         ensures { IsOk result ↔ (self.now.unmarked ≡ 0) }

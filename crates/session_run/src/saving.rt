@@ -49,13 +49,13 @@ fn write_both<'a, H: Files<File = File> + AllocGlobal>(
 // Moves both written files to the places of their images, and then puts the folders on stable storage. If the local one
 // cannot be moved, removes both.
 fn replace_both<'a, H: Files>(rt: &H, places: Both<Place<'a>>) -> Result<(), Fault<'a>> {
-    let replaced = places.local.take(rt);
+    let replaced = places.local.replace(rt);
     if replaced.is_err() {
         places.local.clear(rt);
         places.peer.clear(rt);
         return replaced;
     }
-    match places.peer.take(rt) {
+    match places.peer.replace(rt) {
         Ok(()) => sync_folders(rt, &places),
         // The local image is replaced, so what its mirror had is not to be lost.
         Err(Fault::Unsaved(image, error)) if places.local.has_image() => {

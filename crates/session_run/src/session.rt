@@ -22,7 +22,7 @@ use volume::{Linked, Parts, Runtime, Session};
 /// settles. Reports on `err` what the options ask for.
 ///
 /// `BadSetting` (15) if a setting is out of its range or an image does not have its blocks; else the refusals of
-/// `Session::start`, of `Device::write`, of `Session::finish` and of `settle`, in this order.
+/// `Session::start`, of `Device::write` and `reconnect`, of `Session::finish` and of `settle`, in this order.
 pub(crate) fn run_session<R: Runtime, E: Write + Send>(
     rt: R,
     alloc: Global,

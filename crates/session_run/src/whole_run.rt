@@ -27,12 +27,12 @@ use wire_session::loopback;
 
 /// Runs a session with these options over these images, saves both disks, and prints `completed X`, `settled X` and
 /// `unmarked 0`, X being the number of writes. Locks the images meanwhile. Returns how it ended: `Done` if all is done;
-/// `Failed` if a file, the output or memory failed, an image is in use, has something in the place of the file that is first
-/// written beside it or does not have as many bytes as its blocks, or the disks differ on a block without a mark; `Refused`
-/// for any other refusal.
+/// `Failed` if a file, a socket, a thread, the output or memory failed, an image is in use, has something in the place of the
+/// file that is first written beside it or does not have as many bytes as its blocks, or the disks differ on a block without a
+/// mark; `Refused` for any other refusal.
 ///
 /// Faults are found in this order: options out of their ranges (15), the local image, the peer's, the sockets, the
-/// start, the writes, blocks without a mark, saving. Then a line on `err` reports the first, which for a refusal R is
+/// start, the writes and the reconnections, the end, the settlement, blocks without a mark, saving. Then a line on `err` reports the first, which for a refusal R is
 /// `refused R`; nothing is printed, and if the fault came before saving, no image is changed. What the options ask for
 /// goes to `err` too.
 pub fn run<
@@ -40,7 +40,7 @@ pub fn run<
     W: Write,
     E: Write + Send,
 >(rt: &H, options: &RunOptions, images: &Images<'_>, out: &mut W, err: &mut E) -> SessionStatus
-    ensures done { result ≡ status.Done → HasRun options.now }
+    ensures done { result ≡ status.Done → HasRun options.now (W.contents out.old) (W.contents out.new) }
     ensures refused { (IsInRange (record standard { protocol = options.now.protocol; blocks = options.now.blocks }) → ⊥) → result ≡ status.Refused }
 {
     match run_images(rt, options, images, out, err) {
@@ -65,7 +65,7 @@ fn run_images<
     out: &mut W,
     err: &mut E,
 ) -> Result<(), Fault<'a>>
-    ensures done { OnOk result (HasRun options.now) }
+    ensures done { OnOk result (HasRun options.now (W.contents out.old) (W.contents out.new)) }
     ensures refused { (IsInRange (record standard { protocol = options.now.protocol; blocks = options.now.blocks }) → ⊥) → result ≡ Err (Refused BadSetting) }
 {
     match options.settings().check() {
@@ -88,7 +88,7 @@ fn run_loaded<
     err: &mut E,
 ) -> Result<(), Fault<'a>>
     requires { options.now.blocks ≤ 262144 }
-    ensures { OnOk result (HasRun options.now) }
+    ensures { OnOk result (HasRun options.now (W.contents out.old) (W.contents out.new)) }
 {
     let local_image = LockedImage::take(rt, images.local, "local-new")?;
     let local = load(rt, &local_image, options.blocks)?;
@@ -104,7 +104,7 @@ fn run_loaded<
         peer: peer_image,
     };
     save(rt, locked, &mut report)?;
-    match print(&report, out) {
+    match report.results().print(out) {
         Ok(()) => Ok(()),
         Err(error) => Err(Fault::Unwritten(error)),
     }
@@ -133,10 +133,4 @@ fn run_disks<'a, H: Host + Net<Listener = TcpListener, Stream = TcpStream>, E: W
         Err(Refusal::NotConnected) if options.path == Path::Sockets => Err(Fault::Lost),
         Err(refusal) => Err(Fault::Refused(refusal)),
     }
-}
-
-fn print<W: Write>(report: &Report, out: &mut W) -> std::io::Result<()> {
-    writeln!(out, "completed {}", report.completed)?;
-    writeln!(out, "settled {}", report.confirmed)?;
-    writeln!(out, "unmarked {}", report.unmarked)
 }

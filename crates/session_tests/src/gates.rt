@@ -59,3 +59,11 @@ fn every_block_of_an_unknown_peer_is_copied(rt: HostRuntime) {
         assert_eq!(rt; outcome.settled.unmarked, 0, "{case:?}");
     }
 }
+
+#[test]
+fn nothing_is_sent_over_a_link_that_is_cut_from_the_start(rt: HostRuntime) {
+    let case = Case::of(Protocol::C, Work::OneWrite).cut_from_the_start();
+    for case in [case, case.over_one_frame()] {
+        over_watched(rt, rt.alloc(), case).check_nothing_sent(&rt, &case);
+    }
+}

@@ -49,6 +49,15 @@ impl Outcome {
         assert_eq!(rt; (self.receipts, self.complaints), (receipts, 0), "{case:?}");
     }
 
+    /// Checks that one write was completed alone, and that nothing was sent to the peer's disk of zeros.
+    pub(crate) fn check_nothing_sent(&self, rt: &impl Abort, case: &impl Debug) {
+        self.check_no_complaints(rt, 1, case);
+        self.check_settled(rt, 1, case);
+        let Settled { sent, taken, .. } = self.settled;
+        assert_eq!(rt; (self.linked, sent, taken), (0, 0, 0), "{case:?}");
+        assert_eq!(rt; self.peer_bytes, [0; 8], "{case:?}");
+    }
+
     /// Checks that the settlement confirmed this many receipts, and found no difference without a mark.
     pub(crate) fn check_settled(&self, rt: &impl Abort, confirmed: u64, case: &impl Debug) {
         assert_eq!(rt;

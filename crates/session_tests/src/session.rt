@@ -41,6 +41,8 @@ pub(crate) struct Case {
     pub(crate) peer: Tuple,
     /// The words of the first connection.
     pub(crate) words: ConnectionWords,
+    /// Whether the link is cut after the first hello.
+    pub(crate) is_cut: bool,
     pub(crate) work: Work,
 }
 
@@ -53,6 +55,7 @@ impl Case {
             own: ALIKE,
             peer: ALIKE,
             words: ConnectionWords { sync: 2, loss: 3 },
+            is_cut: false,
             work,
         }
     }
@@ -60,6 +63,15 @@ impl Case {
     /// Returns the same over the smallest link.
     pub(crate) fn over_one_frame(self) -> Case {
         Case { link: 1, ..self }
+    }
+
+    /// Returns the same over a peer's disk about which nothing is known, and with a link that is cut after the first hello.
+    pub(crate) fn cut_from_the_start(self) -> Case {
+        Case {
+            peer: UNKNOWN,
+            is_cut: true,
+            ..self
+        }
     }
 
     /// Returns what the session starts from. No block is marked.
@@ -79,6 +91,7 @@ impl Case {
             marks: Vec::from_elem(alloc, false, settings.blocks as usize)?,
             sync: self.words.sync,
             loss: self.words.loss,
+            is_cut: self.is_cut,
         })
     }
 }

@@ -113,12 +113,19 @@ fn a_session_over_streams_has_one_connection(rt: HostRuntime) {
     assert_eq!(rt; (outcome.complaints, outcome.settled.unmarked), (0, 0));
 }
 
+#[test]
+fn nothing_is_sent_over_streams_that_are_cut_from_the_start(rt: HostRuntime) {
+    let case = Case::of(Protocol::C, Work::OneWrite).cut_from_the_start();
+    let outcome = over_pipes(rt, rt.alloc(), case, WHOLE).expect(&rt, "a session");
+    outcome.check_nothing_sent(&rt, &case);
+}
+
 /// Bytes of a hello: PROTOCOL has 12, SIZES 16, and UUIDS 40 (docs/FORMATS.md).
 const HELLO_BYTES: u64 = 68;
 
-// Returns whether a session of which an end fails after this number of bytes is sound: its hello ends with 12, if it is cut
-// off, or else its one write has its receipt and no difference is without a mark. There are thousands of them, so each is over
-// the smallest link, which takes little memory.
+// Returns whether a session is sound, one end of which fails after this number of bytes: its hello ends with 12, if it is cut
+// off, or else its one write has its receipt, and every difference has a mark. There are thousands of them, so each is over the
+// smallest link, which takes little memory.
 fn is_sound<R: Abort + Runtime>(rt: R, alloc: Global, end: End, bytes: u64) -> bool {
     let case = Case::of(Protocol::C, Work::OneWrite).over_one_frame();
     match over_pipes(rt, alloc, case, end.after(bytes)) {

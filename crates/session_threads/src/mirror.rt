@@ -111,7 +111,9 @@ impl<R: Wait + Clock, A: PrimaryHalf, B: SecondaryHalf> Mirror<R, A, B> {
             let rings = shared.local.writers_bell().rings();
             match shared.local.submit(first, bytes) {
                 Err(Refusal::Conflict(_) | Refusal::LogFull | Refusal::ActivityFull) => {
-                    if !shared.turn_local(LocalRole::Receiver).worked {
+                    if shared.turn_local(LocalRole::Receiver).worked {
+                        looks = 0;
+                    } else {
                         shared.local.writers_bell().wait(&shared.rt, rings, looks);
                         looks = looks.saturating_add(1);
                     }
@@ -138,7 +140,9 @@ impl<R: Wait + Clock, A: PrimaryHalf, B: SecondaryHalf> Mirror<R, A, B> {
             let worked = shared.turn_local(LocalRole::Disk).worked;
             match shared.local.take_completed(number) {
                 Err(Refusal::NotCompleted) => {
-                    if !worked {
+                    if worked {
+                        looks = 0;
+                    } else {
                         shared.local.writers_bell().wait(&shared.rt, rings, looks);
                         looks = looks.saturating_add(1);
                     }

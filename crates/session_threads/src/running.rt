@@ -1,4 +1,7 @@
 //! A session from its start to its end.
+ghost use Rattle.std.specs.Prelude.{◌≡◌, IfErr};
+ghost use Rattle.blocks.specs.declared.refusal.Refusal.TheVariants.{NotDrained};
+
 use crate::Mirror;
 use crate::carriers::{Carrier, LOCAL_TO_PEER, PEER_TO_LOCAL, Rows};
 use crate::shared::{Path, Shared};
@@ -24,13 +27,19 @@ impl<
     B: SecondaryHalf + Drop + Send + Sync + 'static,
 > Running<R, A, B> {
     /// Starts a session of two halves over one link that have sent nothing yet: exchanges the hellos, and starts the
-    /// threads.
+    /// threads. If it `is_cut`, the link is cut between the two.
     ///
     /// The refusals are those of the hello (30 to 33), and `NoMemory` (7) if there is no memory, or if a thread cannot
     /// be started. Then nothing runs, and both halves are dropped.
-    pub fn start(rt: R, alloc: Global, local: A, peer: B) -> Result<Running<R, A, B>, Refusal> {
+    pub fn start(
+        rt: R,
+        alloc: Global,
+        local: A,
+        peer: B,
+        is_cut: bool,
+    ) -> Result<Running<R, A, B>, Refusal> {
         let mut running = Running::idle(rt, alloc, local, peer, Path::Link)?;
-        match running.begin() {
+        match running.begin(is_cut) {
             Ok(()) => Ok(running),
             Err(refusal) => {
                 running.stop();
@@ -40,8 +49,8 @@ impl<
     }
 
     /// Starts a session of two halves whose rows are carried over two ways by pumps at these ends: starts a pump at
-    /// each end of a way, exchanges the hellos, and starts the threads. A pump that ends drops its writer or reader,
-    /// and then both ends of the link close.
+    /// each end of a way, exchanges the hellos, and starts the threads. If it `is_cut`, the link is cut after the hellos. A
+    /// pump that ends drops its writer or reader, and then both ends of the link close.
     ///
     /// The refusals are those of `start`, `NotConnected` (12) if a way ends during the hello, and 20 to 25, 34 or 35 if
     /// foreign bytes arrive over it. Then nothing runs, and all that was handed over is dropped.
@@ -52,9 +61,10 @@ impl<
         peer: B,
         rows: Rows<R>,
         ways: Ways<Way<W, D>, Way<V, E>>,
+        is_cut: bool,
     ) -> Result<Running<R, A, B>, Refusal> {
         let mut running = Running::idle(rt, alloc, local, peer, Path::Wire)?;
-        match running.begin_over(rows, ways) {
+        match running.begin_over(rows, ways, is_cut) {
             Ok(()) => Ok(running),
             Err(refusal) => {
                 running.stop();
@@ -79,9 +89,18 @@ impl<
     }
 
     // Exchanges the hellos, and starts the threads.
-    fn begin(&mut self) -> Result<(), Refusal> {
+    fn begin(&mut self, is_cut: bool) -> Result<(), Refusal> {
         self.mirror.shared.greet()?;
-        self.workers.start(&self.mirror.shared)
+        self.work(is_cut)
+    }
+
+    // Starts the threads of both nodes. No thread has sent anything of the stream when the link is cut.
+    fn work(&mut self, is_cut: bool) -> Result<(), Refusal> {
+        let shared = &self.mirror.shared;
+        if is_cut {
+            shared.cut();
+        }
+        self.workers.start(shared)
     }
 
     // Starts the pumps, exchanges the hellos, and starts the threads of both nodes.
@@ -89,6 +108,7 @@ impl<
         &mut self,
         rows: Rows<R>,
         ways: Ways<Way<W, D>, Way<V, E>>,
+        is_cut: bool,
     ) -> Result<(), Refusal> {
         let Ways { to_peer, to_local } = ways;
         let Rows { local, peer } = rows;
@@ -101,7 +121,7 @@ impl<
         carrier.start_way(workers, shared, PEER_TO_LOCAL, inward, to_local)?;
         drop(carrier);
         shared.greet_over_ways()?;
-        workers.start(shared)
+        self.work(is_cut)
     }
 }
 
@@ -117,7 +137,9 @@ impl<R: Threads + Wait + Clock + Drop, A: PrimaryHalf + Drop, B: SecondaryHalf +
 
     /// Ends the session: closes both ends, lets the disks finish all pending work, stops the threads, and returns both
     /// halves. `NotDrained` (36) if a thread still shares them.
-    pub fn finish(self) -> Result<(A, B), Refusal> {
+    pub fn finish(self) -> Result<(A, B), Refusal>
+        ensures refused { IfErr result (λ e. e ≡ NotDrained) }
+    {
         let mut running = self;
         running.mirror.shared.cut();
         running.mirror.shared.drain();

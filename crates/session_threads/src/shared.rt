@@ -51,7 +51,7 @@ impl<R: Wait, A: PrimaryHalf, B: SecondaryHalf> Shared<R, A, B> {
         self.peer.close();
     }
 
-    /// Wakes all threads, which then see whether they are to stop.
+    /// Wakes all threads: after a connection has opened, or to stop them.
     pub(crate) fn ring(&self) {
         self.local.work_bell().ring_all(&self.rt);
         self.local.writers_bell().ring_all(&self.rt);

@@ -9,13 +9,17 @@ const BLOCK_KIB: u64 = 4;
 
 impl Report {
     /// Returns the report as a JSON text: an object for each node, with a member for each word and number of its status
-    /// line, and `resync`, which is null if no resync goes on.
+    /// line; `resync`, which is null if no resync goes on; and `peer_sync_failed`.
     pub fn json(&self, alloc: Global) -> Result<String, AllocError> {
         let primary = primary_value(alloc, &self.primary)?;
         let secondary = secondary_value(alloc, &self.secondary)?;
         let resync = progress(alloc, self.resync)?;
-        let report =
-            json!(in alloc; {"primary": primary, "secondary": secondary, "resync": resync})?;
+        let report = json!(in alloc; {
+            "primary": primary,
+            "secondary": secondary,
+            "resync": resync,
+            "peer_sync_failed": self.is_peer_failed
+        })?;
         report.to_string(alloc)
     }
 }

@@ -8,6 +8,13 @@ use std::hash::RandomState;
 use std::io;
 use std::io::{Read, Write};
 
+/// The text for a client when there is no report.
+const NO_REPORT: &str =
+    "no report within two seconds: a session gives way to the next, or a disk does not answer\n";
+
+/// The text for a client that asks for another page.
+const NO_SUCH_PAGE: &str = "there is no such page: this server has / and /status.json\n";
+
 /// The page that a client gets, with a report, or none if there is none now.
 #[derive(Drop)]
 struct Page<'a> {
@@ -30,45 +37,39 @@ impl Service for Page<'_> {
         }
         let Some(report) = self.report else {
             response.status = StatusCode::SERVICE_UNAVAILABLE;
-            return fill(
-                response,
-                HeaderValue::from_static("text/plain; charset=utf-8"),
-                b"no report within two seconds: a session gives way to the next, or a disk does not answer\n",
-            );
+            return fill_text(response, NO_REPORT);
         };
         match request.uri().path() {
-            "/" => {
-                let text = report.text(self.alloc)?;
-                fill(
-                    response,
-                    HeaderValue::from_static("text/plain; charset=utf-8"),
-                    text.as_bytes(),
-                )
-            }
+            "/" => fill_text(response, &report.text(self.alloc)?),
             "/status.json" => {
-                let text = report.json(self.alloc)?;
+                let json = report.json(self.alloc)?;
                 fill(
                     response,
                     HeaderValue::from_static("application/json"),
-                    text.as_bytes(),
+                    &json,
                 )
             }
             _ => {
                 response.status = StatusCode::NOT_FOUND;
-                fill(
-                    response,
-                    HeaderValue::from_static("text/plain; charset=utf-8"),
-                    b"there is no such page: this server has / and /status.json\n",
-                )
+                fill_text(response, NO_SUCH_PAGE)
             }
         }
     }
 }
 
+// Gives a response a plain text.
+fn fill_text(response: &mut Response, text: &str) -> Result<(), AllocError> {
+    fill(
+        response,
+        HeaderValue::from_static("text/plain; charset=utf-8"),
+        text,
+    )
+}
+
 // Gives a response its body and the body's type.
-fn fill(response: &mut Response, kind: HeaderValue, body: &[u8]) -> Result<(), AllocError> {
+fn fill(response: &mut Response, kind: HeaderValue, body: &str) -> Result<(), AllocError> {
     response.add_header(header::CONTENT_TYPE, kind)?;
-    response.body.put_slice(body)?;
+    response.body.put_slice(body.as_bytes())?;
     Ok(())
 }
 

@@ -2,6 +2,10 @@
 use status_lines::{PrimaryLine, SecondaryLine};
 use std::alloc::{AllocError, Global};
 
+/// The line of a peer's disk that is left out.
+const PEER_FAILED: &str =
+    "a sync of the peer's image failed: the link stays down until the server ends\n";
+
 /// A resync that goes on.
 #[derive(Clone, Copy, Debug, PartialEq, Eq)]
 pub struct Resync {
@@ -19,17 +23,20 @@ impl Resync {
     }
 }
 
-/// The state of a server's nodes: what the status line of each shows, and the progress of a resync, if one goes on.
+/// The state of a server's nodes: what the status line of each shows, the progress of a resync, if one goes on, and whether the
+/// peer's disk is left out, since a sync of it has failed.
 #[derive(Clone, Copy, Debug, PartialEq, Eq)]
 pub struct Report {
     pub primary: PrimaryLine,
     pub secondary: SecondaryLine,
     pub resync: Option<Resync>,
+    pub is_peer_failed: bool,
 }
 
 impl Report {
-    /// Returns both lines, the primary's first, each ended by a newline.
+    /// Returns both lines, the primary's first, each ended by a newline, and a third one if the peer's disk is left out.
     pub fn text(&self, alloc: Global) -> Result<String, AllocError> {
-        format!(in alloc; "{}\n{}\n", self.primary, self.secondary)
+        let further = if self.is_peer_failed { PEER_FAILED } else { "" };
+        format!(in alloc; "{}\n{}\n{further}", self.primary, self.secondary)
     }
 }

@@ -1,5 +1,6 @@
 //! A session over a link in this process.
-ghost use Rattle.std.specs.Prelude.{◌≡◌, ◌≤◌, Some, slice_get, IfOk};
+ghost use Rattle.std.specs.Prelude.{◌≡◌, ◌≤◌, Some, slice_get, IfErr, IfOk};
+ghost use Rattle.blocks.specs.declared.refusal.Refusal.TheVariants.{NotDrained};
 ghost use Rattle.halves.specs.Opening.{opening_of};
 ghost use Rattle.model.specs.Headline.{IsJoined};
 ghost use Rattle.model.specs.Primary.{PrimaryHistory};
@@ -56,7 +57,7 @@ impl<
     T: Store + Drop + Send + 'static,
 > Session<R, L, S, T> {
     /// Starts a session over two disks and the two directions of a link, whose rows are the session's, as the parts are its
-    /// opening: exchanges the hellos, and starts the threads.
+    /// opening: exchanges the hellos, cuts the link if the parts say so, and starts the threads.
     ///
     /// `BadSetting` (15), `UsedIdentifier` (33) and the refusals of the hello (30 to 33) come as for the nodes;
     /// `NoMemory` (7) if there is no memory, and if a thread cannot be started. Then nothing runs, and all that was
@@ -89,7 +90,7 @@ impl<
             },
         )?;
         match PeerHalf::open(rt, alloc, parts.settings, peer, parts.peer, peer_ends) {
-            Ok(peer) => match Running::start(rt, alloc, local, peer) {
+            Ok(peer) => match Running::start(rt, alloc, local, peer, parts.is_cut) {
                 Ok(running) => Ok(Session { running }),
                 Err(refusal) => Err(refusal),
             },
@@ -123,6 +124,7 @@ impl<R: Threads + Wait + Clock + Drop, L: Linked, S: Store + Drop, T: Store + Dr
         ensures had { IfOk result (λ nodes. PrimaryIsHad (Some L.opening) nodes.0 × SecondaryIsHad (Some L.opening) nodes.1) }
         ensures joined { IfOk result (λ nodes. (p : PrimaryHistory) (s : SecondaryHistory) → PrimaryHas nodes.0 p → SecondaryHas nodes.1 s → IsJoined p s) }
         ensures numbered { IfOk result (λ nodes. nodes.1.core.number ≤ nodes.0.core.connections) }
+        ensures refused { IfErr result (λ e. e ≡ NotDrained) }
     {
         let Session { running } = self;
         let (local, peer) = running.finish()?;

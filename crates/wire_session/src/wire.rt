@@ -1,5 +1,6 @@
 //! A session whose frames go over streams of bytes, such as sockets.
-ghost use Rattle.std.specs.Prelude.{◌≡◌, ◌<◌, ◌≤◌, false, slice_get, unwrap_or, IfOk, IfSome};
+ghost use Rattle.std.specs.Prelude.{◌≡◌, ◌<◌, ◌≤◌, false, slice_get, unwrap_or, IfErr, IfOk, IfSome};
+ghost use Rattle.blocks.specs.declared.refusal.Refusal.TheVariants.{NotDrained};
 ghost use Rattle.halves.specs.Opening.{opening_of};
 ghost use Rattle.model.specs.Primary.{primary_opening};
 ghost use Rattle.model.specs.Secondary.{secondary_opening};
@@ -86,7 +87,7 @@ impl<
                     local: local_rows,
                     peer: peer_rows,
                 };
-                match Running::start_over(rt, alloc, local, peer, rows, ways) {
+                match Running::start_over(rt, alloc, local, peer, rows, ways, parts.is_cut) {
                     Ok(running) => Ok(WireSession { running }),
                     Err(refusal) => Err(refusal),
                 }
@@ -158,6 +159,7 @@ impl<R: Threads + Wait + Clock + Drop, B: Beginning, S: Store + Drop, T: Store +
     pub fn finish(self) -> Result<(WirePrimary<R, S>, WireSecondary<R, T>), Refusal>
         ensures had { IfOk result (λ nodes. PrimaryIsHad B.opening nodes.0 × SecondaryIsHad B.opening nodes.1) }
         ensures numbered { IfOk result (λ nodes. nodes.1.core.number ≤ nodes.0.core.connections) }
+        ensures refused { IfErr result (λ e. e ≡ NotDrained) }
     {
         let WireSession { running } = self;
         let (local, peer) = running.finish()?;

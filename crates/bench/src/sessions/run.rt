@@ -83,6 +83,7 @@ fn parts(alloc: Global, plan: Plan) -> Result<(Parts, Disks), Refusal> {
         marks: Vec::from_elem(alloc, false, BLOCKS as usize)?,
         sync: 2,
         loss: 3,
+        is_cut: false,
     };
     let local = MemStore::zeroed(alloc, BLOCKS)?;
     let peer = MemStore::zeroed(alloc, BLOCKS)?;

@@ -6,9 +6,14 @@ use Rattle.serving.proofs.server.serve_sized.Goals as goal
 pub returns : goal.returns
 returns g c =
     let ended = c.in_ok-served.ensures in
-    on_ok_weaker c.print.result (λ same. record {
+    let printed = c.print.ensures in
+    on_ok_weaker c.print.result (λ all. record {
       end = c.in_ok-served.field-0;
       ended = ended;
-      alike = ended.all.alike same.0.0 same.0.1;
-      whole = (sym ended.all.torn.0 ∙ same.1.0, sym ended.all.torn.1 ∙ same.1.1);
-    }) (both _ _ c.print.result c.print.ensures.alike c.print.ensures.whole)
+      unchanged = all.1.0;
+      synced = all.1.1;
+      alike = ended.all.alike all.0.0.0 all.0.0.1;
+      whole = (sym ended.all.torn.0 ∙ all.0.1.0.0, sym ended.all.torn.1 ∙ all.0.1.0.1);
+      printed = all.0.1.1;
+    }) (both _ _ c.print.result (both _ _ c.print.result printed.alike (both _ _ c.print.result printed.whole printed.printed))
+    (both _ _ c.print.result printed.unchanged printed.synced))

@@ -9,9 +9,9 @@ use Rattle.serving.proofs.sessions.run_sessions.Given as goal
 
 abbrev pub invariant-loop : goal.invariant-loop
 invariant-loop g l = record {
-  honest : WasHonest (opening l.rest);
-  unparted : IsUnparted (opening l.rest);
+  honest : WasHonest (opening l.last);
+  unparted : IsUnparted (opening l.last);
   came : (first : SessionEnd) × (earlier : List SessionEnd)
       × (IsFirst (record standard { protocol = l.fn.service.protocol; blocks = l.fn.service.blocks }) l.fn.disks.local.disk l.fn.disks.peer.disk first
-      × HasCome first earlier l.rest);
+      × HasCome first earlier l.last);
 }

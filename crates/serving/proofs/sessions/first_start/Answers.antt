@@ -1,8 +1,8 @@
 use Rattle.std.proofs.Common.{◌≡◌, refl, sym, ◌∙◌, ap, arith}
 use Rattle.blocks.specs.declared.tuple.Tuple.{Tuple}
 use Rattle.settle.proofs.Openings.{first-honest}
-use Rattle.serving.proofs.sessions.first_rest.Goals.{then-are_alike, else-are_alike}
-use Rattle.serving.proofs.sessions.first_rest.Goals as goal
+use Rattle.serving.proofs.sessions.first_start.Goals.{then-are_alike, else-are_alike}
+use Rattle.serving.proofs.sessions.first_start.Goals as goal
 
 pub returns-in-Ok : goal.returns-in-Ok
 returns-in-Ok c =
@@ -17,6 +17,10 @@ returns-in-Ok c =
         first_historical = first.first i;
         second_historical = first.second i;
       });
+      same = λ same. elim c.if-are_alike.branch [
+        | then-are_alike w ↦ c.in-Ok.ensures.identifiers.1 ∙ (w.peer-is ∙ sym c.in-Ok.ensures.identifiers.0)
+        | else-are_alike w ↦ absurd (let is = c.are_alike.ensures.found same in let not = w.if-are_alike.false in cc)
+      ];
       other = λ differ. c.in-Ok.ensures.identifiers.1 ∙ (elim c.if-are_alike.branch [
         | then-are_alike w ↦ absurd (differ (c.are_alike.ensures.alike w.if-are_alike.true))
         | else-are_alike w ↦ w.peer-is ∙ (λ i. record {

@@ -9,7 +9,7 @@ use Rattle.secondary_protocol.specs.Node.{NodeHas as SecondaryHas}
 use Rattle.serving.specs.Sessions.{NodesComeTo, counted}
 use Rattle.settle.specs.Settled.{numbers}
 use Rattle.serving.proofs.Ended.{given, still-has, still-has-too}
-use Rattle.serving.proofs.session_end.compare.Goals as goal
+use Rattle.serving.proofs.session_end.settle_and_hand_over.Goals as goal
 
 pub returns-clause-comes : goal.returns-clause-comes
 returns-clause-comes g c = given c.args.worked c.in_ok-receipts.receipts

@@ -1,0 +1,2 @@
+-- The bytes of the three lines.
+pub mod Text
