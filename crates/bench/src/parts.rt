@@ -2,9 +2,10 @@
 //! cache.
 ghost use Rattle.std.specs.Prelude.{◌≡◌, ◌<◌, ◌≤◌, ◌*◌, length};
 
+mod resyncs;
 mod way;
 
-use blocks::BLOCK_BYTES;
+use blocks::{BLOCK_BYTES, MAX_BLOCKS};
 use std::time::{Duration, Instant};
 use way::Way;
 
@@ -14,6 +15,12 @@ const SOURCE_BLOCKS: usize = 65_536;
 /// The distance from one copied block to the next: odd, so that each block has its turn, and far, so that none is
 /// fetched ahead.
 const STRIDE: usize = 20_011;
+
+/// Blocks that a resync takes.
+const RESYNC_BLOCKS: u32 = 131_072;
+
+/// Blocks of a device of 1 TiB.
+const TEBIBYTE_BLOCKS: u32 = 268_435_456;
 
 /// Copies `count` blocks, each from another part of the buffer. Returns the sum of a byte of each.
 fn copy_blocks(source: &[u8], block: &mut [u8], count: u32) -> u64
@@ -95,11 +102,15 @@ fn measure(
     compare(rt, &mut way, writes, (in_flight, blocks), copied)
 }
 
-/// Takes `writes` writes through the parts of a small device and of the largest, with few in flight and with many.
+/// Takes `writes` writes through the parts of a small device and of one of 1 GiB, with few in flight and with many, and blocks
+/// through a resync of one of 1 GiB and of one of 1 TiB.
 pub(crate) fn measure_all(rt: &HostRuntime, writes: u32) -> anyhow::Result<()> {
     let source = Vec::from_elem(rt.alloc(), 0x5Au8, SOURCE_BLOCKS * BLOCK_BYTES)?;
     measure(rt, &source, writes, 16, 1024)?;
     measure(rt, &source, writes, 16, 262_144)?;
     measure(rt, &source, writes, 4096, 1024)?;
-    measure(rt, &source, writes, 4096, 262_144)
+    measure(rt, &source, writes, 4096, 262_144)?;
+    drop(source);
+    resyncs::measure(rt, MAX_BLOCKS, RESYNC_BLOCKS)?;
+    resyncs::measure(rt, TEBIBYTE_BLOCKS, RESYNC_BLOCKS)
 }

@@ -34,7 +34,7 @@ pub marked-bits : (n : ℕ) (words : List ℕ) (b : ℕ) → b < n → marked (m
 marked-bits n words b within = let same : 0 + b ≡ b = omega arith in marked-bits_from 0 n words b within ∙ ap (bit_of words) same
 
 -- a bit of a word, turned
-shifted : (k : ℕ) → k < 64 → 1 * 2 ^ k % 18446744073709551616 ≡ 2 ^ k
+pub shifted : (k : ℕ) → k < 64 → 1 * 2 ^ k % 18446744073709551616 ≡ 2 ^ k
 shifted k small =
     let below : 2 ^ k < 2 ^ 64 = pow-lt small in
     let one : 1 * 2 ^ k ≡ 2 ^ k = omega arith in

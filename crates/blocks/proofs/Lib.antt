@@ -1,2 +1,4 @@
+pub mod Buffers
 pub mod Cutting
 pub mod Tearing
+pub mod Written

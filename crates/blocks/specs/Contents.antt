@@ -1,5 +1,5 @@
 -- The contents of a device, block by block, and what a write makes of them.
-use Rattle.std.specs.Prelude.{ℕ, zero, suc, ◌≡◌, ◌+◌, ◌-◌, ◌/◌, ◌≤◌, ◌⊎◌, List, [], ◌∷◌, ◌++◌, length, take, drop, slice_get}
+use Rattle.std.specs.Prelude.{ℕ, zero, suc, ◌≡◌, ◌+◌, ◌-◌, ◌/◌, ◌<◌, ◌≤◌, ◌⊎◌, List, [], ◌∷◌, ◌++◌, length, take, drop, slice_get}
 
 -- the first `count` blocks of bytes, each of this size
 abbrev pub cut : ℕ → ℕ → List ℕ → List (List ℕ)
@@ -19,3 +19,7 @@ pub record IsTorn (device : List (List ℕ)) (first : ℕ) (written torn : List 
   pub size : length torn ≡ length device
   pub each : (block : ℕ) → (slice_get torn block ≡ slice_get device block)
       ⊎ ((first ≤ block) × (slice_get torn block ≡ slice_get written (block - first)))
+
+-- the first `count` blocks of a buffer are those of a disk from block `first` on
+pub record AreRead (device : List (List ℕ)) (first : ℕ) (bytes : List ℕ) (count : ℕ) : Type 0 where
+  pub each : (offset : ℕ) → offset < count → slice_get (blocks_of 4096 bytes) offset ≡ slice_get device (first + offset)

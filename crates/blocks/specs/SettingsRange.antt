@@ -5,7 +5,7 @@ use Rattle.blocks.specs.declared.settings.Protocol.TheVariants.{C}
 
 -- each setting is in its range
 pub record IsInRange (s : Settings) : Type 0 where
-  pub blocks : (0 < s.blocks) × (s.blocks ≤ 262144)
+  pub blocks : (0 < s.blocks) × (s.blocks ≤ 2147483648)
   pub max_epoch : (0 < s.max_epoch) × (s.max_epoch ≤ 20000)
   pub slots : (0 < s.slots) × (s.slots ≤ 1024)
   pub backlog : (0 < s.backlog) × (s.backlog ≤ 4096)

@@ -10,8 +10,11 @@ pub const BLOCK_BYTES: usize = 4096;
 /// extent of a device may be shorter.
 pub const EXTENT_BLOCKS: u64 = 1024;
 
-/// The most blocks that a device may have: 1 GiB (this project's limit).
+/// The most blocks that a device in memory, a pair or a run may have: 1 GiB (this project's limit).
 pub const MAX_BLOCKS: u32 = 262_144;
+
+/// The most blocks that a device may have: 8 TiB. A full resync then takes half of the places of a stream.
+pub const MAX_DEVICE_BLOCKS: u32 = 2_147_483_648;
 
 /// The number of a block, from 0. Any number is allowed here: whether a device has the block is tested where it is
 /// used.

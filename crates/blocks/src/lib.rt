@@ -16,7 +16,7 @@ mod settings;
 mod store;
 mod tuple;
 
-pub use block::{BLOCK_BYTES, Block, EXTENT_BLOCKS, Extent, MAX_BLOCKS};
+pub use block::{BLOCK_BYTES, Block, EXTENT_BLOCKS, Extent, MAX_BLOCKS, MAX_DEVICE_BLOCKS};
 pub use command::Command;
 pub use connection_words::ConnectionWords;
 pub use faulty::FaultStore;

@@ -3,7 +3,7 @@ ghost use Rattle.std.specs.Prelude.{◌≡◌, ◌<◌, ◌≤◌, ◌↔◌, Is
 ghost use Rattle.blocks.specs.SettingsRange.{IsInRange, standard};
 ghost use Rattle.blocks.specs.declared.refusal.Refusal.TheVariants.{BadSetting};
 
-use crate::{MAX_BLOCKS, Refusal};
+use crate::{MAX_DEVICE_BLOCKS, Refusal};
 use std::fmt;
 
 /// When a write counts as completed (DRBD User's Guide, "Replication modes").
@@ -32,7 +32,7 @@ impl fmt::Display for Protocol {
 pub struct Settings {
     /// When a write counts as completed.
     pub protocol: Protocol,
-    /// Blocks of the device, 1 to 262,144.
+    /// Blocks of the device, 1 to 2,147,483,648. A pair, a script and a run take at most 262,144.
     pub blocks: u32,
     /// The most writes of an epoch, 1 to 20,000.
     pub max_epoch: u32,
@@ -64,7 +64,7 @@ impl Settings {
         ensures accepted { IsOk result ↔ IsInRange self.now }
         ensures refused { IfErr result (λ e. e ≡ BadSetting) }
     {
-        if is_within(self.blocks, MAX_BLOCKS)
+        if is_within(self.blocks, MAX_DEVICE_BLOCKS)
             && is_within(self.max_epoch, 20_000)
             && is_within(self.slots, 1024)
             && is_within(self.backlog, 4096)

@@ -184,8 +184,8 @@ then, R may also be 20 to 25, 34 or 35.
 const SERVE: &str = "\
 If the images differ at the start, every block of --local is copied over --peer.
 
-The server mirrors two image files of the same length, 4 KiB to 1 GiB in whole
-blocks of 4 KiB, and serves them as one export to clients of the network block
+The server mirrors two images of the same length, regular files or block
+devices, 4 KiB to 8 TiB in whole blocks of 4 KiB, and serves them as one export to clients of the network block
 device protocol, as qemu, nbdcopy and fio are, 256 of them at a time. It serves
 READ, WRITE, WRITE_ZEROES, FLUSH and FUA, of whole blocks of 4 KiB; others get
 EINVAL. Each write goes to both images, to the peer's over a link, and is
@@ -195,10 +195,16 @@ answered once it is completed as the protocol says:
   C                    once it is in both images
 A flush has the system put both images on stable storage. If that fails for
 --peer, the server cuts the link, goes on with --local alone, and says so at its
-end. Both lie in memory, too: the server takes twice the device's size, plus
-some 110 MB, plus up to 100 MB for each client with long requests under way.
-Both images are locked meanwhile: if another server or a run uses one, the
-server fails with status 1.
+end. It takes some 110 MB of memory, plus 34 MB for each TiB of the device, plus
+up to 100 MB for each client with long requests under way. Both images are
+locked meanwhile: if another server or a run uses one, the server fails with
+status 1.
+
+With --first compare, the default, the server reads both images at the start,
+and says after each GiB how far it is. That takes long for large ones. --first
+copy copies all of --local over --peer without a look; --first assume-equal
+takes the images as alike, as two new files of zeros are: where they differ
+after all, nothing says so.
 
   drbdpair serve --local a.img --peer b.img
   nbdcopy disk.img nbd://127.0.0.1
@@ -209,7 +215,8 @@ ten seconds, puts both images on stable storage, and prints three lines:
   completed X          ranges of at most 32 blocks that clients wrote
   settled X            those of them that the primary's journal confirms
   unmarked 0           blocks that differ and have no mark
-If blocks could not be copied, as with a disk that fails, a line on standard
+For images of more than 1 GiB the third line is unmarked not compared, unless
+--compare asks for the comparison. If blocks could not be copied, as with a disk that fails, a line on standard
 error says how many, and the status is 1; so it is if a flush or the end could
 not put an image on stable storage, or if a file may have kept parts of a write
 that failed. If an image was replaced or has another length, the three lines do

@@ -1,10 +1,14 @@
 //! The words of `serve`.
 use crate::run::{number, option, protocol, protocol_option};
-use blocks::MAX_BLOCKS;
-use clap::{ArgMatches, Command, Error};
-use options::ServeOptions;
+use blocks::MAX_DEVICE_BLOCKS;
+use clap::builder::ValueParser;
+use clap::{Arg, ArgAction, ArgMatches, Command, Error};
+use options::{FirstStart, ServeOptions};
 use std::alloc::Global;
 use std::net::SocketAddr;
+
+/// The values of `--first`.
+const FIRSTS: [&str; 3] = ["compare", "copy", "assume-equal"];
 
 const ABOUT: &str = "Serves two mirrored images to clients of the network block device protocol";
 
@@ -25,7 +29,7 @@ pub(crate) fn serve<'a>(alloc: Global, help: &'a str) -> Result<Command<'a>, Err
             "N",
             "Blocks of the device, of 4 KiB; the local image's if none are given",
             1,
-            i64::from(MAX_BLOCKS),
+            i64::from(MAX_DEVICE_BLOCKS),
         ))?
         .arg(number(
             alloc,
@@ -42,7 +46,23 @@ pub(crate) fn serve<'a>(alloc: Global, help: &'a str) -> Result<Command<'a>, Err
             "Cuts the link every SECONDS seconds and reconnects it, to try that",
             1,
             3600,
-        ))?;
+        ))?
+        .arg(
+            option(
+                alloc,
+                "first",
+                "HOW",
+                "At the start: compare the images, copy all of the local one, or assume-equal",
+            )
+            .value_parser(ValueParser::Names(&FIRSTS))
+            .default_value("compare"),
+        )?
+        .arg(
+            Arg::new(alloc, "compare")
+                .long("compare")
+                .action(ArgAction::SetTrue)
+                .help("Compares the images at the end, which is done anyway up to 1 GiB"),
+        )?;
     Ok(command)
 }
 
@@ -59,12 +79,23 @@ pub(crate) fn options<'a>(words: &ArgMatches<'a>) -> Option<ServeOptions<'a>> {
         listen,
         page_port: page_port(words),
         cut_every: words.get_one("cut-every"),
+        first: first(words),
+        compare: words.get_flag("compare"),
     })
 }
 
 /// Returns where the server is to listen, as it was given.
 pub(crate) fn listen<'a>(words: &ArgMatches<'a>) -> &'a str {
     words.get_str("listen").unwrap_or("")
+}
+
+// Returns what is to be done with the images at the start.
+fn first(words: &ArgMatches<'_>) -> FirstStart {
+    match words.get_str("first") {
+        Some("copy") => FirstStart::Copy,
+        Some("assume-equal") => FirstStart::AssumeEqual,
+        _ => FirstStart::Compare,
+    }
 }
 
 // Returns the port of the status page, if there is to be one.

@@ -4,6 +4,7 @@ ghost use Rattle.std.specs.Prelude.{◌≤◌};
 use command_line::{HelpTexts, Order, parse};
 use numbers::Status;
 use script::script_on;
+use serving::AnyContents;
 use session_run::Host;
 use std::alloc::Global;
 use std::convert::AsStr;
@@ -55,7 +56,9 @@ fn carry_out<
     match order {
         Order::Script(file) => run_script(rt, *file, input, out, err),
         Order::Run(options, images) => session_run::run(rt, options, images, out, err).code(),
-        Order::Serve(options) => serving::serve(rt, options, input, out, err).code(),
+        Order::Serve(options) => {
+            serving::serve::<AnyContents, H, I, W, E>(rt, options, input, out, err).code()
+        }
     }
 }
 

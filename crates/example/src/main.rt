@@ -6,6 +6,7 @@ mod disk;
 
 ghost use Rattle.std.specs.Prelude.{◌≤◌, ◌+◌};
 
+use bitmap::Bitmap;
 use blocks::{ConnectionWords, MemStore, Refusal, Settings, Tuple};
 use bytes::Bytes;
 use disk::LooseDisk;
@@ -44,8 +45,8 @@ fn mirrored<R: Wait + Copy + Drop>(out: &impl Print, rt: R, alloc: Global) -> an
     // Two disks that begin alike have the same generation identifiers.
     let alike = Tuple::new(1, 0, 0, 0);
     let zeros = MemStore::zeroed(alloc, SETTINGS.blocks)?;
-    let marks = Vec::from_elem(alloc, false, SETTINGS.blocks as usize)?;
-    let mut local = Local::<R>::new(alloc, SETTINGS, zeros, alike, marks)?;
+    let marks = Bitmap::unmarked(alloc, u64::from(SETTINGS.blocks))?;
+    let mut local = Local::<R>::with_bitmap(alloc, SETTINGS, zeros, alike, marks)?;
     let disk = LooseDisk {
         disk: MemStore::zeroed(alloc, SETTINGS.blocks)?,
         passes: Some(4),

@@ -4,6 +4,7 @@ ghost use Rattle.endpoint.specs.Calls.{IsNewIn, IsNewOut};
 ghost use Rattle.ruled_link.specs.Inward.{taking};
 ghost use Rattle.ruled_link.specs.Outward.{sending};
 
+use bitmap::Bitmap;
 use blocks::{BLOCK_BYTES, ConnectionWords, MemStore, Refusal, Settings, Tuple};
 use bytes::Bytes;
 use ruled_link::{PieceIn, PieceOut, RuledIn, RuledOut, row};
@@ -70,7 +71,7 @@ pub(crate) fn open_local<R: Wait + Copy + Drop>(
     alloc: Global,
 ) -> Result<(RowLocal<R>, RowEnds<R>), Refusal> {
     let disk = MemStore::zeroed(alloc, SETTINGS.blocks)?;
-    let marks = Vec::from_elem(alloc, false, SETTINGS.blocks as usize)?;
+    let marks = Bitmap::unmarked(alloc, u64::from(SETTINGS.blocks))?;
     let (ends, rows) = rows(rt, alloc)?;
     match Local::open(alloc, SETTINGS, disk, OWN, marks, ends, WORDS) {
         Ok(node) => Ok((node, rows)),

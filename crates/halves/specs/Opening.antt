@@ -13,5 +13,5 @@ opening_of parts local peer = record {
   peer = peer;
   own = parts.own;
   peer_tuple = parts.peer;
-  marks = λ block. unwrap_or (slice_get parts.marks.items block) false;
+  marks = λ block. unwrap_or (slice_get parts.marks block) false;
 }

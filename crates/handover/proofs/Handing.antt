@@ -1,11 +1,8 @@
 -- Why the next session may start from the parts that two nodes leave.
-use Rattle.std.proofs.Common.{ℕ, suc, ◌≡◌, ◌+◌, ◌<◌, ◌≤◌, inl, inr, Bool, true, false, ◌&&◌, List, [], ◌∷◌, ◌++◌, length, map, Option}
-use Rattle.std.proofs.Common.{slice_get, sym, ◌∙◌, ap, subst, arith, nat_lt}
-use Rattle.std.specs.Prelude.{unwrap_or}
-use Rattle.std.proofs.lemmas.Bool.{cases_lt, and_parts, and_from, le-ltb}
-use Rattle.std.proofs.lemmas.List.{map-append}
-use Rattle.std.proofs.lemmas.Option.{slice_get_past}
-use Rattle.blocks.specs.Ranges.{below}
+use Rattle.std.proofs.Common.{◌≡◌, ◌<◌, true, false}
+use Rattle.std.proofs.Common.{slice_get, sym, ◌∙◌, ap, subst, nat_lt}
+use Rattle.std.specs.Prelude.{IsTrue, unwrap_or}
+use Rattle.std.proofs.lemmas.Bool.{and_parts, and_from}
 use Rattle.blocks.specs.SettingsRange.{IsInRange}
 use Rattle.blocks.specs.declared.settings.Settings.{Settings}
 use Rattle.blocks.specs.declared.tuple.Tuple.{Tuple}
@@ -20,7 +17,6 @@ use Rattle.model.specs.Primary.{PrimaryHistory, local_map}
 use Rattle.model.specs.Secondary.{SecondaryHistory, secondary_map}
 use Rattle.model.specs.Settlement.{is_at_rest}
 use Rattle.model.specs.Theorems.{IsSoundOpening, marks_at}
-use Rattle.primary_protocol.proofs.Common.Marks.{length-marks, marked-in}
 use Rattle.primary_protocol.specs.Steps as primary
 use Rattle.secondary_protocol.specs.Node as secondary
 use Rattle.settle.proofs.Settling.{reached_from, of-runs, sound-opening}
@@ -29,7 +25,7 @@ use Rattle.halves.specs.declared.parts.Parts.{Parts}
 
 -- what two histories leave is a sound opening, where they are joined and at rest
 abbrev LeaveSound : PrimaryHistory → SecondaryHistory → Type 0
-LeaveSound p s = IsJoined p s → is_at_rest p s ≡ true → IsSoundOpening (left_by p s (identifiers_of s.consistent s.tuple p.tuple))
+LeaveSound p s = IsJoined p s → IsTrue p.faithful → is_at_rest p s ≡ true → IsSoundOpening (left_by p s (identifiers_of s.consistent s.tuple p.tuple))
 
 -- Histories that nodes have do, where the identifiers of both openings were honest.
 pub reached-leave : (p : PrimaryHistory) (s : SecondaryHistory) → primary.IsReached p → secondary.IsReached s → WereHonest p s → LeaveSound p s
@@ -44,29 +40,6 @@ LeaveNoPart p s = IsJoined p s → (p.opening_tuple.current ≡ s.opening_tuple.
 pub reached-parts : (p : PrimaryHistory) (s : SecondaryHistory) → primary.IsReached p → secondary.IsReached s → WereHonest p s → LeaveNoPart p s
 reached-parts p s rp rs honest =
     of-runs LeaveNoPart p s rp rs (leaves_no_part (reached_from p s rp rs) rp.events rs.events (sound-opening p s rp rs honest))
-
--- the marks of one block more
-pub one-more : (p : PrimaryHistory) (n block : ℕ) (old new : List Bool) (marked : Bool) → old ≡ map (is_marked p) (below n) → new ≡ old ++ marked ∷ []
-    → marked ≡ is_marked p block → block ≡ n → new ≡ map (is_marked p) (below (n + 1))
-one-more p n block old new marked was is here same =
-    let next : n + 1 ≡ suc n = omega arith in
-    let last : marked ≡ is_marked p n = here ∙ ap (is_marked p) same in
-    is ∙ (λ i. was i ++ last i ∷ []) ∙ sym (ap (λ (m : ℕ). map (is_marked p) (below m)) next ∙ map-append (is_marked p) (below n) (n ∷ []))
-
--- the marks of all blocks of the device, one by one: past its end none is marked
-pub marks-left : (p : PrimaryHistory) (marks : List Bool) (blocks : ℕ) → blocks ≡ p.settings.blocks → marks ≡ map (is_marked p) (below blocks) → (block : ℕ)
-    → unwrap_or (slice_get marks block) false ≡ is_marked p block
-marks-left p marks blocks size is block = ap (λ (l : List Bool). unwrap_or (slice_get l block) false) is ∙ elim (cases_lt block blocks) [
-  | inl inside ↦ marked-in blocks (is_marked p) block inside
-  | inr past ↦
-      let few : length (map (is_marked p) (below blocks)) ≤ block = subst (λ (n : ℕ). n ≤ block) (sym (length-marks blocks (is_marked p))) past in
-      ap (λ (v : Option Bool). unwrap_or v false) (slice_get_past (map (is_marked p) (below blocks)) block few)
-      ∙ sym (ap (λ (b : Bool). b && p.marks block) (le-ltb block p.settings.blocks (subst (λ (n : ℕ). n ≤ block) size past)))
-]
-
--- one mark for each block of the device
-pub length-left : (p : PrimaryHistory) (marks : List Bool) (blocks : ℕ) → marks ≡ map (is_marked p) (below blocks) → length marks ≡ blocks
-length-left p marks blocks is = ap (λ (l : List Bool). length l) is ∙ length-marks blocks (is_marked p)
 
 -- The parts that are left over the disks as they are: the same opening, over settings that both nodes have.
 pub parts-sound : (parts : Parts) (p : PrimaryHistory) (s : SecondaryHistory) → IsLeft parts p s → p.settings ≡ s.settings
@@ -92,4 +65,4 @@ parts-sound parts p s left same sound = record {
         let marked : is_marked p block ≡ true = cover block differs in
         let inside : nat_lt block parts.settings.blocks ≡ true = ap (λ (x : Settings). nat_lt block x.blocks) left.settings
         ∙ (and_parts (nat_lt block p.settings.blocks) (p.marks block) marked).0 in
-        and_from (nat_lt block parts.settings.blocks) (unwrap_or (slice_get parts.marks.items block) false) inside (left.marks block ∙ marked)
+        and_from (nat_lt block parts.settings.blocks) (unwrap_or (slice_get parts.marks block) false) inside (left.marks block ∙ marked)

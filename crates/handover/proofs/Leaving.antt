@@ -2,7 +2,7 @@
 -- block on which the disks differ, and then no identifiers of the peer's disk claim too much. Where no stream began, both nodes have
 -- the identifiers of their opening: those of the peer's disk either claim nothing, or the opening's marks covered the differences.
 use Rattle.std.proofs.Common.{ℕ, ◌≡◌, ◌<◌, inl, inr, Bool, true, false, not, ◌&&◌, List, [], ◌∷◌, slice_get, Some, sym, ◌∙◌, ap, subst, refl, arith}
-use Rattle.std.specs.Prelude.{is_none, is_ok, is_some, if◌then◌else◌}
+use Rattle.std.specs.Prelude.{IsTrue, is_none, is_ok, is_some, if◌then◌else◌}
 use Rattle.std.proofs.lemmas.Bool.{and_parts, lt-ltb}
 use Rattle.blocks.specs.Identifiers.{decision}
 use Rattle.blocks.specs.SettingsRange.{IsInRange}
@@ -106,28 +106,34 @@ module _ (o : Opening) (here : List PrimaryEvent) (there : List SecondaryEvent) 
   honest = were-honest o here there sound.identifiers
 
   -- where no stream began, the peer's current identifier claims what it did at the opening
-  still-current : NoneBegan (primary_run here (primary_at o))
+  still-current : IsTrue (primary_run here (primary_at o)).faithful → NoneBegan (primary_run here (primary_at o))
       → (secondary_run there (secondary_at o)).tuple.current ≡ (primary_run here (primary_at o)).tuple.current → Covered
-  still-current none is = covered (inr (honest.same_current (ap (λ (t : Tuple). t.current) (sym (peer-stays none)) ∙ is
-      ∙ ap (λ (t : Tuple). t.current) none.tuple)))
+  still-current faithful none is = covered (
+    faithful,
+    inr (honest.same_current (ap (λ (t : Tuple). t.current) (sym (peer-stays none)) ∙ is
+        ∙ ap (λ (t : Tuple). t.current) none.tuple)),
+  )
 
-  still-bitmap : NoneBegan (primary_run here (primary_at o)) → 0 < (primary_run here (primary_at o)).tuple.bitmap
+  still-bitmap : IsTrue (primary_run here (primary_at o)).faithful → NoneBegan (primary_run here (primary_at o)) → 0 < (primary_run here (primary_at o)).tuple.bitmap
       → (secondary_run there (secondary_at o)).tuple.current ≡ (primary_run here (primary_at o)).tuple.bitmap → Covered
-  still-bitmap none some is = covered (inr (honest.from_bitmap (subst (λ (t : Tuple). 0 < t.bitmap) none.tuple some)
-      (ap (λ (t : Tuple). t.current) (sym (peer-stays none)) ∙ is ∙ ap (λ (t : Tuple). t.bitmap) none.tuple)))
+  still-bitmap faithful none some is = covered (
+    faithful,
+    inr (honest.from_bitmap (subst (λ (t : Tuple). 0 < t.bitmap) none.tuple some)
+        (ap (λ (t : Tuple). t.current) (sym (peer-stays none)) ∙ is ∙ ap (λ (t : Tuple). t.bitmap) none.tuple)),
+  )
 
   leaves-grounded : IsGrounded (primary_run here (primary_at o)) (secondary_run there (secondary_at o)) → (peer : Tuple)
       → IsSoundOpening (left_by (primary_run here (primary_at o)) (secondary_run there (secondary_at o)) peer)
   leaves-grounded grounded peer = leaves-with peer (λ is. covered grounded) (λ some is. covered grounded)
 
-  leaves-known : (known : Bool)
+  leaves-known : (known : Bool) → IsTrue (primary_run here (primary_at o)).faithful
       → IsSoundOpening (left_by (primary_run here (primary_at o)) (secondary_run there (secondary_at o))
       (if known then (secondary_run there (secondary_at o)).tuple else unknown))
-  leaves-known known = elim (accounted-run o.settings o.local o.own o.marks here sound.ranges.here within).1.began [
-    | inr first ↦ leaves-grounded (inl (any-pick (λ (c : PrimaryConnection). c.begun) p.connections first.1.connection first.1.end first.1.at first.1.begun)) _
+  leaves-known known faithful = elim (accounted-run o.settings o.local o.own o.marks here sound.ranges.here within).1.began [
+    | inr first ↦ leaves-grounded (faithful, inl (any-pick (λ (c : PrimaryConnection). c.begun) p.connections first.1.connection first.1.end first.1.at first.1.begun)) _
     | inl none ↦ leaves-with (if known then s.tuple else unknown)
-        (λ is. still-current none (current-own known s.tuple p.tuple.current above is))
-        (λ some is. still-bitmap none some (current-own known s.tuple p.tuple.bitmap some is))
+        (λ is. still-current faithful none (current-own known s.tuple p.tuple.current above is))
+        (λ some is. still-bitmap faithful none some (current-own known s.tuple p.tuple.bitmap some is))
   ]
     where
       within : (block : ℕ) → block < o.settings.blocks → is_some (o.local block) ≡ true
@@ -137,8 +143,8 @@ pub leaves_an_opening : JoinedRunsLeaveAnOpening
 leaves_an_opening o here there sound joined grounded rest = leaves-grounded o here there sound joined rest grounded
 
 pub leaves_a_sound_opening : JoinedRunsLeaveASoundOpening
-leaves_a_sound_opening o here there sound joined rest =
-    leaves-known o here there sound joined rest (s.consistent && is_ok (decision p.tuple s.tuple))
+leaves_a_sound_opening o here there sound joined faithful rest =
+    leaves-known o here there sound joined rest (s.consistent && is_ok (decision p.tuple s.tuple)) faithful
   where
     p : PrimaryHistory
     p = primary_run here (primary_at o)

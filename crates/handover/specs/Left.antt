@@ -1,5 +1,5 @@
 -- What two nodes leave when they are brought together at rest, as an opening of the next session.
-use Rattle.std.specs.Prelude.{◌≡◌, true}
+use Rattle.std.specs.Prelude.{◌≡◌, true, IsTrue}
 use Rattle.blocks.specs.declared.tuple.Tuple.{Tuple}
 use Rattle.handover.specs.Next.{identifiers_of}
 use Rattle.model.specs.Headline.{IsGrounded}
@@ -26,10 +26,10 @@ abbrev pub JoinedRunsLeaveAnOpening : Type 0
 JoinedRunsLeaveAnOpening =
     JoinedRuns IsSoundOpening (λ p s. IsGrounded p s → is_at_rest p s ≡ true → (peer : Tuple) → IsSoundOpening (left_by p s peer))
 
--- after any history it is sound with the identifiers that the next session gives the peer's disk
+-- after any faithful history it is sound with the identifiers that the next session gives the peer's disk
 abbrev pub JoinedRunsLeaveASoundOpening : Type 0
 JoinedRunsLeaveASoundOpening =
-    JoinedRuns IsSoundOpening (λ p s. is_at_rest p s ≡ true → IsSoundOpening (left_by p s (identifiers_of s.consistent s.tuple p.tuple)))
+    JoinedRuns IsSoundOpening (λ p s. IsTrue p.faithful → is_at_rest p s ≡ true → IsSoundOpening (left_by p s (identifiers_of s.consistent s.tuple p.tuple)))
 
 -- Where both nodes have the same current identifier, the primary has no bitmap identifier: a premise of the order of writes.
 abbrev pub IsUnparted : Opening → Type 0

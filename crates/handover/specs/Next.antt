@@ -21,5 +21,5 @@ pub record IsLeft (parts : Parts) (p : PrimaryHistory) (s : SecondaryHistory) : 
   pub settings : parts.settings ≡ p.settings
   pub own : parts.own ≡ p.tuple
   pub peer : parts.peer ≡ identifiers_of s.consistent s.tuple p.tuple
-  pub marks : (block : ℕ) → unwrap_or (slice_get parts.marks.items block) false ≡ is_marked p block
-  pub length : length parts.marks.items ≡ parts.settings.blocks
+  pub marks : (block : ℕ) → unwrap_or (slice_get parts.marks block) false ≡ is_marked p block
+  pub length : length parts.marks ≡ parts.settings.blocks

@@ -1,10 +1,9 @@
 //! The parts of the next session.
-ghost use Rattle.std.specs.Prelude.{◌≡◌, ◌⊎◌, ◌↔◌, false, map, Err, IfErr, IfOk};
-ghost use Rattle.blocks.specs.Ranges.{below};
+ghost use Rattle.std.specs.Prelude.{◌≡◌, ◌⊎◌, ◌↔◌, false, IsTrue, Err, IfErr, IfOk};
 ghost use Rattle.blocks.specs.declared.refusal.Refusal.TheVariants.{BadSetting, NoMemory, NotDrained};
 ghost use Rattle.halves.specs.Opening.{opening_of};
 ghost use Rattle.handover.specs.Next.{IsLeft, identifiers_of};
-ghost use Rattle.model.specs.Headline.{IsJoined, is_marked};
+ghost use Rattle.model.specs.Headline.{IsJoined};
 ghost use Rattle.model.specs.Primary.{PrimaryHistory, local_map};
 ghost use Rattle.model.specs.Secondary.{SecondaryHistory, secondary_map};
 ghost use Rattle.model.specs.Settlement.{is_at_rest};
@@ -15,7 +14,7 @@ ghost use Rattle.secondary.specs.State.{node as secondary_node};
 ghost use Rattle.secondary_protocol.specs.Node.{NodeHas as SecondaryHas};
 ghost use Rattle.settle.specs.Settled.{WereHonest};
 
-use blocks::{Block, ConnectionWords, Refusal, Store, Tuple};
+use blocks::{ConnectionWords, Refusal, Store, Tuple};
 use generations::decide;
 use halves::Parts;
 use link::{FrameIn, FrameOut};
@@ -40,7 +39,7 @@ const UNKNOWN: Tuple = Tuple {
 ///
 /// `NotDrained` (36) unless both ends are closed, nothing is pending at the secondary, and the primary's disk has
 /// done or failed every write; else `BadSetting` (15) if the nodes have different settings; else `NoMemory` (7) if
-/// there is no room for the marks.
+/// there is no room for the bitmap.
 pub fn parts_after<
     O: FrameOut + Drop,
     I: FrameIn + Drop,
@@ -58,7 +57,7 @@ pub fn parts_after<
         → IsLeft parts p s) }
     ensures words { IfOk result (λ parts. (parts.sync ≡ words.sync) × (parts.loss ≡ words.loss)) }
     ensures sound { IfOk result (λ parts. (p : PrimaryHistory) (s : SecondaryHistory) → PrimaryHas (primary_node primary.now) p → SecondaryHas (secondary_node secondary.now) s
-        → IsJoined p s → WereHonest p s → IsSoundOpening (opening_of parts (local_map p) (secondary_map s))) }
+        → IsJoined p s → WereHonest p s → IsTrue p.faithful → IsSoundOpening (opening_of parts (local_map p) (secondary_map s))) }
     ensures unparted { IfOk result (λ parts. (p : PrimaryHistory) (s : SecondaryHistory) → PrimaryHas (primary_node primary.now) p → SecondaryHas (secondary_node secondary.now) s
         → IsJoined p s → WereHonest p s → (p.opening_tuple.current ≡ s.opening_tuple.current → p.opening_tuple.bitmap ≡ 0)
         → parts.own.current ≡ parts.peer.current → parts.own.bitmap ≡ 0) }
@@ -77,7 +76,7 @@ pub fn parts_after<
     if secondary.settings() != settings {
         return Err(Refusal::BadSetting);
     }
-    let marks = marks_of(alloc, primary, settings.blocks)?;
+    let marks = primary.bitmap().copy(alloc)?;
     let own = primary.tuple();
     let peer = identifiers_of(secondary.is_consistent(), secondary.tuple(), &own);
     Ok(Parts {
@@ -101,21 +100,4 @@ fn identifiers_of(is_consistent: bool, peer: Tuple, own: &Tuple) -> Tuple
     } else {
         UNKNOWN
     }
-}
-
-// Returns which blocks are marked, one `bool` for each block of the device. `NoMemory` (7) if there is no room for
-// them.
-fn marks_of<O: FrameOut + Drop, I: FrameIn + Drop, S: Store + Drop>(
-    alloc: Global,
-    primary: &Primary<O, I, S>,
-    blocks: u32,
-) -> Result<Vec<bool>, Refusal>
-    ensures marks { IfOk result (λ marks. (p : PrimaryHistory) → PrimaryHas (primary_node primary.now) p → marks.items ≡ map (is_marked p) (below blocks)) }
-    ensures refused { IfErr result (λ e. e ≡ NoMemory) }
-{
-    let mut marks = Vec::with_capacity(alloc, blocks as usize)?;
-    for block in 0..blocks {
-        marks.push(primary.is_marked(Block(u64::from(block))))?;
-    }
-    Ok(marks)
 }

@@ -1,7 +1,8 @@
 //! The lock on an image.
 use crate::OpenFault;
+use crate::length::image_bytes;
 use std::fs::{File, OpenOptions, TryLockError};
-use std::os::unix::fs::MetadataExt;
+use std::os::unix::fs::{FileTypeExt, MetadataExt};
 use std::rt::Files;
 use std::{fs, io};
 
@@ -17,7 +18,7 @@ impl ImageLock {
     /// lock. Does not wait, creates no file, and changes none.
     ///
     /// `InUse` comes if a lock on the image is kept, by another process or by this one, or if another file has taken its
-    /// place meanwhile; `NotAFile` if it is no regular file; `Unread` if the system refuses to open or find it; `LockRefused` if
+    /// place meanwhile; `NotAFile` if it is neither a regular file nor a block device; `Unread` if the system refuses to open or find it; `LockRefused` if
     /// it refuses the lock for another reason.
     pub fn take<H: Files<File = File>>(rt: &H, path: &str) -> Result<ImageLock, OpenFault> {
         let file = OpenOptions::new()
@@ -26,7 +27,7 @@ impl ImageLock {
             .open(rt, path)
             .map_err(OpenFault::Unread)?;
         match file.metadata() {
-            Ok(found) if found.is_file() => {}
+            Ok(found) if found.is_file() || found.file_type().is_block_device() => {}
             Ok(_) => return Err(OpenFault::NotAFile),
             Err(error) => return Err(OpenFault::Unread(error)),
         }
@@ -50,10 +51,15 @@ impl ImageLock {
         path: &str,
         image_bytes: u64,
     ) -> bool {
-        match self.file.metadata() {
-            Ok(found) => found.len() == image_bytes && is_at(rt, path, &self.file).unwrap_or(false),
+        match self.image_bytes() {
+            Ok(found) => found == image_bytes && is_at(rt, path, &self.file).unwrap_or(false),
             Err(_) => false,
         }
+    }
+
+    /// Returns how many bytes the image has.
+    pub fn image_bytes(&self) -> io::Result<u64> {
+        image_bytes(&self.file)
     }
 }
 

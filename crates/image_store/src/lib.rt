@@ -1,16 +1,16 @@
-//! A disk over an image file, written through, the lock on an image, and what each of a mirror's two images has.
+//! A mirror's images: their locks, their disks, and what each of the two has, by name.
 #![tactic(auto)]
 
 mod both;
 mod image_lock;
-mod loading;
+mod length;
 mod open_fault;
-mod store;
+mod opening;
 mod sync_handle;
 
 pub use both::Both;
 pub use image_lock::ImageLock;
-pub use loading::check_length;
+pub use length::check_length;
 pub use open_fault::OpenFault;
-pub use store::ImageStore;
+pub use opening::open_image;
 pub use sync_handle::SyncHandle;

@@ -14,13 +14,10 @@ pub enum OpenFault {
     /// The system refuses the lock, and not because one is kept, as a file system that has none does.
     #[error("the image could not be locked: {0}")]
     LockRefused(io::Error),
-    /// The file is a device, a pipe or the like.
-    #[error("an image is a regular file")]
+    /// The file is a folder, a pipe or the like.
+    #[error("an image is a regular file or a block device")]
     NotAFile,
     /// A lock on the image is kept.
     #[error("the image is in use, by another process or under another path")]
     InUse,
-    /// There is no memory for the device's bytes.
-    #[error("out of memory")]
-    NoMemory,
 }

@@ -34,10 +34,11 @@ use Rattle.laws.proofs.Lists.Elements.{same-at}
 use Rattle.laws.proofs.Tracked.Kept.{IsKnown}
 use Rattle.laws.proofs.Lists.Picks.{any-filtered}
 use Rattle.laws.proofs.Lists.Beginnings.{any-grows}
+use Rattle.std.proofs.Common.{IsTrue}
 
 -- Of the items of the connection of the last one that touches a block: the peer has said that this one is on its disk, and it
--- and every later one has what the last one has.
-pub record IsSure (connections : List PrimaryConnection) (block : ℕ) (touch : Touch) : Type 0 where
+-- and every later one has what the last one has, if all is faithful.
+pub record IsSure (faithful : Bool) (connections : List PrimaryConnection) (block : ℕ) (touch : Touch) : Type 0 where
   pub place : ℕ
   pub end : PrimaryConnection
   pub item : StreamItem
@@ -45,7 +46,7 @@ pub record IsSure (connections : List PrimaryConnection) (block : ℕ) (touch : 
   pub there : slice_get end.stream place ≡ Some item
   pub touched : touches item block ≡ true
   pub sure : is_sure end place item ≡ true
-  pub same : (next : ℕ) (i : StreamItem) → place ≤ next → slice_get end.stream next ≡ Some i → touches i block ≡ true
+  pub same : IsTrue faithful → (next : ℕ) (i : StreamItem) → place ≤ next → slice_get end.stream next ≡ Some i → touches i block ≡ true
       → content_at i block ≡ content_at touch.item block
 
 -- the home of the write that a touch is
@@ -65,7 +66,7 @@ pub record IsAccounted (h : PrimaryHistory) : Type 0 where
   pub waiting : (i block : ℕ) (accepted : Accepted) → slice_get h.writes i ≡ Some accepted → is_alone h accepted ≡ true → is_waiting accepted.outcome ≡ true
       → covers accepted.write block ≡ true → h.marks block ≡ true
   pub settled : (block : ℕ) (touch : Touch) → h.marks block ≡ false → latest h.connections block ≡ Some touch
-      → IsSure h.connections block touch ⊎ IsHeld h touch
+      → IsSure h.faithful h.connections block touch ⊎ IsHeld h touch
   pub untouched : (block : ℕ) → block < h.settings.blocks → h.marks block ≡ false → latest h.connections block ≡ None → h.opening_marks block ≡ false
   pub began : NoneBegan h ⊎ ((decided : Decision) × FirstBegan h decided × (decided ≡ FullSync → (block : ℕ) → block < h.settings.blocks → h.marks block ≡ false
       → latest h.connections block ≡ None → ⊥))
@@ -83,6 +84,7 @@ pub record Carries (h later : PrimaryHistory) : Type 0 where
   pub writes : (i : ℕ) (a : Accepted) → slice_get h.writes i ≡ Some a
       → (b : Accepted) × (slice_get later.writes i ≡ Some b) × (b.write ≡ a.write) × (b.home ≡ a.home) × (is_waiting a.outcome ≡ false
       → is_waiting b.outcome ≡ false)
+  pub faithful : IsTrue later.faithful → IsTrue h.faithful
 
 -- Streams that began: the same ones, with more frames taken.
 pub record KeepsBegun (h later : PrimaryHistory) : Type 0 where
@@ -92,9 +94,9 @@ pub record KeepsBegun (h later : PrimaryHistory) : Type 0 where
       → ((c : PrimaryConnection) × (slice_get h.connections k ≡ Some c) × (d.begun ≡ c.begun)) ⊎ (d.begun ≡ false)
 
 -- the last item is sure itself
-pub sure-last : (connections : List PrimaryConnection) (block : ℕ) (touch : Touch) (c : PrimaryConnection) → latest connections block ≡ Some touch
-    → slice_get connections touch.connection ≡ Some c → is_sure c touch.place touch.item ≡ true → IsSure connections block touch
-sure-last connections block touch c is at sure =
+pub sure-last : (faithful : Bool) (connections : List PrimaryConnection) (block : ℕ) (touch : Touch) (c : PrimaryConnection) → latest connections block ≡ Some touch
+    → slice_get connections touch.connection ≡ Some c → is_sure c touch.place touch.item ≡ true → IsSure faithful connections block touch
+sure-last faithful connections block touch c is at sure =
     let last = latest-at connections block touch is in
     let end : last.0 ≡ c = same-at connections touch.connection last.0 c last.1 at in
     let there : slice_get c.stream touch.place ≡ Some touch.item = subst (λ (x : PrimaryConnection). slice_get x.stream touch.place ≡ Some touch.item) end
@@ -107,7 +109,7 @@ sure-last connections block touch c is at sure =
       there = there;
       touched = last.3;
       sure = sure;
-      same = λ next i behind found touched. elim (latest-last connections block touch is touch.connection next c i at found touched) [
+      same = λ _ next i behind found touched. elim (latest-last connections block touch is touch.connection next c i at found touched) [
         | inl before ↦ absurd (omega arith)
         | inr here ↦
             let index : next ≡ touch.place = let low = here.1 in omega arith in

@@ -5,4 +5,3 @@ pub mod LatestPlaces
 pub mod Overlays
 pub mod Ranges
 pub mod SameBlocks
-pub mod Written

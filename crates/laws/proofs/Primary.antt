@@ -2,6 +2,7 @@
 pub mod Ends
 pub mod ExtentsMoves
 pub mod FirstStreams
+pub mod Faithful
 pub mod Homes
 pub mod HomesFollowing
 pub mod HomesMoves

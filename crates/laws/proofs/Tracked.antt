@@ -6,7 +6,7 @@ pub mod Moves
 pub mod Numbers
 pub mod Outcomes
 pub mod Quiet
-use Rattle.std.proofs.Common.{ℕ, ◌≡◌, ◌+◌, ◌<◌, ◌≤◌, true, false, List, length, Some, slice_get}
+use Rattle.std.proofs.Common.{ℕ, ◌≡◌, ◌+◌, ◌<◌, ◌≤◌, true, false, List, length, Some, slice_get, IsTrue}
 use Rattle.std.specs.Prelude.{is_some}
 use Rattle.model.specs.Contents.{Write, covers}
 use Rattle.model.specs.Stream.{WriteItem, ResyncItem}
@@ -27,14 +27,15 @@ pub record IsCopy (c : PrimaryConnection) (place block : ℕ) (contents : List �
   pub there : slice_get c.stream place ≡ Some (ResyncItem block contents)
   pub last : (next : ℕ) (write : Write) → place < next → slice_get c.stream next ≡ Some (WriteItem write) → covers write block ≡ false
 
--- the local disk comes to hold these bytes in the block, and no write that waits for it has the block
+-- the local disk comes to hold these bytes in the block, if the history is faithful, and no write that waits for it has the block
 abbrev pub Settles : PrimaryHistory → ℕ → List ℕ → Type 0
 Settles h block contents =
-    (settling_map h block ≡ Some contents) × ((i : ℕ) (accepted : Accepted) → slice_get h.writes i ≡ Some accepted → is_waiting accepted.outcome ≡ true
+    (IsTrue h.faithful → settling_map h block ≡ Some contents) × ((i : ℕ) (accepted : Accepted) → slice_get h.writes i ≡ Some accepted → is_waiting accepted.outcome ≡ true
     → covers accepted.write block ≡ false)
 
 -- Writes and items lie in the device; a completed write is on the local disk; what is under way is the last item on its block; a
--- block of a resync that no later write has is what the local disk comes to hold; and so is, on each unmarked block, what was sent.
+-- block of a resync that no later write has is what the local disk comes to hold; and so is, on each unmarked
+-- block, what was sent; both if the history is faithful.
 pub record IsTracked (h : PrimaryHistory) : Type 0 where
   pub homes : HasHomes h
   pub sized : (block : ℕ) → block < h.settings.blocks → is_some (h.opening_map block) ≡ true
@@ -46,4 +47,4 @@ pub record IsTracked (h : PrimaryHistory) : Type 0 where
   pub under_way : (place block : ℕ) (contents : List ℕ) → IsUnderWay (primary_connection h) place block contents
       → latest h.connections block ≡ Some (record { connection = last_index h.connections; place = place; item = ResyncItem block contents })
   pub copied : (place block : ℕ) (contents : List ℕ) → IsCopy (primary_connection h) place block contents → Settles h block contents
-  pub equal : (block : ℕ) → block < h.settings.blocks → h.marks block ≡ false → sent_map h block ≡ settling_map h block
+  pub equal : (block : ℕ) → block < h.settings.blocks → h.marks block ≡ false → IsTrue h.faithful → sent_map h block ≡ settling_map h block

@@ -28,6 +28,7 @@ use Rattle.model.specs.Headline.{IsJoined, TakesABeginning, StaysClosed, StaysCl
 use Rattle.model.specs.Headline.{is_covered}
 use Rattle.model.specs.Theorems.{Opening, primary_at, secondary_at, pair_at, SharesSettings, AnyOpening, HasRanges, IsSoundOpening, EveryRun, JoinedRuns}
 use Rattle.laws.specs.Reflections.{FromItem, FromOpening}
+use Rattle.std.specs.Prelude.{IsTrue}
 
 -- A primary by itself, whatever frames it takes.
 
@@ -66,7 +67,7 @@ PrimaryStaysClosed = (p : PrimaryHistory) (events : List PrimaryEvent) → Stays
 abbrev pub PrimaryReflects : Type 0
 PrimaryReflects =
     (o : Opening) (events : List PrimaryEvent) → HasRanges o → IsDisk o.settings.blocks o.local
-    → (block : ℕ) → is_covered (primary_run events (primary_at o)) block ≡ false
+    → IsTrue (primary_run events (primary_at o)).faithful → (block : ℕ) → is_covered (primary_run events (primary_at o)) block ≡ false
     → FromItem (primary_run events (primary_at o)) block ⊎ FromOpening (primary_run events (primary_at o)) block
 
 -- while no connection is established, every block that an unreleased write covers is marked

@@ -7,6 +7,7 @@ ghost use Rattle.model.specs.Theorems.{primary_at};
 ghost use Rattle.session_nodes.specs.Primaries.{PrimaryIsHad};
 
 use bell::Bell;
+use bitmap::Bitmap;
 use blocks::{ConnectionWords, Done, Refusal, Settings, Store, Tuple};
 use bytes::Bytes;
 use halves::PrimaryHalf;
@@ -50,13 +51,13 @@ impl<
         settings: Settings,
         store: S,
         tuple: Tuple,
-        marks: Vec<bool>,
+        marks: Bitmap,
         link: (O, I),
         words: ConnectionWords,
     ) -> Result<LocalHalf<R, B, O, I, S>, Refusal>
         requires outward { IsNewOut (O.state link.0) }
         requires inward { IsNewIn (I.state link.1) }
-        requires began { IfSome B.opening (λ opening. primary_opening settings (slice_get (S.contents store)) tuple (λ block. unwrap_or (slice_get marks.items block) false)
+        requires began { IfSome B.opening (λ opening. primary_opening settings (slice_get (S.contents store)) tuple (λ block. unwrap_or (slice_get marks block) false)
             ≡ primary_at opening) }
     {
         match Local::open(alloc, settings, store, tuple, marks, link, words) {
@@ -87,11 +88,13 @@ impl<
     S: Store + Drop,
 > PrimaryHalf for LocalHalf<R, B, O, I, S> {
     ghost use Rattle.locked_halves.specs.Shown.{HasReleased, PrimaryHasShown};
+    ghost use Rattle.std.specs.Prelude.{IsTrue};
     ghost use Rattle.session_nodes.specs.Primaries.{HasAccepted, HasHeld};
 
     ghost accepts = { HasAccepted B.opening };
 
-    ghost holds = { HasHeld B.opening };
+    // It says nothing of a disk whose reads are not known to be faithful.
+    ghost holds = { λ first count bytes. ((store : S) → IsTrue (S.faithful store)) → HasHeld B.opening first count bytes };
 
     ghost releases = { HasReleased B.opening };
 

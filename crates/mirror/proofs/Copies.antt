@@ -1,6 +1,6 @@
 -- Where copying a block is refused, and that is no failure, no resync has a block to copy.
 use Rattle.std.proofs.Common.{ℕ, ◌≡◌, Bool, true, false, not, ◌||◌, List, [], ◌∷◌, Option, Some, None, inl, inr, refl, sym, ◌∙◌, ap, subst}
-use Rattle.std.specs.Prelude.{Result, Err, OnErr, is_some, is_none, drop, length, nat_lt, unwrap_or}
+use Rattle.std.specs.Prelude.{Result, Err, IfErr, is_some, is_none, drop, length, nat_lt, unwrap_or}
 use Rattle.blocks.specs.declared.outcome.Done.{Done}
 use Rattle.blocks.specs.declared.outcome.What.TheVariants as what
 use Rattle.blocks.specs.declared.outcome.Reply.{Reply}
@@ -10,7 +10,7 @@ use Rattle.blocks.specs.declared.refusal.Refusal.TheVariants.{NoMemory, NotConne
 use Rattle.endpoint.specs.Calls.{is_out_of_memory}
 use Rattle.model.specs.Stream.{ResyncItem}
 use Rattle.model.specs.Primary.{PrimaryHistory, primary_connection, resync_runs, under_way, free_block, local_map}
-use Rattle.model.specs.PrimarySteps.{appending, resync_fault, resync_next, resync_tests, succeeding}
+use Rattle.model.specs.PrimarySteps.{copying, resync_fault, resync_next, resync_tests, succeeding}
 use Rattle.model.specs.Refusals.{Test, first_refusal}
 use Rattle.primary.specs.Calls.{CopiesOne}
 use Rattle.primary.specs.State.{PrimaryView, node}
@@ -49,8 +49,8 @@ none-free h none =
     ) ∷ tests)) ≡ true) (sym none) (by-tests c.closed (resync_runs c) (nat_lt 0 (length (under_way c))) tests)
 
 -- what refuses the step of the model
-next-refused : (h : PrimaryHistory) (e : Refusal) → reply.Refused e ≡ (resync_next false h).0 → is_some (first_refusal (resync_tests h false)) ≡ true
-next-refused h e said = go (first_refusal (resync_tests h false)) (free_block h) refl refl said
+next-refused : (read : Option (List ℕ)) (h : PrimaryHistory) (e : Refusal) → reply.Refused e ≡ (resync_next read false h).0 → is_some (first_refusal (resync_tests h false)) ≡ true
+next-refused read h e said = go (first_refusal (resync_tests h false)) (free_block h) refl refl said
   where
     go : (v : Option Refusal) (w : Option ℕ) → first_refusal (resync_tests h false) ≡ v → free_block h ≡ w
         → reply.Refused e ≡ (elim v as (λ _. Reply × PrimaryHistory) [
@@ -58,7 +58,7 @@ next-refused h e said = go (first_refusal (resync_tests h false)) (free_block h)
           | None ↦ elim w as (λ _. Reply × PrimaryHistory) [
             | None ↦ (reply.Refused NothingToDo, h)
             | Some block ↦ succeeding (what.Block (record { 0 = block }) (length (primary_connection h).stream))
-                (appending (ResyncItem block (unwrap_or (local_map h block) [])) h)
+                (copying read block h)
           ]
         ]).0 → is_some (first_refusal (resync_tests h false)) ≡ true
     go (Some refusal) w is free said = ap is_some is
@@ -77,19 +77,17 @@ fault-refused h e waits said = go (first_refusal (resync_tests h false)) refl sa
     go (Some refusal) is said = ap is_some is
     go None is said = let fault : e ≡ ReadFault = cc in absurd (no-fault (subst IsNoFailure fault waits))
 
--- A refused call leaves the node as the model has it.
-pub same-node : (v w : PrimaryView) → w.core ≡ v.core → w ≡ record v { core = w.core; faults = w.faults; steady = w.steady } → node w ≡ node v
-same-node v w core rest = ap node rest ∙ ap (λ s. node (record v { core = s })) core
-
+-- A call that is refused for another reason than a failure reads nothing, and is the model's.
 pub none-to-copy : (v w : PrimaryView) (result : Result Done Refusal) (e : Refusal) → result ≡ Err e → IsNoFailure e → CopiesOne result v w
-    → OnErr result (w.core ≡ v.core) → w ≡ record v { core = w.core; faults = w.faults; steady = w.steady }
+    → IfErr result (λ e. (e ≡ NoMemory → ⊥) → (e ≡ ReadFault → ⊥) → w ≡ v)
     → (h : PrimaryHistory) → NodeHas (node w) h → is_some (first_refusal (resync_tests h false)) ≡ true
-none-to-copy v w result e was waits steps kept rest h has =
-    let core : w.core ≡ v.core = subst (λ (r : Result Done Refusal). OnErr r (w.core ≡ v.core)) was kept in
-    let had : NodeHas (node v) h = subst (λ n. NodeHas n h) (same-node v w core rest) has in
+none-to-copy v w result e was waits steps idle h has =
+    let same : w ≡ v = subst (λ (r : Result Done Refusal). IfErr r (λ e. (e ≡ NoMemory → ⊥) → (e ≡ ReadFault → ⊥) → w ≡ v)) was idle
+    (λ is. no-memory (subst IsNoFailure is waits)) (λ is. no-fault (subst IsNoFailure is waits)) in
+    let had : NodeHas (node v) h = subst (λ n. NodeHas n h) (ap node same) has in
     elim steps [
-      | inl done ↦ next-refused h e (subst (λ (b : Bool). reply.Refused e ≡ (resync_next b h).0) (had-memory e waits)
-          (subst (λ (r : Result Done Refusal). replied reply.Ok r ≡ (resync_next (is_out_of_memory r) h).0) was (done.1.replies h had)))
+      | inl done ↦ next-refused done.1.0 h e (subst (λ (b : Bool). reply.Refused e ≡ (resync_next done.1.0 b h).0) (had-memory e waits)
+          (subst (λ (r : Result Done Refusal). replied reply.Ok r ≡ (resync_next done.1.0 (is_out_of_memory r) h).0) was (done.1.2.replies h had)))
       | inr failed ↦ fault-refused h e waits (subst (λ (b : Bool). reply.Refused e ≡ (resync_fault b h).0) (had-memory e waits)
           (subst (λ (r : Result Done Refusal). replied reply.Ok r ≡ (resync_fault (is_out_of_memory r) h).0) was (failed.1.replies h had)))
     ]

@@ -1,5 +1,5 @@
 -- What administrators rely on, stated of a primary's and a secondary's history. Nothing is proved here.
-use Rattle.std.specs.Prelude.{ℕ, suc, ◌≡◌, ◌<◌, ◌≤◌, nat_lt, Bool, true, false, ◌&&◌, ◌||◌, ◌⊎◌, List, length, take, map, Some, slice_get, Ok}
+use Rattle.std.specs.Prelude.{ℕ, suc, ◌≡◌, ◌<◌, ◌≤◌, nat_lt, Bool, true, false, ◌&&◌, ◌||◌, ◌⊎◌, List, length, take, map, Some, slice_get, Ok, IsTrue}
 use Rattle.std.specs.List.{list_any}
 use Rattle.blocks.specs.declared.tuple.Tuple.{Tuple}
 use Rattle.blocks.specs.declared.settings.Protocol.{Protocol}
@@ -84,9 +84,10 @@ Cover marks local peer = (block : ℕ) → same_block (local block) (peer block)
 abbrev pub opening_marked : PrimaryHistory → ℕ → Bool
 opening_marked p block = nat_lt block p.settings.blocks && p.opening_marks block
 
--- Grounded: some connection's stream has begun, or the opening marks cover the opening disks.
+-- Grounded: each block that a resync copied was as the local disk had it; and some connection's stream has begun, or the opening
+-- marks cover the opening disks.
 abbrev pub IsGrounded : PrimaryHistory → SecondaryHistory → Type 0
-IsGrounded p s = (list_any (λ c. c.begun) p.connections ≡ true) ⊎ Cover (opening_marked p) p.opening_map s.opening_map
+IsGrounded p s = IsTrue p.faithful × ((list_any (λ c. c.begun) p.connections ≡ true) ⊎ Cover (opening_marked p) p.opening_map s.opening_map)
 
 -- Fourth clause, of a grounded history: while no connection is established, every block on which the disks differ is
 -- marked.

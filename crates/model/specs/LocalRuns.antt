@@ -8,7 +8,8 @@ use Rattle.model.specs.Secondary.{SecondaryHistory}
 use Rattle.model.specs.SecondarySteps.{open_secondary, receive, peer, peer_fault, ack_out, close_secondary}
 
 -- The events of a primary. After a fault of its disk any of the offsets may be written. `room` and the frame are what
--- its link gives, and no frame means that it has none; `out_of_memory` says that a growth of memory is refused.
+-- its link gives, and no frame means that it has none; `out_of_memory` says that a growth of memory is refused. A resync reads what
+-- the disk has, or is given any bytes in its place.
 pub data PrimaryEvent : Type 0 where
   Opens : (sync loss : ℕ) (out_of_memory : Bool) → PrimaryEvent
   Submits : (first : ℕ) (contents : List (List ℕ)) (out_of_memory : Bool) → PrimaryEvent
@@ -16,7 +17,7 @@ pub data PrimaryEvent : Type 0 where
   FailsLocally : (number : ℕ) (offsets : List ℕ) → PrimaryEvent
   Sends : (room out_of_memory : Bool) → PrimaryEvent
   Takes : (frame : Option Received) (out_of_memory : Bool) → PrimaryEvent
-  Resyncs : (out_of_memory : Bool) → PrimaryEvent
+  Resyncs : (read : Option (List ℕ)) (out_of_memory : Bool) → PrimaryEvent
   FailsResync : (out_of_memory : Bool) → PrimaryEvent
   Closes : PrimaryEvent
   Receipts : (number : ℕ) → PrimaryEvent
@@ -29,7 +30,7 @@ primary_after (WritesLocally number) h = (local_done number h).1
 primary_after (FailsLocally number offsets) h = (local_fault number offsets h).1
 primary_after (Sends room out_of_memory) h = (send room out_of_memory h).1
 primary_after (Takes frame out_of_memory) h = (ack_in frame out_of_memory h).1
-primary_after (Resyncs out_of_memory) h = (resync_next out_of_memory h).1
+primary_after (Resyncs read out_of_memory) h = (resync_next read out_of_memory h).1
 primary_after (FailsResync out_of_memory) h = (resync_fault out_of_memory h).1
 primary_after Closes h = (close_primary h).1
 primary_after (Receipts number) h = (take_completed number h).1

@@ -52,7 +52,8 @@ pub record PrimaryConnection : Type 0 where
   pub begun : Bool
   pub closed : Bool
 
--- The primary's history. Connections are in the order of their opening, writes by rising number.
+-- The primary's history. Connections are in the order of their opening, writes by rising number. It is faithful while each block that a
+-- resync copied was as the local disk had it then.
 pub record PrimaryHistory : Type 0 where
   pub settings : Settings
   pub opening_map : BlockMap
@@ -65,6 +66,7 @@ pub record PrimaryHistory : Type 0 where
   pub tuple : Tuple
   pub peer : Option Tuple
   pub connections : List PrimaryConnection
+  pub faithful : Bool
 
 -- the primary at its start: nothing has happened yet
 abbrev pub primary_opening : Settings → BlockMap → Tuple → (ℕ → Bool) → PrimaryHistory
@@ -80,6 +82,7 @@ primary_opening settings disk tuple marks = record {
   tuple = tuple;
   peer = None;
   connections = [];
+  faithful = true;
 }
 
 -- a new connection with its two words and the tuple of its hello

@@ -248,13 +248,20 @@ resync_tests h out_of_memory =
     (c.closed, NotConnected) ∷ (not (resync_runs c) || (nat_lt 0 (length (under_way c)) || is_none (free_block h)), NothingToDo)
     ∷ (nat_le 4294967288 (length c.stream), StreamFull) ∷ (out_of_memory, NoMemory) ∷ []
 
--- Reads the lowest marked block that no open write covers, as the local disk has it now, and appends it in the same
--- step.
-abbrev pub resync_next : Bool → PrimaryHistory → Reply × PrimaryHistory
-resync_next out_of_memory h = tested h (resync_tests h out_of_memory) (λ _. elim (free_block h) [
+-- what a read of a block gave: these bytes, or what the local disk has there now
+abbrev pub given : Option (List ℕ) → PrimaryHistory → ℕ → List ℕ
+given read h block = unwrap_or read (unwrap_or (local_map h block) [])
+
+-- puts a block into the stream as the read gave it
+abbrev pub copying : Option (List ℕ) → ℕ → PrimaryHistory → PrimaryHistory
+copying read block h = record (appending (ResyncItem block (given read h block)) h) { faithful = is_none read && h.faithful }
+
+-- Reads the lowest marked block that no open write covers, and appends what the read gave in the same step.
+abbrev pub resync_next : Option (List ℕ) → Bool → PrimaryHistory → Reply × PrimaryHistory
+resync_next read out_of_memory h = tested h (resync_tests h out_of_memory) (λ _. elim (free_block h) [
   | None ↦ (reply.Refused NothingToDo, h)
   | Some block ↦ succeeding (what.Block (record { 0 = block }) (length (primary_connection h).stream))
-      (appending (ResyncItem block (unwrap_or (local_map h block) [])) h)
+      (copying read block h)
 ])
 
 -- the local disk fails the read, and nothing changes

@@ -1,5 +1,5 @@
 -- The order of writes that a secondary keeps while it calls itself consistent.
-use Rattle.std.specs.Prelude.{ℕ, suc, ◌≡◌, ◌<◌, ◌≤◌, ◌==◌, Bool, true, false, length, take, map, Some, slice_get}
+use Rattle.std.specs.Prelude.{ℕ, suc, ◌≡◌, ◌<◌, ◌≤◌, ◌==◌, Bool, true, false, length, take, map, Some, slice_get, IsTrue}
 use Rattle.std.specs.List.{list_any}
 use Rattle.model.specs.Contents.{BlockMap, Layer, overlay}
 use Rattle.model.specs.Stream.{epoch_of}
@@ -52,8 +52,9 @@ pub record IsOnDisk (p : PrimaryHistory) (s : SecondaryHistory) (set : Blocks) :
 abbrev pub KeepsWriteOrder : PrimaryHistory → SecondaryHistory → Type 0
 KeepsWriteOrder p s = s.consistent ≡ true → (set : Blocks) × IsOnDisk p s set
 
--- The premises of the write order: no local write failed, and if both nodes opened with the same current identifier,
+-- The premises of the write order: no local write failed, each block that a resync copied was as the local disk had it, and if both nodes opened with the same current identifier,
 -- the primary had nothing to resync.
 pub record IsUnharmed (p : PrimaryHistory) (s : SecondaryHistory) : Type 0 where
+  pub faithful : IsTrue p.faithful
   pub local : list_any (λ accepted. is_failed accepted.outcome) p.writes ≡ false
   pub opening : p.opening_tuple.current ≡ s.opening_tuple.current → p.opening_tuple.bitmap ≡ 0

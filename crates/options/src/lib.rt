@@ -7,4 +7,4 @@ mod serve;
 
 pub use plan::{byte_of_turn, reconnect_words};
 pub use run::{Images, LiveOutput, Path, RunOptions};
-pub use serve::ServeOptions;
+pub use serve::{FirstStart, ServeOptions};

@@ -1,5 +1,5 @@
 -- The primary takes a frame of the pair: its step, and that the pair is one afterwards.
-use Rattle.std.proofs.Common.{◌≡◌, ◌&&◌, ◌++◌, ◌∷◌, [], List, Option, Some, None, Result, sym, ◌∙◌, ap, subst}
+use Rattle.std.proofs.Common.{◌≡◌, ◌&&◌, ◌++◌, ◌∷◌, [], List, Option, Some, None, Result, sym, ◌∙◌, ap, subst, IsTrue}
 use Rattle.std.specs.Prelude.{option_map, is_none}
 use Rattle.blocks.specs.declared.refusal.Refusal.{Refusal}
 use Rattle.blocks.specs.declared.outcome.Done.{Done}
@@ -54,7 +54,7 @@ module _ (v : PairView) (a : SecondaryView) (b : PrimaryView) (result : Result D
       (sym (ap (λ (x : PrimaryView). x.outgoing) rest))
       (subst (λ (i : Option PacketReceiverState). IsDirection v.primary.core.settings.link (record { out = v.primary.outgoing; inn = i }))
       (sym (ap (λ (x : SecondaryView). x.incoming) same)) was.pair.there))
-      (ap (λ (x : SecondaryView). x.steady) same ∙ was.peer) (ap (λ (x : PrimaryView). x.steady) rest ∙ was.local)
+      (ap (λ (x : SecondaryView). x.steady) same ∙ was.peer.0, subst IsTrue (sym (ap (λ (x : SecondaryView). x.faithful) same)) was.peer.1) (ap (λ (x : PrimaryView). x.steady) rest ∙ was.local.0, subst IsTrue (sym (ap (λ (x : PrimaryView). x.faithful) rest)) was.local.1)
 
 -- The queue is lent, a frame is taken, and the queue is back.
 module _ (v : PairView) (a e : SecondaryView) (b c d : PrimaryView) (q back : QueueState) (result : Result Done Refusal) (was : IsPairView v)
@@ -99,8 +99,8 @@ module _ (v : PairView) (a e : SecondaryView) (b c d : PrimaryView) (q back : Qu
       (sym (ap (λ (x : PrimaryView). x.outgoing) d_is ∙ ap (λ (x : PrimaryView). x.outgoing) c_is ∙ ap (λ (x : PrimaryView). x.outgoing) b_is))
       (subst (λ (i : Option PacketReceiverState). IsDirection v.primary.core.settings.link (record { out = v.primary.outgoing; inn = i }))
       (sym (ap (λ (x : SecondaryView). x.incoming) e_is ∙ ap (λ (x : SecondaryView). x.incoming) a_is)) was.pair.there))
-      (ap (λ (x : SecondaryView). x.steady) e_is ∙ ap (λ (x : SecondaryView). x.steady) a_is ∙ was.peer)
-      (ap (λ (x : PrimaryView). x.steady) d_is ∙ ap (λ (x : PrimaryView). x.steady) c_is ∙ ap (λ (x : PrimaryView). x.steady) b_is ∙ was.local)
+      (ap (λ (x : SecondaryView). x.steady) e_is ∙ ap (λ (x : SecondaryView). x.steady) a_is ∙ was.peer.0, subst IsTrue (sym (ap (λ (x : SecondaryView). x.faithful) e_is ∙ ap (λ (x : SecondaryView). x.faithful) a_is)) was.peer.1)
+      (ap (λ (x : PrimaryView). x.steady) d_is ∙ ap (λ (x : PrimaryView). x.steady) c_is ∙ ap (λ (x : PrimaryView). x.steady) b_is ∙ was.local.0, subst IsTrue (sym (ap (λ (x : PrimaryView). x.faithful) d_is ∙ ap (λ (x : PrimaryView). x.faithful) c_is ∙ ap (λ (x : PrimaryView). x.faithful) b_is)) was.local.1)
 
 -- A queue that was lent does come back.
 pub never-kept : (v : PairView) (a : SecondaryView) (b c d : PrimaryView) (q : QueueState) (result : Result Done Refusal) → IsPairView v

@@ -15,12 +15,12 @@ use Rattle.primary.specs.State.{PrimaryView}
 use Rattle.primary.specs.State as local
 use Rattle.secondary.specs.State.{SecondaryView}
 use Rattle.secondary.specs.State as peer
-use Rattle.pair.specs.State.{PairView, IsPairView, state}
+use Rattle.pair.specs.State.{PairView, IsPairView, IsSure, IsSureToo, state}
 
 -- a step keeps a pair
 pub view-kept : (event : Event) (out_of_memory : Bool) (v w : PairView) (said : Reply) → IsPairView v → IsPairStep event out_of_memory (state v) said (state w)
     → IsDirection v.primary.core.settings.link (state w).there
-    → IsDirection v.secondary.core.settings.link (state w).back → w.primary.steady ≡ true → w.secondary.steady ≡ true → IsPairView w
+    → IsDirection v.secondary.core.settings.link (state w).back → IsSure w.primary → IsSureToo w.secondary → IsPairView w
 view-kept event out_of_memory v w said was steps there back local peer = record {
   pair = pair-kept event out_of_memory (state v) (state w) said was.pair steps there back;
   local = local;
@@ -31,7 +31,7 @@ view-kept event out_of_memory v w said was steps there back local peer = record 
 pub view-kept-back : (event : Event) (out_of_memory : Bool) (v w : PairView) (said : Reply) → IsPairView v
     → IsPairStep event out_of_memory (state v) said (state w)
     → IsDirection v.secondary.core.settings.link (state w).back
-    → IsDirection v.primary.core.settings.link (state w).there → w.secondary.steady ≡ true → w.primary.steady ≡ true → IsPairView w
+    → IsDirection v.primary.core.settings.link (state w).there → IsSureToo w.secondary → IsSure w.primary → IsPairView w
 view-kept-back event out_of_memory v w said was steps back there peer local = view-kept event out_of_memory v w said was steps there back local peer
 
 -- The primary alone.
@@ -45,7 +45,7 @@ primary-step event out_of_memory f does v w said steps = on-primary event out_of
 
 pub primary-is : (event : Event) (out_of_memory : Bool) (v : PairView) (w : PrimaryView) (said : Reply) → IsPairView v
     → IsPairStep event out_of_memory (state v) said (state (record v { primary = w })) → w.outgoing ≡ v.primary.outgoing → w.incoming ≡ v.primary.incoming
-    → w.steady ≡ true
+    → IsSure w
     → IsPairView (record v { primary = w })
 primary-is event out_of_memory v w said was steps out inn steady =
     view-kept event out_of_memory v (record v { primary = w }) said was steps
@@ -65,7 +65,7 @@ secondary-step event out_of_memory f does v w said steps = on-secondary event ou
 
 pub secondary-is : (event : Event) (out_of_memory : Bool) (v : PairView) (w : SecondaryView) (said : Reply) → IsPairView v
     → IsPairStep event out_of_memory (state v) said (state (record v { secondary = w })) → w.outgoing ≡ v.secondary.outgoing → w.incoming ≡ v.secondary.incoming
-    → w.steady ≡ true → IsPairView (record v { secondary = w })
+    → IsSureToo w → IsPairView (record v { secondary = w })
 secondary-is event out_of_memory v w said was steps out inn steady =
     view-kept event out_of_memory v (record v { secondary = w }) said was steps
     (subst (λ (i : Option PacketReceiverState). IsDirection v.primary.core.settings.link (record { out = v.primary.outgoing; inn = i }))

@@ -29,7 +29,7 @@ use Rattle.primary.specs.State.{PrimaryView}
 use Rattle.primary.specs.State as local
 use Rattle.secondary.specs.State.{SecondaryView}
 use Rattle.secondary.specs.State as peer
-use Rattle.pair.specs.State.{PairView, IsPairView, state}
+use Rattle.pair.specs.State.{PairView, IsPairView, state, IsSure, IsSureToo}
 
 some-get : {X : Type 0} (xs : List X) (n : ℕ) → is_some (slice_get xs n) ≡ nat_lt n (length xs)
 some-get [] n = grind (arith, nat_tests)
@@ -60,8 +60,8 @@ pub parts-are : (v : PairView) (settings : Settings) (here there : List (List �
     → length here ≡ settings.blocks → length there ≡ settings.blocks
     → primary.NodeHas (local.node v.primary) (primary_opening settings (slice_get here) own marks)
     → secondary.NodeHas (peer.node v.secondary) (secondary_opening settings (slice_get there) peer_tuple)
-    → v.primary.outgoing ≡ None → v.primary.incoming ≡ None → v.secondary.outgoing ≡ None → v.secondary.incoming ≡ None → v.primary.steady ≡ true
-    → v.secondary.steady ≡ true → IsPairView v
+    → v.primary.outgoing ≡ None → v.primary.incoming ≡ None → v.secondary.outgoing ≡ None → v.secondary.incoming ≡ None → IsSure v.primary
+    → IsSureToo v.secondary → IsPairView v
 parts-are v settings here there own peer_tuple marks ranges size other first second out inn back_out back_inn steady steady_too = record {
   pair = record {
     history = pair_opening settings (slice_get here) (slice_get there) own peer_tuple marks;
@@ -142,4 +142,4 @@ zero-honest settings bytes = record {
 pub zero-grounded : (settings : Settings) (bytes : List ℕ)
     → let h = pair_opening settings (filled settings.blocks bytes) (filled settings.blocks bytes) (words 1 0 0 0) (words 1 0 0 0)
     (λ _. false) in IsGrounded h.primary h.secondary
-zero-grounded settings bytes = inr (zero-equal settings bytes)
+zero-grounded settings bytes = (refl, inr (zero-equal settings bytes))

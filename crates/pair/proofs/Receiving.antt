@@ -1,5 +1,5 @@
 -- The secondary takes a frame of the pair: its step, and that the pair is one afterwards.
-use Rattle.std.proofs.Common.{◌≡◌, ◌&&◌, ◌++◌, ◌∷◌, [], List, Option, Some, None, Result, sym, ◌∙◌, ap, subst}
+use Rattle.std.proofs.Common.{◌≡◌, ◌&&◌, ◌++◌, ◌∷◌, [], List, Option, Some, None, Result, sym, ◌∙◌, ap, subst, IsTrue}
 use Rattle.std.specs.Prelude.{option_map, is_none}
 use Rattle.blocks.specs.declared.refusal.Refusal.{Refusal}
 use Rattle.blocks.specs.declared.outcome.Done.{Done}
@@ -54,7 +54,7 @@ module _ (v : PairView) (a : PrimaryView) (b : SecondaryView) (result : Result D
       (sym (ap (λ (x : SecondaryView). x.outgoing) rest))
       (subst (λ (i : Option PacketReceiverState). IsDirection v.secondary.core.settings.link (record { out = v.secondary.outgoing; inn = i }))
       (sym (ap (λ (x : PrimaryView). x.incoming) same)) was.pair.back))
-      (ap (λ (x : PrimaryView). x.steady) same ∙ was.local) (ap (λ (x : SecondaryView). x.steady) rest ∙ was.peer)
+      (ap (λ (x : PrimaryView). x.steady) same ∙ was.local.0, subst IsTrue (sym (ap (λ (x : PrimaryView). x.faithful) same)) was.local.1) (ap (λ (x : SecondaryView). x.steady) rest ∙ was.peer.0, subst IsTrue (sym (ap (λ (x : SecondaryView). x.faithful) rest)) was.peer.1)
 
 -- The queue is lent, a frame is taken, and the queue is back.
 module _ (v : PairView) (a e : PrimaryView) (b c d : SecondaryView) (q back : QueueState) (result : Result Done Refusal) (was : IsPairView v)
@@ -99,8 +99,8 @@ module _ (v : PairView) (a e : PrimaryView) (b c d : SecondaryView) (q back : Qu
       (sym (ap (λ (x : SecondaryView). x.outgoing) d_is ∙ ap (λ (x : SecondaryView). x.outgoing) c_is ∙ ap (λ (x : SecondaryView). x.outgoing) b_is))
       (subst (λ (i : Option PacketReceiverState). IsDirection v.secondary.core.settings.link (record { out = v.secondary.outgoing; inn = i }))
       (sym (ap (λ (x : PrimaryView). x.incoming) e_is ∙ ap (λ (x : PrimaryView). x.incoming) a_is)) was.pair.back))
-      (ap (λ (x : PrimaryView). x.steady) e_is ∙ ap (λ (x : PrimaryView). x.steady) a_is ∙ was.local)
-      (ap (λ (x : SecondaryView). x.steady) d_is ∙ ap (λ (x : SecondaryView). x.steady) c_is ∙ ap (λ (x : SecondaryView). x.steady) b_is ∙ was.peer)
+      (ap (λ (x : PrimaryView). x.steady) e_is ∙ ap (λ (x : PrimaryView). x.steady) a_is ∙ was.local.0, subst IsTrue (sym (ap (λ (x : PrimaryView). x.faithful) e_is ∙ ap (λ (x : PrimaryView). x.faithful) a_is)) was.local.1)
+      (ap (λ (x : SecondaryView). x.steady) d_is ∙ ap (λ (x : SecondaryView). x.steady) c_is ∙ ap (λ (x : SecondaryView). x.steady) b_is ∙ was.peer.0, subst IsTrue (sym (ap (λ (x : SecondaryView). x.faithful) d_is ∙ ap (λ (x : SecondaryView). x.faithful) c_is ∙ ap (λ (x : SecondaryView). x.faithful) b_is)) was.peer.1)
 
 -- A queue that was lent does come back.
 pub never-kept : (v : PairView) (a : PrimaryView) (b c d : SecondaryView) (q : QueueState) (result : Result Done Refusal) → IsPairView v

@@ -20,7 +20,7 @@ use Rattle.primary.specs.State.{PrimaryView}
 use Rattle.primary.specs.State as local
 use Rattle.secondary.specs.State.{SecondaryView}
 use Rattle.secondary.specs.State as peer
-use Rattle.pair.specs.State.{PairView, IsPairView, state}
+use Rattle.pair.specs.State.{PairView, IsPairView, state, IsSure, IsSureToo}
 use Rattle.pair.proofs.Pairing.{view-kept}
 
 -- The primary's push.
@@ -32,7 +32,7 @@ send-step v w result was sends steps = sends-step (state v) (state (record v { p
 
 pub send-is : (v : PairView) (w : PrimaryView) (result : Result Done Refusal) → IsPairView v → link.Sends result v.primary.outgoing w.outgoing
     → primary.NodeSteps (Sends (has_room result) (is_out_of_memory result)) (local.node v.primary) (from_primary.replied reply.Ok result) (local.node w)
-    → w.incoming ≡ v.primary.incoming → w.steady ≡ true → PacketsFollowIn (record { out = w.outgoing; inn = v.secondary.incoming })
+    → w.incoming ≡ v.primary.incoming → IsSure w → PacketsFollowIn (record { out = w.outgoing; inn = v.secondary.incoming })
     → IsPairView (record v { primary = w })
 send-is v w result was sends steps inn steady returned =
     view-kept SendEvent (is_out_of_memory result) v (record v { primary = w }) (from_primary.replied reply.Ok result) was (send-step v w result was sends steps)
@@ -52,7 +52,7 @@ answer-step v w result was sends steps = answers-step (state v) (state (record v
 pub answer-is : (v : PairView) (w : SecondaryView) (result : Result Done Refusal) → IsPairView v → link.Sends result v.secondary.outgoing w.outgoing
     → secondary.NodeSteps (Acknowledges (has_room result) (is_out_of_memory result)) (peer.node v.secondary) (from_secondary.replied (λ done. done) result)
     (peer.node w)
-    → w.incoming ≡ v.secondary.incoming → w.steady ≡ true → PacketsFollowIn (record { out = w.outgoing; inn = v.primary.incoming })
+    → w.incoming ≡ v.secondary.incoming → IsSureToo w → PacketsFollowIn (record { out = w.outgoing; inn = v.primary.incoming })
     → IsPairView (record v { secondary = w })
 answer-is v w result was sends steps inn steady returned =
     view-kept AckOutEvent (is_out_of_memory result) v (record v { secondary = w }) (from_secondary.replied (λ done. done) result) was

@@ -1,5 +1,5 @@
 -- The fields of a pair as plain values, and their invariant.
-use Rattle.std.specs.Prelude.{◌≡◌, true}
+use Rattle.std.specs.Prelude.{◌≡◌, true, IsTrue}
 use Rattle.primary.specs.State.{PrimaryView}
 use Rattle.secondary.specs.State.{SecondaryView}
 use Rattle.pair_protocol.specs.State.{IsPair, PairState}
@@ -18,10 +18,18 @@ state v = record {
   peer = v.secondary.disk;
   there = record { out = v.primary.outgoing; inn = v.secondary.incoming };
   back = record { out = v.secondary.outgoing; inn = v.primary.incoming };
+  faithful = v.primary.faithful;
 }
+
+-- the calls of a node's disk are known not to fail, and it was faithful
+abbrev pub IsSure : PrimaryView → Type 0
+IsSure v = (v.steady ≡ true) × IsTrue v.faithful
+
+abbrev pub IsSureToo : SecondaryView → Type 0
+IsSureToo v = (v.steady ≡ true) × IsTrue v.faithful
 
 -- Invariant: the pair refines some model history, and the calls of both disks are known not to fail.
 pub record IsPairView (v : PairView) : Type 0 where
   pub pair : IsPair (state v)
-  pub local : v.primary.steady ≡ true
-  pub peer : v.secondary.steady ≡ true
+  pub local : IsSure v.primary
+  pub peer : IsSureToo v.secondary

@@ -1,5 +1,5 @@
 //! The two nodes and their link.
-ghost use Rattle.std.specs.Prelude.{◌≡◌, ◌⊎◌, false, slice_get, unwrap_or, IfOk, IfErr};
+ghost use Rattle.std.specs.Prelude.{◌≡◌, ◌⊎◌, ◌≤◌, false, slice_get, unwrap_or, IfOk, IfErr};
 ghost use Rattle.blocks.specs.SettingsRange.{IsInRange};
 ghost use Rattle.blocks.specs.declared.refusal.Refusal.TheVariants.{BadSetting, NoMemory};
 ghost use Rattle.model.specs.Headline.{IsGrounded};
@@ -8,7 +8,7 @@ ghost use Rattle.pair.specs.Openings.{CanPair, zero_filled};
 ghost use Rattle.pair.specs.State.{state};
 ghost use Rattle.pair_protocol.specs.State.{PairHas, WasHonest};
 
-use blocks::{FaultStore, MemStore, Refusal, Settings, Store, Tuple};
+use blocks::{FaultStore, MAX_BLOCKS, MemStore, Refusal, Settings, Store, Tuple};
 use link::{PlainIn, PlainOut};
 use primary::Primary;
 use secondary::Secondary;
@@ -50,9 +50,12 @@ impl Pair {
         ensures honest { WasHonest (zero_filled settings) }
         // Its marks cover the differences of its disks: there are none.
         ensures grounded { IsGrounded (zero_filled settings).primary (zero_filled settings).secondary }
-        ensures refused { IfErr result (λ e. ((e ≡ BadSetting) × (IsInRange settings → ⊥)) ⊎ ((e ≡ NoMemory) × IsInRange settings)) }
+        ensures refused { IfErr result (λ e. ((e ≡ BadSetting) × (IsInRange settings → settings.blocks ≤ 262144 → ⊥)) ⊎ ((e ≡ NoMemory) × IsInRange settings)) }
     {
         settings.check()?;
+        if settings.blocks > MAX_BLOCKS {
+            return Err(Refusal::BadSetting);
+        }
         let tuple = Tuple {
             current: 1,
             bitmap: 0,

@@ -76,7 +76,7 @@ begun-kept = record {
   refuses = λ h frame peer standing has. changes (λ (c : PrimaryConnection). record c { closed = true }) (λ c is. is)
       (change_last refusing (change_last (with_frame frame) h.connections))
       (changes refusing (λ c is. is) (change_last (with_frame frame) h.connections) (changes (with_frame frame) (λ c is. is) h.connections has));
-  resyncs = λ h block runs alone is has. changes _ (λ c is. is) h.connections has;
+  resyncs = λ h block read may runs alone is has. changes _ (λ c is. is) h.connections has;
   closes = λ h standing has. changes _ (λ c is. is) h.connections has;
   receipts = λ h number has. has;
 }

@@ -15,7 +15,7 @@ use Rattle.laws.proofs.Theorems.Cover.{every_cover}
 use Rattle.laws.proofs.Theorems.WriteOrder.{every_write_order}
 use Rattle.pair_protocol.specs.State.{IsRun, WasHonest}
 use Rattle.pair_protocol.proofs.Honest.{opens-here, opens-there, honest-kept}
-use Rattle.pair_protocol.proofs.Grounded.{grounded-kept}
+use Rattle.pair_protocol.proofs.Grounded.{runs-faithfully, grounded-kept}
 use Rattle.pair_protocol.specs.Steps.{HasClauses}
 
 -- the history of a run
@@ -80,6 +80,7 @@ closed h is more = subst (λ (x : PairHistory). StaysClosed x.primary (run more 
 -- all of them
 pub has-clauses : (h : PairHistory) → IsRun h → HasClauses h
 has-clauses h is = record {
+  faithful = runs-faithfully h is;
   beginning = beginning h is;
   closed = closed h is;
   epochs = epochs h is;

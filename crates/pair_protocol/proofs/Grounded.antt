@@ -1,7 +1,11 @@
 -- A history that is grounded stays so: a stream that began is there, and nothing changes how the history began.
 use Rattle.std.proofs.Common.{ℕ, inl, inr, nat_lt, Bool, ◌&&◌, List, [], ◌∷◌, sym, ◌∙◌, ap, subst}
 use Rattle.blocks.specs.declared.settings.Settings.{Settings}
+use Rattle.std.specs.Prelude.{IsTrue}
+use Rattle.std.proofs.Common.{refl}
 use Rattle.model.specs.Contents.{BlockMap}
+use Rattle.model.specs.Primary.{PrimaryHistory}
+use Rattle.laws.proofs.Primary.Faithful.{faithful-run}
 use Rattle.model.specs.Headline.{Cover, IsGrounded, opening_marked}
 use Rattle.model.specs.Pair.{Event, PairHistory, same_block, step, run}
 use Rattle.model.specs.Theorems.{Opening, pair_at}
@@ -39,16 +43,35 @@ same-cover o h k here there later later-too cover block differs =
     ∙ differs
     )
 
+-- the resyncs of a pair copy what the local disk has
+faithful-still : (event : Event) (out_of_memory : Bool) (h : PairHistory) → IsRun h → IsTrue h.primary.faithful
+    → IsTrue (step event out_of_memory h).1.primary.faithful
+faithful-still event out_of_memory h is faithful =
+    let runs = (leads-run ((event, out_of_memory) ∷ []) h (linked h is)).0 in
+    subst (λ (p : PrimaryHistory). IsTrue p.faithful) (sym runs.primary) (faithful-run runs.here runs.own h.primary faithful)
+
+-- so every history of a pair is faithful
+pub runs-faithfully : (h : PairHistory) → IsRun h → IsTrue h.primary.faithful
+runs-faithfully h is =
+    let o = is.opening in
+    let runs = (leads-run is.events (pair_at o)
+    (record { homes = homes-opening o.settings o.local o.own o.marks; pairs = tt; counted = λ j d at. absurd (cc) })).0 in
+    subst (λ (k : PairHistory). IsTrue k.primary.faithful) is.is
+    (subst (λ (p : PrimaryHistory). IsTrue p.faithful) (sym runs.primary) (faithful-run runs.here runs.own (pair_at o).primary refl))
+
 -- a step keeps it
 grounded-after : (event : Event) (out_of_memory : Bool) (h : PairHistory) → IsRun h → IsGrounded h.primary h.secondary
     → IsGrounded (step event out_of_memory h).1.primary (step event out_of_memory h).1.secondary
-grounded-after event out_of_memory h is (inl begun) = inl (begun-after event out_of_memory h is begun)
-grounded-after event out_of_memory h is (inr cover) =
+grounded-after event out_of_memory h is (faithful, inl begun) =
+    (faithful-still event out_of_memory h is faithful, inl (begun-after event out_of_memory h is begun))
+grounded-after event out_of_memory h is (faithful, inr cover) =
     let later = is-run-more event out_of_memory h is in
-    let same = same-opening event out_of_memory h is in
-    inr (same-cover is.opening h (step event out_of_memory h).1 (opens-here h is) (opens-there h is)
-    (subst (λ (o : Opening). HasOpening o (step event out_of_memory h).1.primary) same (opens-here (step event out_of_memory h).1 later))
-    (subst (λ (o : Opening). HasOpeningToo o (step event out_of_memory h).1.secondary) same (opens-there (step event out_of_memory h).1 later)) cover)
+    let same = same-opening event out_of_memory h is in (
+      faithful-still event out_of_memory h is faithful,
+      inr (same-cover is.opening h (step event out_of_memory h).1 (opens-here h is) (opens-there h is)
+          (subst (λ (o : Opening). HasOpening o (step event out_of_memory h).1.primary) same (opens-here (step event out_of_memory h).1 later))
+          (subst (λ (o : Opening). HasOpeningToo o (step event out_of_memory h).1.secondary) same (opens-there (step event out_of_memory h).1 later)) cover),
+    )
 
 -- and so does every run
 pub grounded-kept : (events : List (Event × Bool)) (h : PairHistory) → IsRun h → IsGrounded h.primary h.secondary

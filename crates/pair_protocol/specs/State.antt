@@ -22,7 +22,7 @@ pub record Direction : Type 0 where
   pub out : Option PacketSenderState
   pub inn : Option PacketReceiverState
 
--- Both nodes' cores, the blocks of their disks, and both directions of the link.
+-- Both nodes' cores, the blocks of their disks, both directions of the link, and whether each read of the local disk gave what it holds.
 pub record PairState : Type 0 where
   pub primary : PrimaryState
   pub local : List (List ℕ)
@@ -30,10 +30,11 @@ pub record PairState : Type 0 where
   pub peer : List (List ℕ)
   pub there : Direction
   pub back : Direction
+  pub faithful : Bool
 
 -- each node by itself
 abbrev pub primary_of : PairState → primary.NodeState
-primary_of p = record { core = p.primary; disk = p.local; pushed = pushed_of p.there.out; taken = taken_of p.back.inn }
+primary_of p = record { core = p.primary; disk = p.local; pushed = pushed_of p.there.out; taken = taken_of p.back.inn; faithful = p.faithful }
 
 abbrev pub secondary_of : PairState → secondary.NodeState
 secondary_of p = record { core = p.secondary; disk = p.peer; pushed = pushed_of p.back.out; taken = taken_of p.there.inn }

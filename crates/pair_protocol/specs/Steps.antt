@@ -1,5 +1,5 @@
 -- The nodes' calls over a link are the pair's steps, and what holds of every history of a pair.
-use Rattle.std.specs.Prelude.{◌≡◌, ◌&&◌, ◌∷◌, ◌++◌, [], List, Bool, Option, Some, is_none, Result}
+use Rattle.std.specs.Prelude.{◌≡◌, ◌&&◌, ◌∷◌, ◌++◌, [], List, Bool, Option, Some, is_none, Result, IsTrue}
 use Rattle.blocks.specs.declared.refusal.Refusal.{Refusal}
 use Rattle.blocks.specs.declared.outcome.Done.{Done}
 use Rattle.blocks.specs.declared.outcome.Reply.TheVariants as reply
@@ -52,9 +52,10 @@ AcknowledgesAreSteps =
     → ((one : Received) → frame ≡ Some one → (primary_of q).taken ≡ (primary_of p).taken ++ one ∷ []) → secondary_of p ≡ secondary_of q
     → IsPairStep AckInEvent (is_out_of_memory result) p (from_primary.replied reply.Ok result) q
 
--- What holds of every history that a list of events leads to: the headline clause by clause, the cover and the write
+-- What holds of every history that a list of events leads to: its resyncs copied what the local disk had, the headline clause by clause, the cover and the write
 -- order, and that their premises are kept.
 pub record HasClauses (h : PairHistory) : Type 0 where
+  pub faithful : IsTrue h.primary.faithful
   pub beginning : TakesABeginning h.primary h.secondary
   pub closed : (more : List (Event × Bool)) → StaysClosed h.primary (run more h).1.primary × StaysClosedToo h.secondary (run more h).1.secondary
   pub epochs : HoldsEarlierEpochs h.secondary

@@ -1,3 +1,5 @@
+pub mod Flags
+pub mod Bits
 pub mod Stamps
 pub mod Pendings
 pub mod InSlots

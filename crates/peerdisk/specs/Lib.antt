@@ -1,3 +1,4 @@
+pub mod Stamped
 pub mod Blocks
 pub mod Items
 pub mod Pending

@@ -3,29 +3,36 @@ ghost use Rattle.std.specs.Prelude.{◌≡◌, ◌+◌, ◌≤◌, length, IfOk,
 ghost use Rattle.peerdisk.specs.Blocks.{adding, has_any, none_of};
 ghost use Rattle.blocks.specs.declared.refusal.Refusal.TheVariants.{NoMemory};
 
-use blocks::{Range, Refusal};
+use crate::words::{EXTENT_WORDS, clear_extent, has_bit, set_bits};
+use blocks::{EXTENT_BLOCKS, Range, Refusal};
 use std::alloc::Global;
 use std::marker::Model;
 
-/// The blocks of a device that the items of the last epoch cover. Each block has the number of the last epoch that
-/// covered it, so an epoch begins without a pass over the blocks: `has_any` and `add` take time for the blocks of
-/// their range, and `begin` takes constant time except once in four billion epochs.
+/// The blocks of a device that the items of the last epoch cover: a bit for each block, and for each extent the number
+/// of the last epoch whose items covered some of it. The bits of an extent count only if that is the last epoch, so an
+/// epoch begins without a pass over them.
+///
+/// It has its full size from the start: 264 MiB for a device of 8 TiB. Only `new` takes memory. `has_any` takes a step
+/// for each block of its range, and `add` too, and 16 steps more if it is the first of its epoch in the extent.
+/// `begin` takes constant time, except once in four billion epochs, where it takes a step for each extent.
 #[derive(Drop)]
 pub struct LastEpoch {
+    blocks: u32,
+    words: Vec<u64>,
     stamps: Vec<u32>,
     // A number of its own, not the epoch's number in a stream: it rises from one connection to the next too.
     epoch: u32,
 }
 
 impl Model for LastEpoch {
-    ghost use Rattle.std.specs.Prelude.{◌<◌, ◌≤◌, ◌==◌, Bool, List, map, All};
+    ghost use Rattle.std.specs.Prelude.{List, Bool};
+    ghost use Rattle.peerdisk.specs.Stamped.{covered, AreStamped};
 
     ghost Value = { List Bool };
 
-    ghost view = { λ e. map (λ stamp. stamp == e.epoch) e.stamps.items };
+    ghost view = { λ e. covered e.blocks e.epoch e.stamps.items e.words.items };
 
-    // No block has the stamp of a later epoch.
-    ghost invariant = { λ e. (0 < e.epoch) × All (λ stamp. stamp ≤ e.epoch) e.stamps.items };
+    ghost invariant = { λ e. AreStamped e.blocks e.epoch e.stamps.items e.words.items };
 }
 
 impl LastEpoch {
@@ -35,8 +42,15 @@ impl LastEpoch {
         ensures empty { IfOk result (λ e. e ≡ none_of blocks) }
         ensures refused { IfErr result (λ e. e ≡ NoMemory) }
     {
-        let stamps = vec![in alloc; 0; blocks as usize]?;
-        Ok(LastEpoch { stamps, epoch: 1 })
+        let extents = u64::from(blocks).div_ceil(EXTENT_BLOCKS) as usize;
+        let words = vec![in alloc; 0u64; extents * EXTENT_WORDS]?;
+        let stamps = vec![in alloc; 0u32; extents]?;
+        Ok(LastEpoch {
+            blocks,
+            words,
+            stamps,
+            epoch: 1,
+        })
     }
 
     /// Returns whether an item of the epoch covers one of these blocks.
@@ -44,15 +58,8 @@ impl LastEpoch {
         requires { range.first.0 + range.count ≤ length self.now }
         ensures { result ≡ has_any range.first.0 range.count self.now }
     {
-        let epoch = self.epoch;
-        let first = range.first.0 as usize;
-        let end = first + range.count as usize;
-        for index in first..end {
-            if self.stamps[index] == epoch {
-                return true;
-            }
-        }
-        false
+        let extent = range.first.extent().0 as usize;
+        self.stamps[extent] == self.epoch && has_bit(&self.words, range)
     }
 
     /// Adds the blocks of an item of the epoch.
@@ -60,12 +67,13 @@ impl LastEpoch {
         requires { range.first.0 + range.count ≤ length self.old }
         ensures { self.new ≡ adding range.first.0 range.count self.old }
     {
-        let epoch = self.epoch;
-        let first = range.first.0 as usize;
-        let end = first + range.count as usize;
-        for index in first..end {
-            self.stamps[index] = epoch;
+        let extent = range.first.extent().0 as usize;
+        if self.stamps[extent] != self.epoch {
+            // Its bits are those of an older epoch.
+            clear_extent(&mut self.words, extent);
+            self.stamps[extent] = self.epoch;
         }
+        set_bits(&mut self.words, range);
     }
 
     /// Begins the next epoch, with no item yet.

@@ -4,6 +4,7 @@
 mod disk;
 mod last_epoch;
 mod slots;
+mod words;
 
 pub use disk::PeerDisk;
 pub use last_epoch::LastEpoch;

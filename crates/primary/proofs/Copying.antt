@@ -1,7 +1,7 @@
 -- What a call that copies a block for a resync comes to.
 use Rattle.std.proofs.Common.{ℕ, ◌≡◌, ◌+◌, ◌<◌, ◌&&◌, ◌||◌, ◌++◌, Bool, true, false, not, List, [], length, take, drop, Option, Some, None, Result, Ok, Err}
 use Rattle.std.proofs.Common.{slice_get, refl, sym, ◌∙◌, ap, subst, subst₂, arith}
-use Rattle.std.specs.Prelude.{filter, is_none, is_some, ok_or, unwrap_or}
+use Rattle.std.specs.Prelude.{filter, is_none, is_some, ok_or, unwrap_or, IsTrue}
 use Rattle.std.proofs.Math.Seq.{take-append_seam}
 use Rattle.std.proofs.lemmas.Bool.{and_parts, both_ways, or_parts}
 use Rattle.blocks.specs.Faults.{FaultState, after_read, is_steady}
@@ -27,9 +27,9 @@ use Rattle.primary_protocol.specs.Node.{NodeIsHad, NodeSteps, NodeState, primary
 use Rattle.primary_protocol.specs.Steps.{replied}
 use Rattle.primary_protocol.proofs.Common.Marks.{length-marks}
 use Rattle.primary_protocol.proofs.Node.Disk.{disk-size}
-use Rattle.primary_protocol.proofs.Node.Disks.{copies-kept, held_in, node-copies, node-copy-fails, stays-kept}
+use Rattle.primary_protocol.proofs.Node.Disks.{copies-kept, given_by, held_in, node-copies, node-copy-fails, node-not-copied}
 use Rattle.primary.specs.State.{PrimaryView, IsNode, node}
-use Rattle.primary.proofs.Kept.{StepsTo, kept-is}
+use Rattle.primary.proofs.Kept.{StepsTo, kept-is, lowered-is}
 use Rattle.primary.proofs.Refused.{same-out-of-memory}
 
 -- The block that was chosen: no test refuses it.
@@ -151,9 +151,14 @@ chosen-inside n block had c =
 
 -- The call, by how far it came: it leaves the core, or copies a block, and never changes the disk.
 
+-- what a read of other bytes is told as
+abbrev pub read_as : Bool → List ℕ → Option (List ℕ)
+read_as true bytes = None
+read_as false bytes = Some bytes
+
 -- The steps of a refused call, that of a copy and that of a failed read.
 pub record RefusedSteps (v : PrimaryView) (s : PrimaryState) (disk : List (List ℕ)) (result : Result Done Refusal) : Type 0 where
-  pub copies : NodeSteps (Resyncs (is_out_of_memory result)) (node v) (replied reply.Ok result) (record (node v) { core = s; disk = disk })
+  pub copies : NodeSteps (Resyncs None (is_out_of_memory result)) (node v) (replied reply.Ok result) (record (node v) { core = s; disk = disk })
   pub fails : NodeSteps (FailsResync (is_out_of_memory result)) (node v) (replied reply.Ok result) (record (node v) { core = s; disk = disk })
 
 module _ (v : PrimaryView) (s : PrimaryState) (disk : List (List ℕ)) (was : IsNode v) (same : s ≡ v.core) (held : disk ≡ v.disk) where
@@ -161,7 +166,7 @@ module _ (v : PrimaryView) (s : PrimaryState) (disk : List (List ℕ)) (was : Is
       → RefusedSteps v s disk result
   refused-as result e is refused =
       subst (RefusedSteps v s disk) (sym is) (subst₂ (λ (t : PrimaryState) (l : List (List ℕ)). RefusedSteps v t l (Err e)) (sym same) (sym held) (record {
-        copies = node-copies (is_out_of_memory {R = Done} (Err e)) (node v) (Err e) v.core (sym refused.0);
+        copies = node-not-copied (is_out_of_memory {R = Done} (Err e)) (node v) e (sym refused.0);
         fails = node-copy-fails (is_out_of_memory {R = Done} (Err e)) (node v) e (sym refused.1);
       }))
 
@@ -183,34 +188,58 @@ module _ (v : PrimaryView) (s : PrimaryState) (disk : List (List ℕ)) (was : Is
       (record (node v) { core = t; disk = l }))
       (sym same) (sym held) (node-copy-fails false (node v) ReadFault (sym (chosen-fails v.core block (is-chosen v.core block chosen))))
 
-  -- a node it stays, whatever the disk counted
-  pub same-is : (faults : ℕ) (steady : Bool) → IsNode (record v { core = s; disk = disk; faults = faults; steady = steady })
-  same-is faults steady =
-      subst₂ (λ (t : PrimaryState) (l : List (List ℕ)). IsNode (record v { core = t; disk = l; faults = faults; steady = steady })) (sym same) (sym held)
-      (kept-is v v.core v.disk was (stays-kept (node v) was.had) faults steady)
+  -- a node it stays, whatever the disk counted, and whatever it gave
+  pub same-is : (faults : ℕ) (steady faithful : Bool) → (IsTrue faithful → IsTrue v.faithful)
+      → IsNode (record v { core = s; disk = disk; faults = faults; steady = steady; faithful = faithful })
+  same-is faults steady faithful falls =
+      subst₂ (λ (t : PrimaryState) (l : List (List ℕ)).
+      IsNode (record v { core = t; disk = l; faults = faults; steady = steady; faithful = faithful })) (sym same) (sym held)
+      (lowered-is v faults steady faithful falls was)
 
   -- The block was read, into bytes that hold nothing else, and is copied.
-  pub copied : (t : PrimaryState) (block n : ℕ) (contents buffer items : List ℕ) (done : Done) → resync_choice false v.core ≡ Ok block
-      → slice_get v.disk block ≡ Some buffer → length buffer ≡ n → contents ≡ take n (buffer ++ drop (length buffer) items)
+  pub copied : (t : PrimaryState) (faithful : Bool) (block n : ℕ) (contents buffer items : List ℕ) (done : Done) → (IsTrue faithful → IsTrue v.faithful)
+      → resync_choice false v.core ≡ Ok block
+      → (IsTrue faithful → slice_get v.disk block ≡ Some buffer) → length buffer ≡ n → contents ≡ take n (buffer ++ drop (length buffer) items)
       → ((e : EndState) → s.end ≡ Some e → (done, t) ≡ copying block contents e s)
-      → StepsTo (primary_step (Resyncs false)) v (reply.Ok done) t disk
-  copied t block n contents buffer items done chosen read size taken copies =
-      subst (StepsTo (primary_step (Resyncs false)) v (reply.Ok done) t) (sym held) (record {
-        steps = node-copies false (node v) (Ok done) t is;
-        is = kept-is v t v.disk was (copies-kept false (node v) (Ok done) t was.had is);
+      → StepsTo (primary_step (Resyncs (read_as faithful contents) false)) v (reply.Ok done) t disk faithful
+  copied t faithful block n contents buffer items done falls chosen read size taken copies =
+      subst (λ (d : List (List ℕ)). StepsTo (primary_step (Resyncs (read_as faithful contents) false)) v (reply.Ok done) t d faithful) (sym held) (record {
+        steps = node-copies (read_as faithful contents) false (node v) faithful (Ok done) t kept is;
+        is = kept-is v t v.disk faithful was (copies-kept (read_as faithful contents) false (node v) faithful (Ok done) t was.had kept is);
       })
     where
       c : IsChosen v.core block
       c = is-chosen v.core block chosen
 
-      contents_are : contents ≡ held_in v.disk block
-      contents_are = taken ∙ (ap (λ m. take m (buffer ++ drop (length buffer) items)) (sym size) ∙ (take-append_seam buffer (drop (length buffer) items)
-          ∙ sym (ap (λ (o : Option (List ℕ)). unwrap_or o []) read)))
+      kept : IsTrue faithful → IsTrue v.faithful × (read_as faithful contents ≡ None)
+      kept now = (falls now, ap (λ b. read_as b contents) now)
 
-      is : (Ok done, t) ≡ resync_next (held_in v.disk) false v.core
+      contents_are : IsTrue faithful → contents ≡ held_in v.disk block
+      contents_are now = taken ∙ (ap (λ m. take m (buffer ++ drop (length buffer) items)) (sym size) ∙ (take-append_seam buffer (drop (length buffer) items)
+          ∙ sym (ap (λ (o : Option (List ℕ)). unwrap_or o []) (read now))))
+
+      -- what was read was held, or is told
+      as_given : (b : Bool) → (IsTrue b → contents ≡ held_in v.disk block) → contents ≡ unwrap_or (read_as b contents) (held_in v.disk block)
+      as_given true held = held refl
+      as_given false held = refl
+
+      is : (Ok done, t) ≡ resync_next (given_by (read_as faithful contents) v.disk) false v.core
       is = ap (λ (p : Done × PrimaryState). (Ok p.0, p.1)) (copies c.end (ap (λ (x : PrimaryState). x.end) same ∙ c.there)
-          ∙ (λ i. copying block (contents_are i) c.end (same i)))
-          ∙ sym (chosen-copies (held_in v.disk) v.core block c)
+          ∙ (λ i. copying block (as_given faithful contents_are i) c.end (same i)))
+          ∙ sym (chosen-copies (given_by (read_as faithful contents) v.disk) v.core block c)
+
+  -- so the call was a copy of what the disk has, or of other bytes
+  pub copied-steps : (t : PrimaryState) (faithful : Bool) (block n : ℕ) (contents buffer items : List ℕ) (done : Done) → (IsTrue faithful → IsTrue v.faithful)
+      → resync_choice false v.core ≡ Ok block
+      → (IsTrue faithful → slice_get v.disk block ≡ Some buffer) → length buffer ≡ n → contents ≡ take n (buffer ++ drop (length buffer) items)
+      → ((e : EndState) → s.end ≡ Some e → (done, t) ≡ copying block contents e s)
+      → (read : Option (List ℕ)) × (IsTrue faithful → read ≡ None)
+      × NodeSteps (Resyncs read false) (node v) (reply.Ok done) (record (node v) { core = t; disk = disk; faithful = faithful })
+  copied-steps t faithful block n contents buffer items done falls chosen read size taken copies = (
+    read_as faithful contents,
+    (λ now. ap (λ b. read_as b contents) now),
+    (copied t faithful block n contents buffer items done falls chosen read size taken copies).steps,
+  )
 
 -- The disk after an armed read.
 armed-read : (s t u : FaultState) → t ≡ record s { read_arming = Some 0 } → u ≡ after_read t → u ≡ record s { faults = s.faults + 1; read_arming = None }

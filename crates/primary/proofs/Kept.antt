@@ -1,7 +1,7 @@
 -- What a call keeps of a node.
 use Rattle.std.proofs.Common.{ℕ, zero, suc, ◌≡◌, ◌≤◌, Bool, true, false, List, ◌∷◌, [], Option, Some, None, Ok, slice_get, length, refl, sym, ◌∙◌, ap, subst}
 use Rattle.std.proofs.Common.{arith, nat_lt}
-use Rattle.std.specs.Prelude.{is_some, unwrap_or}
+use Rattle.std.specs.Prelude.{is_some, unwrap_or, IsTrue}
 use Rattle.std.proofs.lemmas.Bool.{both_ways}
 use Rattle.std.proofs.lemmas.Bool.Decides.{nat_tests}
 use Rattle.blocks.specs.declared.tuple.Tuple.{Tuple}
@@ -14,7 +14,7 @@ use Rattle.endpoint.specs.PacketSender.{PacketSenderState}
 use Rattle.endpoint.specs.PacketReceiver.{PacketReceiverState}
 use Rattle.primary_protocol.specs.Core.{PrimaryState, fresh, is_established}
 use Rattle.primary_protocol.specs.Transitions.{due}
-use Rattle.primary_protocol.specs.Node.{IsStep, NodeHas, NodeSteps}
+use Rattle.primary_protocol.specs.Node.{IsStep, NodeHas, NodeState, NodeSteps}
 use Rattle.primary_protocol.proofs.Node.Calls.{IsPlain, plain-still, opening-has}
 use Rattle.primary_protocol.proofs.Node.Disks.{KeepsNode}
 use Rattle.primary_protocol.proofs.Node.Due.{IsStill}
@@ -39,9 +39,10 @@ numbered-kept None i s t same was = tt
 numbered-kept (Some o) None s t same was = tt
 
 -- A call that leaves both sides of the link, opens no end and begins no stream.
-pub kept-is : (v : PrimaryView) (core : PrimaryState) (disk : List (List ℕ)) → IsNode v → KeepsNode (node v) (node (record v { core = core; disk = disk }))
-    → (faults : ℕ) (steady : Bool) → IsNode (record v { core = core; disk = disk; faults = faults; steady = steady })
-kept-is v core disk was k faults steady = record {
+pub kept-is : (v : PrimaryView) (core : PrimaryState) (disk : List (List ℕ)) (faithful : Bool) → IsNode v
+    → KeepsNode (node v) (node (record v { core = core; disk = disk; faithful = faithful }))
+    → (faults : ℕ) (steady : Bool) → IsNode (record v { core = core; disk = disk; faults = faults; steady = steady; faithful = faithful })
+kept-is v core disk faithful was k faults steady = record {
   had = k.had;
   out_there = λ some. was.out_there (k.still.opened some);
   in_there = λ some. was.in_there (k.still.opened some);
@@ -51,9 +52,11 @@ kept-is v core disk was k faults steady = record {
 }
 
 -- Such a call is this step, and leaves a node.
-pub record StepsTo (step : PrimaryHistory → Reply × PrimaryHistory) (v : PrimaryView) (said : Reply) (core : PrimaryState) (disk : List (List ℕ)) : Type 0 where
-  pub steps : IsStep step (node v) said (record (node v) { core = core; disk = disk })
-  pub is : (faults : ℕ) (steady : Bool) → IsNode (record v { core = core; disk = disk; faults = faults; steady = steady })
+pub record StepsTo (step : PrimaryHistory → Reply × PrimaryHistory) (v : PrimaryView) (said : Reply) (core : PrimaryState) (disk : List (List ℕ))
+    (faithful : Bool) : Type 0
+  where
+    pub steps : IsStep step (node v) said (record (node v) { core = core; disk = disk; faithful = faithful })
+    pub is : (faults : ℕ) (steady : Bool) → IsNode (record v { core = core; disk = disk; faults = faults; steady = steady; faithful = faithful })
 
 -- A call that takes no frame, pushes none and leaves the disk.
 pub plain-is : (event : PrimaryEvent) (v : PrimaryView) (core : PrimaryState) (reply : Reply) → IsPlain event → IsNode v
@@ -61,17 +64,62 @@ pub plain-is : (event : PrimaryEvent) (v : PrimaryView) (core : PrimaryState) (r
 plain-is event v core reply plain was steps =
     let still = plain-still event (node v) (node (record v { core = core })) reply plain was.had steps in
     let had = node-had event (node v) reply (node (record v { core = core })) was.had steps in
-    kept-is v core v.disk was (record { had = had; still = still.0; stood = still.1 }) v.faults v.steady
+    kept-is v core v.disk v.faithful was (record { had = had; still = still.0; stood = still.1 }) v.faults v.steady
+
+-- A disk that gave something else is not faithful any more, and nothing else is lost.
+pub lowered : {R : Type 0} (step : PrimaryHistory → R × PrimaryHistory) (n next : NodeState) (r : R) (faithful : Bool) → (IsTrue faithful → IsTrue next.faithful)
+    → IsStep step n r next → IsStep step n r (record next { faithful = faithful })
+lowered step n next r faithful falls steps = record {
+  replies = steps.replies;
+  after = λ h has. lower next (step h).1 faithful falls (steps.after h has);
+}
+  where
+    lower : (n : NodeState) (h : PrimaryHistory) (faithful : Bool) → (IsTrue faithful → IsTrue n.faithful) → NodeHas n h
+        → NodeHas (record n { faithful = faithful }) h
+    lower n h faithful falls has = record {
+      leaves = record {
+        core = has.leaves.core;
+        disk = has.leaves.disk;
+        pushed = has.leaves.pushed;
+        taken = has.leaves.taken;
+        faithful = λ is. has.leaves.faithful (falls is);
+      };
+      reached = has.reached;
+    }
+
+-- a node it stays
+pub lowered-is : (v : PrimaryView) (faults : ℕ) (steady faithful : Bool) → (IsTrue faithful → IsTrue v.faithful) → IsNode v
+    → IsNode (record v { faults = faults; steady = steady; faithful = faithful })
+lowered-is v faults steady faithful falls was = record {
+  had = record {
+    history = was.had.history;
+    has = record {
+      leaves = record {
+        core = was.had.has.leaves.core;
+        disk = was.had.has.leaves.disk;
+        pushed = was.had.has.leaves.pushed;
+        taken = was.had.has.leaves.taken;
+        faithful = λ is. was.had.has.leaves.faithful (falls is);
+      };
+      reached = was.had.has.reached;
+    };
+  };
+  out_there = was.out_there;
+  in_there = was.in_there;
+  begun = was.begun;
+  numbered = was.numbered;
+  ready = was.ready;
+}
 
 -- A new node.
 pub new-has : (settings : Settings) (disk : List (List ℕ)) (tuple : Tuple) (given marks : List Bool) (s : PrimaryState)
-    → CanBegin settings tuple given × (s ≡ fresh settings tuple given) → given ≡ marks → length disk ≡ settings.blocks
-    → NodeHas (record { core = s; disk = disk; pushed = []; taken = [] })
+    → CanBegin settings tuple given × (s ≡ fresh settings tuple given) → given ≡ marks → length disk ≡ settings.blocks → (faithful : Bool)
+    → NodeHas (record { core = s; disk = disk; pushed = []; taken = []; faithful = faithful })
     (primary_opening settings (slice_get disk) tuple (λ block. unwrap_or (slice_get marks block) false))
-new-has settings disk tuple given marks s may same size =
-    subst (λ (x : PrimaryState). NodeHas (record { core = x; disk = disk; pushed = []; taken = [] })
+new-has settings disk tuple given marks s may same size faithful =
+    subst (λ (x : PrimaryState). NodeHas (record { core = x; disk = disk; pushed = []; taken = []; faithful = faithful })
     (primary_opening settings (slice_get disk) tuple (λ block. unwrap_or (slice_get marks block) false))) (sym (may.1 ∙ ap (fresh settings tuple) same))
-    (opening-has settings disk tuple marks may.0.in_range (λ block. some-get disk block ∙ ap (nat_lt block) size) (ap length (sym same) ∙ may.0.size))
+    (opening-has settings disk tuple marks may.0.in_range (λ block. some-get disk block ∙ ap (nat_lt block) size) (ap length (sym same) ∙ may.0.size) faithful)
   where
     some-get : {X : Type 0} (xs : List X) (n : ℕ) → is_some (slice_get xs n) ≡ nat_lt n (length xs)
     some-get [] n = grind (arith, nat_tests)
@@ -79,11 +127,11 @@ new-has settings disk tuple given marks s may same size =
     some-get (x ∷ xs) (suc n) = some-get xs n ∙ grind (arith, nat_tests)
 
 -- so some history is had
-pub new-is : (settings : Settings) (disk : List (List ℕ)) (tuple : Tuple) (marks : List Bool) (s : PrimaryState) (faults : ℕ) (steady : Bool)
+pub new-is : (settings : Settings) (disk : List (List ℕ)) (tuple : Tuple) (marks : List Bool) (s : PrimaryState) (faults : ℕ) (steady faithful : Bool)
     → CanBegin settings tuple marks × (s ≡ fresh settings tuple marks) → length disk ≡ settings.blocks
-    → IsNode (record { core = s; disk = disk; outgoing = None; incoming = None; faults = faults; steady = steady })
-new-is settings disk tuple marks s faults steady may size = record {
-  had = record { history = _; has = new-has settings disk tuple marks marks s may refl size };
+    → IsNode (record { core = s; disk = disk; outgoing = None; incoming = None; faults = faults; steady = steady; faithful = faithful })
+new-is settings disk tuple marks s faults steady faithful may size = record {
+  had = record { history = _; has = new-has settings disk tuple marks marks s may refl size faithful };
   out_there = λ some. absurd (both_ways (is_some s.end) (ap (λ (x : PrimaryState). is_some x.end) may.1) some);
   in_there = λ some. absurd (both_ways (is_some s.end) (ap (λ (x : PrimaryState). is_some x.end) may.1) some);
   begun = tt;

@@ -124,7 +124,7 @@ module _ (v : PrimaryView) (before : IsNode v) (core : PrimaryState) (sync loss 
   opens-over fresh =
       let steps : NodeSteps (Opens sync loss false) (node v) (plainly tt) (node (record v { core = core; outgoing = Some out; incoming = Some inn })) =
       subst (NodeSteps (Opens sync loss false) (node v) (plainly tt))
-      (λ i. record { core = core; disk = v.disk; pushed = sym fresh.pushed i; taken = sym fresh.taken i }) (node-opened (node v) sync loss core here) in
+      (λ i. record { core = core; disk = v.disk; pushed = sym fresh.pushed i; taken = sym fresh.taken i; faithful = v.faithful }) (node-opened (node v) sync loss core here) in
       record {
         steps = steps;
         is = record {

@@ -46,33 +46,33 @@ module _ (v : PrimaryView) (number : ℕ) (w : LogWrite) (first : ℕ) (bytes co
   blocks = ap (blocks_of 4096) shown ∙ whole
 
   pub wrote : (result, core) ≡ local_done number v.core → disk ≡ overwritten v.disk first (blocks_of 4096 bytes)
-      → StepsTo (primary_step (WritesLocally number)) v (replied reply.Ok result) core disk
+      → StepsTo (primary_step (WritesLocally number)) v (replied reply.Ok result) core disk v.faithful
   wrote is held =
-      subst (StepsTo (primary_step (WritesLocally number)) v (replied reply.Ok result) core) (sym (held ∙ (λ i. overwritten v.disk (at i) (blocks i))))
+      subst (λ (d : List (List ℕ)). StepsTo (primary_step (WritesLocally number)) v (replied reply.Ok result) core d v.faithful) (sym (held ∙ (λ i. overwritten v.disk (at i) (blocks i))))
       (record {
         steps = node-wrote number (node v) w job.0 (waiting w job.1) result core is;
-        is = kept-is v core (overwritten v.disk w.first w.blocks) was (wrote-kept number (node v) w job.0 (waiting w job.1) result core was.had is);
+        is = kept-is v core (overwritten v.disk w.first w.blocks) v.faithful was (wrote-kept number (node v) w job.0 (waiting w job.1) result core was.had is);
       })
 
   pub failed : (result, core) ≡ local_fault number v.core → IsTorn v.disk first (blocks_of 4096 bytes) disk
-      → StepsTo (primary_step (FailsLocally number (new_offsets w.first w.blocks disk))) v (replied reply.Ok result) core disk
+      → StepsTo (primary_step (FailsLocally number (new_offsets w.first w.blocks disk))) v (replied reply.Ok result) core disk v.faithful
   failed is torn =
       let is_torn : IsTorn v.disk w.first w.blocks disk = subst (λ (n : ℕ). IsTorn v.disk n w.blocks disk) at
       (subst (λ (l : List (List ℕ)). IsTorn v.disk first l disk) blocks torn) in
       record {
         steps = node-failed number (node v) w job.0 (waiting w job.1) disk result core is is_torn;
-        is = kept-is v core disk was (failed-kept number (node v) w job.0 (waiting w job.1) disk result core was.had is is_torn);
+        is = kept-is v core disk v.faithful was (failed-kept number (node v) w job.0 (waiting w job.1) disk result core was.had is is_torn);
       }
 
   -- a fault that leaves exactly the first blocks new
   pub failed-after : (kept count : ℕ) → count ≡ w.count → kept ≤ count → (result, core) ≡ local_fault number v.core
-      → disk ≡ overwritten v.disk first (take kept (blocks_of 4096 bytes)) → StepsTo (local_fault_kept number kept) v (replied reply.Ok result) core disk
+      → disk ≡ overwritten v.disk first (take kept (blocks_of 4096 bytes)) → StepsTo (local_fault_kept number kept) v (replied reply.Ok result) core disk v.faithful
   failed-after kept count many few is held =
-      subst (StepsTo (local_fault_kept number kept) v (replied reply.Ok result) core)
+      subst (λ (d : List (List ℕ)). StepsTo (local_fault_kept number kept) v (replied reply.Ok result) core d v.faithful)
       (sym (held ∙ (λ i. overwritten v.disk (at i) (take kept (blocks i))))) (record {
         steps = fault-kept number (node v) w job.0 (waiting w job.1) kept (replied reply.Ok result) _ (omega arith)
             (node-failed-after number (node v) w job.0 (waiting w job.1) kept result core is);
-        is = kept-is v core (overwritten v.disk w.first (take kept w.blocks)) was
+        is = kept-is v core (overwritten v.disk w.first (take kept w.blocks)) v.faithful was
             (failed-after-kept number (node v) w job.0 (waiting w job.1) kept result core was.had is);
       })
 

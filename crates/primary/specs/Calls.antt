@@ -1,5 +1,5 @@
 -- The calls of a node whose outcome depends on the link or the disk.
-use Rattle.std.specs.Prelude.{ℕ, ◌≡◌, ◌<◌, ◌&&◌, ◌⊎◌, List, Option, is_none, Result}
+use Rattle.std.specs.Prelude.{ℕ, ◌≡◌, ◌<◌, ◌&&◌, ◌⊎◌, IsTrue, List, Option, None, is_none, Result}
 use Rattle.blocks.specs.declared.refusal.Refusal.{Refusal}
 use Rattle.blocks.specs.declared.outcome.Done.{Done}
 use Rattle.blocks.specs.declared.outcome.Reply.TheVariants as reply
@@ -23,8 +23,9 @@ WritesOne number result old new =
     ((new.faults ≡ old.faults) × NodeSteps (WritesLocally number) (node old) (replied reply.Ok result) (node new))
     ⊎ ((old.faults < new.faults) × ((offsets : List ℕ) × NodeSteps (FailsLocally number offsets) (node old) (replied reply.Ok result) (node new)))
 
--- The disk gave the block that a resync copies next, or failed in this call.
+-- The disk gave the block that a resync copies next, or other bytes in its place, and then it is not faithful; or it failed in this call.
 abbrev pub CopiesOne : Result Done Refusal → PrimaryView → PrimaryView → Type 0
 CopiesOne result old new =
-    ((new.faults ≡ old.faults) × NodeSteps (Resyncs (is_out_of_memory result)) (node old) (replied reply.Ok result) (node new))
+    ((new.faults ≡ old.faults) × ((read : Option (List ℕ)) × (IsTrue new.faithful → read ≡ None)
+    × NodeSteps (Resyncs read (is_out_of_memory result)) (node old) (replied reply.Ok result) (node new)))
     ⊎ ((old.faults < new.faults) × NodeSteps (FailsResync (is_out_of_memory result)) (node old) (replied reply.Ok result) (node new))

@@ -9,7 +9,7 @@ use Rattle.primary_protocol.specs.Transitions.{due}
 use Rattle.primary_protocol.specs.Node.{NodeState, NodeIsHad}
 
 -- A node: its core, the blocks of its disk, both sides of its link if it was opened, how many of its disk's calls have
--- failed, and whether these are known not to fail.
+-- failed, whether these are known not to fail, and whether each read gave what the disk holds.
 pub record PrimaryView : Type 0 where
   pub core : PrimaryState
   pub disk : List (List ℕ)
@@ -17,14 +17,23 @@ pub record PrimaryView : Type 0 where
   pub incoming : Option PacketReceiverState
   pub faults : ℕ
   pub steady : Bool
+  pub faithful : Bool
 
 -- the view of a node with this core, disk and link
-abbrev pub seen : PrimaryState → List (List ℕ) → Option PacketSenderState → Option PacketReceiverState → ℕ → Bool → PrimaryView
-seen core disk outgoing incoming faults steady = record { core = core; disk = disk; outgoing = outgoing; incoming = incoming; faults = faults; steady = steady }
+abbrev pub seen : PrimaryState → List (List ℕ) → Option PacketSenderState → Option PacketReceiverState → ℕ → Bool → Bool → PrimaryView
+seen core disk outgoing incoming faults steady faithful = record {
+  core = core;
+  disk = disk;
+  outgoing = outgoing;
+  incoming = incoming;
+  faults = faults;
+  steady = steady;
+  faithful = faithful;
+}
 
 -- the node as the model's history has it
 abbrev pub node : PrimaryView → NodeState
-node v = record { core = v.core; disk = v.disk; pushed = pushed_of v.outgoing; taken = taken_of v.incoming }
+node v = record { core = v.core; disk = v.disk; pushed = pushed_of v.outgoing; taken = taken_of v.incoming; faithful = v.faithful }
 
 -- Both sides began the connection of this number, and the core opened; all else is as it was.
 pub record IsRestarted (number : ℕ) (old new : PrimaryView) : Type 0 where

@@ -1,5 +1,5 @@
 //! Reading the disk.
-ghost use Rattle.std.specs.Prelude.{◌≡◌, ◌≢◌, ◌⊎◌, ◌<◌, ◌≤◌, Some, length, true, false, IfErr, OnOk, IfOk};
+ghost use Rattle.std.specs.Prelude.{◌≡◌, ◌≢◌, ◌⊎◌, ◌<◌, ◌≤◌, ◌*◌, Some, length, vec_len, true, false, IsTrue, IfErr, OnOk, IfOk};
 ghost use Rattle.blocks.specs.declared.block.TheConstants.{BLOCK_BYTES};
 ghost use Rattle.blocks.specs.declared.refusal.Refusal.TheVariants.{BadRange, NoMemory, ReadFault};
 ghost use Rattle.model.specs.Contents.{IsRead, is_range};
@@ -18,8 +18,9 @@ impl<O: FrameOut + Drop, I: FrameIn + Drop, S: Store + Drop> Primary<O, I, S> {
     /// of no use. It takes no memory.
     pub fn read_block(&mut self, block: Block, buffer: &mut [u8]) -> Result<(), Refusal>
         requires { length buffer.old ≡ BLOCK_BYTES }
-        ensures read { OnOk result ((h : PrimaryHistory) → NodeHas (node self.old) h → local_map h block.0 ≡ Some buffer.new) }
-        ensures rest { self.new ≡ record self.old { faults = self.new.faults; steady = self.new.steady } }
+        ensures read { OnOk result (IsTrue self.new.faithful → (h : PrimaryHistory) → NodeHas (node self.old) h → local_map h block.0 ≡ Some buffer.new) }
+        ensures rest { self.new ≡ record self.old { faults = self.new.faults; steady = self.new.steady; faithful = self.new.faithful } }
+        ensures falls { IsTrue self.new.faithful → IsTrue self.old.faithful }
         ensures works { self.old.steady ≡ true → (self.new ≡ self.old) × IfErr result (λ e. e ≡ BadRange) }
         ensures uncounted { OnOk result (self.new.faults ≡ self.old.faults) }
         ensures refused { IfErr result (λ e. ((e ≡ BadRange) × (length self.old.disk ≤ block.0) × (self.new.faults ≡ self.old.faults))
@@ -39,9 +40,13 @@ impl<O: FrameOut + Drop, I: FrameIn + Drop, S: Store + Drop> Primary<O, I, S> {
     /// `BadRange` (1) if they are not that, else `NoMemory` (7) if there is no room for their bytes, else
     /// `ReadFault` (14) if the disk fails.
     pub fn read(&mut self, first: u64, count: u64) -> Result<Vec<u8>, Refusal>
-        ensures read { IfOk result (λ bytes. (h : PrimaryHistory) → NodeHas (node self.old) h → IsRead (local_map h) first count bytes.items) }
+        ensures read { IfOk result (λ bytes. IsTrue self.new.faithful → (h : PrimaryHistory) → NodeHas (node self.old) h → IsRead (local_map h) first count bytes.items) }
+        ensures length { IfOk result (λ bytes. vec_len bytes ≡ count * 4096) }
         ensures within { OnOk result (is_range self.old.core.settings first count ≡ true) }
-        ensures rest { self.new ≡ record self.old { faults = self.new.faults; steady = self.new.steady } }
+        ensures rest { self.new ≡ record self.old { faults = self.new.faults; steady = self.new.steady; faithful = self.new.faithful } }
+        ensures falls { IsTrue self.new.faithful → IsTrue self.old.faithful }
+        // It is faithful if every such disk is.
+        ensures known { ((store : S) → IsTrue (S.faithful store)) → IsTrue self.new.faithful }
         ensures works { self.old.steady ≡ true → self.new.steady ≡ true }
         // A steady disk does not fail, and nothing changes.
         ensures steadily { self.old.steady ≡ true → (self.new ≡ self.old) × IfErr result (λ e. e ≢ ReadFault) }
@@ -52,17 +57,9 @@ impl<O: FrameOut + Drop, I: FrameIn + Drop, S: Store + Drop> Primary<O, I, S> {
     {
         let range = Range::new(first, count, self.store.blocks())?;
         let mut bytes = Vec::from_elem(self.alloc, 0u8, range.count as usize * BLOCK_BYTES)?;
-        for offset in 0..range.count {
-            let at = offset as usize * BLOCK_BYTES;
-            let block = Block(range.first.0 + offset);
-            if self
-                .store
-                .read(block, &mut bytes[at..at + BLOCK_BYTES])
-                .is_err()
-            {
-                return Err(Refusal::ReadFault);
-            }
+        match self.store.read_blocks(range.first, &mut bytes) {
+            Ok(()) => Ok(bytes),
+            Err(_) => Err(Refusal::ReadFault),
         }
-        Ok(bytes)
     }
 }

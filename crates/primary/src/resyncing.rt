@@ -1,5 +1,5 @@
 //! Copying marked blocks to the peer.
-ghost use Rattle.std.specs.Prelude.{◌≡◌, ◌<◌, true, IfErr, OnErr};
+ghost use Rattle.std.specs.Prelude.{◌≡◌, ◌<◌, true, IsTrue, IfErr, OnErr};
 ghost use Rattle.blocks.specs.declared.outcome.Reply.TheVariants as reply;
 ghost use Rattle.blocks.specs.declared.refusal.Refusal.TheVariants.{NoMemory, ReadFault};
 ghost use Rattle.endpoint.specs.Calls.{is_out_of_memory};
@@ -23,13 +23,17 @@ impl<O: FrameOut + Drop, I: FrameIn + Drop, S: Store + Drop> Primary<O, I, S> {
     /// but the disk's count of faults.
     pub fn resync_next(&mut self) -> Result<Done, Refusal>
         ensures step { CopiesOne result self.old self.new }
-        ensures works { self.old.steady ≡ true → (self.new.faults ≡ self.old.faults) × (self.new.steady ≡ true) }
+        ensures works { self.old.steady ≡ true → (self.new.faults ≡ self.old.faults) × (self.new.steady ≡ true) × (self.new.faithful ≡ self.old.faithful) }
+        ensures falls { IsTrue self.new.faithful → IsTrue self.old.faithful }
         ensures refused { OnErr result (self.new.core ≡ self.old.core) }
         ensures out_of_memory { IfErr result (λ e. e ≡ NoMemory → (self.new.core ≡ self.old.core) × (self.new.faults ≡ self.old.faults)) }
+        // Refused for any other reason it reads nothing.
+        ensures idle { IfErr result (λ e. (e ≡ NoMemory → ⊥) → (e ≡ ReadFault → ⊥) → self.new ≡ self.old) }
         ensures rest { self.new ≡ record self.old {
           core = self.new.core;
           faults = self.new.faults;
           steady = self.new.steady;
+          faithful = self.new.faithful;
         } }
     {
         let block = self.core.resync_block()?;

@@ -1,5 +1,6 @@
 //! Read-only accessors.
-ghost use Rattle.std.specs.Prelude.{◌≡◌, length, not};
+ghost use Rattle.std.specs.Prelude.{◌≡◌, ℕ, length, not};
+ghost use Rattle.bitmap.specs.Marks.{marked};
 ghost use Rattle.model.specs.Headline.{is_marked};
 ghost use Rattle.model.specs.Primary.{PrimaryHistory, first_unreleased, items_sent, marked_blocks, primary_connection, resync_runs, is_established, unsent};
 ghost use Rattle.model.specs.Status.{incomplete, open_epochs, unanswered};
@@ -7,6 +8,7 @@ ghost use Rattle.primary_protocol.specs.Node.{NodeHas};
 ghost use Rattle.primary.specs.State.{node};
 
 use crate::Primary;
+use bitmap::Bitmap;
 use blocks::{Block, Settings, Store, Tuple};
 use handshakes::HELLO_FRAMES;
 use link::{FrameIn, FrameOut};
@@ -93,6 +95,14 @@ impl<O: FrameOut + Drop, I: FrameIn + Drop, S: Store + Drop> Primary<O, I, S> {
         ensures { result.now ≡ self.now.core.entries }
     {
         self.core.entries()
+    }
+
+    /// Returns the bitmap of the marked blocks, with one mark for each block of the device.
+    pub fn bitmap(&self) -> &Bitmap
+        ensures marks { (h : PrimaryHistory) → NodeHas (node self.now) h → (block : ℕ) → marked result.now block ≡ is_marked h block }
+        ensures size { (h : PrimaryHistory) → NodeHas (node self.now) h → length result.now ≡ h.settings.blocks }
+    {
+        self.core.bitmap()
     }
 
     /// Returns how many blocks are marked.

@@ -1,13 +1,13 @@
 -- The marks that released writes clear, block by block.
 use Rattle.std.proofs.Common.{ℕ, zero, suc, ◌≡◌, ◌≢◌, ◌+◌, ◌<◌, ◌≤◌, ◌⊎◌, inl, inr, nat_lt, nat_le, Bool, true, false, ◌&&◌, ◌||◌, not, List, [], ◌∷◌, ◌++◌}
 use Rattle.std.proofs.Common.{length, refl, sym, ◌∙◌, ap, subst, arith, get_or, drop, drop-cons, add-one, length-set}
-use Rattle.std.specs.Prelude.{map, slice_set}
+use Rattle.std.specs.Prelude.{Contains, map, slice_set}
 use Rattle.std.specs.List.{AllByRecursion, list_any}
 use Rattle.std.proofs.lemmas.List.{length-map, map-append}
 use Rattle.std.proofs.lemmas.Bool.{lt-ltb, le-ltb, lt-leb, cases_lt}
 use Rattle.std.proofs.Math.Bool.{and-false}
 use Rattle.blocks.specs.Ranges.{below}
-use Rattle.bitmap.specs.Marks.{marked}
+use Rattle.bitmap.specs.Marks.{count, marked}
 use Rattle.bitmap.proofs.Lists.{same-marks, marked-set_same, marked-set_other}
 use Rattle.transferlog.specs.declared.report.Released.{Released}
 use Rattle.transferlog.specs.Log.{clears}
@@ -81,6 +81,34 @@ cleared-not r last_writes old new block is so = record { same = so.same; each = 
     go b (inl here) = rw here (so.each block ∙ (rw is (rw (and-false (nat_lt block block), and-false (nat_lt block (block + 1))) refl)))
     go b (inr other) = rw (upto-next block b other) (so.each b)
 
+-- a block that is not marked stays so
+pub cleared-unmarked : (r : Released) (last_writes : List ℕ) (old new : List Bool) (block : ℕ) → marked new block ≡ false
+    → Cleared r last_writes old new block → Cleared r last_writes old new (block + 1)
+cleared-unmarked r last_writes old new block none so = record { same = so.same; each = λ b. go b (cases_eq b block) }
+  where
+    as_before : (marked old block && not (nat_lt block block && clears r block last_writes)) ≡ marked old block
+    as_before = rw (le-ltb block block (omega arith)) (sym (and-true (marked old block)))
+
+    old_none : marked old block ≡ false
+    old_none = sym as_before ∙ (sym (so.each block) ∙ none)
+
+    go : (b : ℕ) → (b ≡ block) ⊎ (b ≢ block) → marked new b ≡ (marked old b && not (nat_lt b (block + 1) && clears r b last_writes))
+    go b (inl here) = rw here (rw (none, old_none) refl)
+    go b (inr other) = rw (upto-next block b other) (so.each b)
+
+-- the same, where it is not marked or the release does not clear it
+pub cleared-or_not : (r : Released) (last_writes : List ℕ) (old new : List Bool) (block : ℕ) → (marked new block && clears r block last_writes) ≡ false
+    → Cleared r last_writes old new block → Cleared r last_writes old new (block + 1)
+cleared-or_not r last_writes old new block is so = go (marked new block) refl
+  where
+    go : (b : Bool) → marked new block ≡ b → Cleared r last_writes old new (block + 1)
+    go true here = cleared-not r last_writes old new block (sym (ap (λ (v : Bool). v && clears r block last_writes) here) ∙ is) so
+    go false none = cleared-unmarked r last_writes old new block none so
+
+pub both-right : (a b : Bool) → (a && b) ≡ true → b ≡ true
+both-right true b is = is
+both-right false b is = cc
+
 -- All blocks of one release.
 and-or : (a b c : Bool) → ((a && not b) && not c) ≡ (a && not (b || c))
 and-or true true c = refl
@@ -110,6 +138,29 @@ unmark-none last_writes marks =
     same-marks (unmarking [] last_writes marks) marks (length-unmarking [] last_writes marks) (λ b less.
     let inside : b < length marks = omega (arith, length-unmarking [] last_writes marks) in
     marked-map (λ block. marked marks block && true) (length marks) b inside ∙ sym (and-true (marked marks b)))
+
+none-marked : (marks : List Bool) (b : ℕ) → count marks ≡ 0 → marked marks b ≡ false
+none-marked [] b none = refl
+none-marked (true ∷ marks) b none = absurd (omega arith)
+none-marked (false ∷ marks) zero none = refl
+none-marked (false ∷ marks) (suc b) none = none-marked marks b (omega arith)
+
+-- where nothing is marked, nothing changes
+pub unmark-unmarked : (released : List Released) (last_writes : List ℕ) (marks : List Bool) → count marks ≡ 0 → marks ≡ unmarking released last_writes marks
+unmark-unmarked released last_writes marks none =
+    same-marks marks (unmarking released last_writes marks) (sym (length-unmarking released last_writes marks)) (λ b less.
+    none-marked marks b none
+    ∙ sym (marked-map (λ block. marked marks block && not (list_any (λ r. clears r block last_writes) released)) (length marks) b less
+    ∙ rw (none-marked marks b none) refl))
+
+same-item : (rs : List Released) (i : ℕ) (d e : Released) → i < length rs → get_or rs i d ≡ get_or rs i e
+same-item [] i d e inside = absurd (omega arith)
+same-item (r ∷ rs) zero d e inside = refl
+same-item (r ∷ rs) (suc i) d e inside = same-item rs i d e (omega arith)
+
+-- a release of a list is one of them
+pub contains-at : (rs : List Released) (i : ℕ) (d : Released) → i < length rs → Contains rs (get_or rs i d)
+contains-at rs i d inside = (i, inside, same-item rs i (get_or rs i d) d inside)
 
 -- One release more of a list, as a loop goes over it.
 pub unmark-step : (rs : List Released) (i : ℕ) (d : Released) (last_writes : List ℕ) (first old new : List Bool) → i < length rs → length old ≡ length first

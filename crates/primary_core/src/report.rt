@@ -1,5 +1,6 @@
 //! Applying the completions and releases that the last log call reported.
-ghost use Rattle.std.specs.Prelude.{◌≡◌, ◌+◌, ◌≤◌, length, option_map, slice_get};
+ghost use Rattle.std.specs.Prelude.{Contains, ◌≡◌, ◌&&◌, ◌+◌, ◌≤◌, length, option_map, slice_get};
+ghost use Rattle.bitmap.specs.Marks.{marked};
 ghost use Rattle.transferlog.specs.Log.{clears};
 ghost use Rattle.primary_protocol.specs.Core.{entering, freeing, leaving, reporting, unmarking};
 ghost use Rattle.std.specs.List.{AllByRecursion};
@@ -82,6 +83,9 @@ fn unmark(log: &TransferLog, marks: &mut Bitmap)
     requires inside { AllByRecursion (LiesInside (length marks.old)) log.now.state.released }
     ensures { marks.new ≡ unmarking log.now.state.released log.now.state.last_writes marks.old }
 {
+    if marks.count() == 0 {
+        return;
+    }
     for write in log.released() {
         clear(log, write, marks);
     }
@@ -91,12 +95,22 @@ fn unmark(log: &TransferLog, marks: &mut Bitmap)
 fn clear(log: &TransferLog, write: &Released, marks: &mut Bitmap)
     requires size { length log.now.state.last_writes ≡ length marks.old }
     requires inside { LiesInside (length marks.old) write.now }
+    requires reported { Contains log.now.state.released write.now }
     ensures { Cleared write.now log.now.state.last_writes marks.old marks.new (write.now.first + write.now.count) }
 {
     let _small = marks.len();
     for block in write.first..write.first + write.count {
-        if log.clears(write, Block(block)) {
+        if clears_mark(log, write, Block(block), marks) {
             marks.clear(Block(block));
         }
     }
+}
+
+// Returns whether the block is marked and the release clears its mark. Most blocks are not marked: the log is not asked
+// for those.
+fn clears_mark(log: &TransferLog, write: &Released, block: Block, marks: &Bitmap) -> bool
+    requires { Contains log.now.state.released write.now }
+    ensures { result ≡ (marked marks.now block.0 && clears write.now block.0 log.now.state.last_writes) }
+{
+    marks.is_marked(block) && log.clears(write, block)
 }

@@ -53,6 +53,7 @@ impl PrimaryCore {
         ensures room { OnOk result (3 ≤ self.new.stream_room) }
         ensures log_room { OnOk result (0 < self.new.log_room) }
     {
+        self.marks.skip_unmarked();
         let block = self.next_block()?;
         self.make_room()?;
         Ok(block)

@@ -55,13 +55,13 @@ impl PrimaryCore {
         alloc: Global,
         settings: Settings,
         tuple: Tuple,
-        marks: &[bool],
+        marks: Bitmap,
     ) -> Result<PrimaryCore, Refusal>
-        ensures fresh { IfOk result (λ c. CanBegin settings tuple marks.now × (c.state ≡ fresh settings tuple marks.now)) }
-        ensures refused { IfErr result (λ e. ((e ≡ BadSetting) × (CanBegin settings tuple marks.now → ⊥)) ⊎ ((e ≡ NoMemory) × CanBegin settings tuple marks.now)) }
+        ensures fresh { IfOk result (λ c. CanBegin settings tuple marks × (c.state ≡ fresh settings tuple marks)) }
+        ensures refused { IfErr result (λ e. ((e ≡ BadSetting) × (CanBegin settings tuple marks → ⊥)) ⊎ ((e ≡ NoMemory) × CanBegin settings tuple marks)) }
     {
         settings.check()?;
-        if marks.len() != settings.blocks as usize || tuple.current == 0 {
+        if marks.len() != u64::from(settings.blocks) || tuple.current == 0 {
             return Err(Refusal::BadSetting);
         }
         Ok(PrimaryCore {
@@ -79,7 +79,7 @@ impl PrimaryCore {
             )?,
             entries: Vec::new(alloc),
             confirmed: Vec::new(alloc),
-            marks: Bitmap::from_marks(alloc, marks)?,
+            marks,
             held: Held::new(alloc),
             activity: ActivityLog::new(alloc, settings.slots)?,
             connection: None,

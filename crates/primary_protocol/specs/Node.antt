@@ -1,5 +1,5 @@
 -- A primary with its disk and both ends of its link, and the model histories that it refines.
-use Rattle.std.specs.Prelude.{ℕ, ◌≡◌, List, take, slice_get, Result}
+use Rattle.std.specs.Prelude.{ℕ, ◌≡◌, Bool, IsTrue, List, take, slice_get, Result}
 use Rattle.std.specs.Result.{result_map_both}
 use Rattle.blocks.specs.declared.refusal.Refusal.{Refusal}
 use Rattle.blocks.specs.declared.outcome.What.TheVariants as what
@@ -16,12 +16,14 @@ use Rattle.primary_protocol.specs.Core.{PrimaryState}
 use Rattle.primary_protocol.specs.Leaves.{Leaves}
 use Rattle.primary_protocol.specs.Steps.{IsReached}
 
--- The primary, the blocks of its disk, and what was pushed and taken on the present or last connection.
+-- The primary, the blocks of its disk, what was pushed and taken on the present or last connection, and whether each read of the disk
+-- gave what it holds.
 pub record NodeState : Type 0 where
   pub core : PrimaryState
   pub disk : List (List ℕ)
   pub pushed : List Packet
   pub taken : List Received
+  pub faithful : Bool
 
 -- the node is what the history leaves
 pub record NodeLeaves (n : NodeState) (h : PrimaryHistory) : Type 0 where
@@ -29,6 +31,7 @@ pub record NodeLeaves (n : NodeState) (h : PrimaryHistory) : Type 0 where
   pub disk : (block : ℕ) → slice_get n.disk block ≡ local_map h block
   pub pushed : n.pushed ≡ take (primary_connection h).pushed (frames_due h.settings (primary_connection h))
   pub taken : n.taken ≡ (primary_connection h).taken
+  pub faithful : IsTrue n.faithful → IsTrue h.faithful
 
 -- the node refines this history, which some run of a primary reaches
 pub record NodeHas (n : NodeState) (h : PrimaryHistory) : Type 0 where
@@ -53,7 +56,7 @@ primary_step (WritesLocally number) h = step.local_done number h
 primary_step (FailsLocally number offsets) h = step.local_fault number offsets h
 primary_step (Sends room out_of_memory) h = step.send room out_of_memory h
 primary_step (Takes frame out_of_memory) h = step_in.ack_in frame out_of_memory h
-primary_step (Resyncs out_of_memory) h = step.resync_next out_of_memory h
+primary_step (Resyncs read out_of_memory) h = step.resync_next read out_of_memory h
 primary_step (FailsResync out_of_memory) h = step.resync_fault out_of_memory h
 primary_step Closes h = step.close_primary h
 primary_step (Receipts number) h = (reply.Ok (done_with what.Nothing), (step.take_completed number h).1)

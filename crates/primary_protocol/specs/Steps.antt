@@ -79,11 +79,11 @@ abbrev pub TakesAgree : Type 0
 TakesAgree = (frame : Option Received) (out_of_memory : Bool) (s : PrimaryState) (h : PrimaryHistory) → IsReached h → Leaves s h
     → Agrees reply.Ok (ack_in frame out_of_memory s) (step_in.ack_in frame out_of_memory h)
 
--- it reads a block for a resync, from a disk that holds what the history says
+-- it reads a block for a resync, which gives these bytes or what the history says
 abbrev pub ResyncsAgree : Type 0
-ResyncsAgree = (disk : ℕ → List ℕ) (out_of_memory : Bool) (s : PrimaryState) (h : PrimaryHistory) → IsReached h → Leaves s h
-    → ((block : ℕ) → disk block ≡ unwrap_or (local_map h block) [])
-    → Agrees reply.Ok (resync_next disk out_of_memory s) (step.resync_next out_of_memory h)
+ResyncsAgree = (disk : ℕ → List ℕ) (read : Option (List ℕ)) (out_of_memory : Bool) (s : PrimaryState) (h : PrimaryHistory) → IsReached h → Leaves s h
+    → ((block : ℕ) → disk block ≡ step.given read h block)
+    → Agrees reply.Ok (resync_next disk out_of_memory s) (step.resync_next read out_of_memory h)
 
 -- its disk fails that read
 abbrev pub ResyncFaultsAgree : Type 0

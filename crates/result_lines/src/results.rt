@@ -3,6 +3,7 @@ ghost use Rattle.std.specs.Prelude.{OnOk, Some};
 ghost use Rattle.std.specs.Io.KnownBytes.{Appends};
 ghost use Rattle.result_lines.specs.Text.{results_text};
 
+use crate::Comparison;
 use std::io::Write;
 use std::{fmt, io};
 
@@ -13,8 +14,8 @@ pub struct Results {
     pub completed: u64,
     /// Those of them that the primary's journal confirms.
     pub settled: u64,
-    /// Blocks on which the disks differ without a mark.
-    pub unmarked: u32,
+    /// Blocks on which the disks differ without a mark, if the disks were compared.
+    pub unmarked: Option<u32>,
 }
 
 impl fmt::Display for Results {
@@ -26,9 +27,10 @@ impl fmt::Display for Results {
             settled,
             unmarked,
         } = *self;
+        let comparison = Comparison { unmarked };
         write!(
             f,
-            "completed {completed}\nsettled {settled}\nunmarked {unmarked}\n"
+            "completed {completed}\nsettled {settled}\nunmarked {comparison}\n"
         )
     }
 }

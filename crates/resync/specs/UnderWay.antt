@@ -16,6 +16,11 @@ abbrev pub is_way : ℕ → ℕ → Option UnderWay → Bool
 is_way block place None = false
 is_way block place (Some way) = (way.block.0 == block) && (way.place == place)
 
+-- this block is under way, at any place
+abbrev pub is_block : ℕ → Option UnderWay → Bool
+is_block block None = false
+is_block block (Some way) = way.block.0 == block
+
 -- the block under way is of this epoch
 abbrev pub is_in_epoch : ℕ → Option UnderWay → Bool
 is_in_epoch epoch None = false

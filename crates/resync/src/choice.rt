@@ -7,7 +7,8 @@ use blocks::{Block, Range};
 use overlap::Held;
 
 /// Returns the lowest marked block that no interval in `held` covers, if there is one: the block that a resync copies
-/// next (this project's rule). It takes no memory. It makes a step for each marked block before that one.
+/// next (this project's rule). It takes no memory. It searches the marks once for each covered block that it passes over,
+/// and once more: after `Bitmap::skip_unmarked` that is constant time while no interval covers a marked block.
 pub fn next(marks: &Bitmap, held: &Held) -> Option<Block>
     ensures { option_map (λ b. b.0) result ≡ next_block marks.now held.now }
 {

@@ -1,6 +1,6 @@
 //! A resync at its source, and the block that it has under way.
 ghost use Rattle.std.specs.Prelude.{◌≡◌, ◌&&◌, if◌then◌else◌, true, false, None, Some, is_none};
-ghost use Rattle.resync.specs.UnderWay.{idle, is_in_epoch, is_way};
+ghost use Rattle.resync.specs.UnderWay.{idle, is_block, is_in_epoch, is_way};
 
 use blocks::Block;
 use std::marker::Model;
@@ -87,6 +87,23 @@ impl Resync {
             Some(way) => way.block == block && way.place == place,
             None => false,
         }
+    }
+
+    /// Records that the peer has acknowledged this block. Returns whether it was under way, at any place; then no
+    /// block is. An acknowledgement of another block changes nothing. A caller that knows the acknowledged place asks
+    /// `is_under_way` with it, and then calls `acknowledged`.
+    pub fn acked(&mut self, block: Block) -> bool
+        ensures awaited { result ≡ is_block block.0 self.old.under_way }
+        ensures after { self.new ≡ (if result then record self.old { under_way = None } else self.old) }
+    {
+        let awaited = match self.under_way {
+            Some(way) => way.block == block,
+            None => false,
+        };
+        if awaited {
+            self.acknowledged();
+        }
+        awaited
     }
 
     /// Records that the peer has the block under way. Then no block is under way.

@@ -5,7 +5,7 @@ use crate::command::Command;
 use crate::interpreter::perform;
 use crate::keys::Keys;
 use crate::print;
-use blocks::{MemStore, Refusal};
+use blocks::{MAX_BLOCKS, MemStore, Refusal};
 use numbers::Status;
 use pair::Pair;
 use std::alloc::Global;
@@ -163,6 +163,9 @@ fn end_without_pair<W: Write>(
 fn zeroed(alloc: Global, keys: Keys) -> Result<Pair, Refusal> {
     let settings = keys.settings;
     settings.check()?;
+    if settings.blocks > MAX_BLOCKS {
+        return Err(Refusal::BadSetting);
+    }
     let local = MemStore::zeroed(alloc, settings.blocks)?;
     let peer = MemStore::zeroed(alloc, settings.blocks)?;
     let marks = Vec::from_elem(alloc, false, settings.blocks as usize)?;

@@ -52,7 +52,7 @@ module _ (v : SecondaryView) (place : ℕ) (item : StreamItem) (first : ℕ) (by
   done does written =
       subst₂ (λ (d : Done) (x : SecondaryState). StepsTo (secondary_step (Applies place)) v (reply.Ok d) x disk) (sym plain) (sym does) (record {
         steps = steps;
-        is = λ faults steady. record {
+        is = λ faults steady faithful. record {
           had = node-had (Applies place) (node v) (reply.Ok (done_with what.Nothing)) (record (node v) { core = applied place v.core; disk = disk }) was.had
               steps;
           out_there = λ is_established. was.out_there (stays v.core.end is_established);

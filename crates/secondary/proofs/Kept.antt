@@ -57,7 +57,8 @@ pub record StepsTo (step : SecondaryHistory → Reply × SecondaryHistory) (v : 
     (disk : List (List ℕ)) : Type 0
   where
     pub steps : IsStep step (node v) said (record (node v) { core = core; disk = disk })
-    pub is : (faults : ℕ) (steady : Bool) → IsNode (record v { core = core; disk = disk; faults = faults; steady = steady })
+    pub is : (faults : ℕ) (steady faithful : Bool)
+        → IsNode (record v { core = core; disk = disk; faults = faults; steady = steady; faithful = faithful })
 
 -- One that shuts the end, and keeps the connection's number.
 pub shuts : (step : SecondaryHistory → Reply × SecondaryHistory) (v : SecondaryView) (said : Reply) (core : SecondaryState) (disk : List (List ℕ)) → IsNode v
@@ -65,7 +66,7 @@ pub shuts : (step : SecondaryHistory → Reply × SecondaryHistory) (v : Seconda
     → StepsTo step v said core disk
 shuts step v said core disk was steps shut same = record {
   steps = steps;
-  is = λ faults steady. record {
+  is = λ faults steady faithful. record {
     had = record { history = (step was.had.history).1; has = steps.after was.had.history was.had.has };
     out_there = absent core (is_some v.outgoing) shut;
     in_there = absent core (is_some v.incoming) shut;
@@ -79,7 +80,7 @@ pub closes-is : (v : SecondaryView) (t : SecondaryState) (result : Result (Unit 
     → IsNode (record v { core = t })
 closes-is v t result is closes =
     (shuts (secondary_step ClosesToo) v (replied plainly result) t v.disk is (node-closes (node v) result t closes) (closes-end v.core result t closes)
-    (closes-number v.core result t closes)).is v.faults v.steady
+    (closes-number v.core result t closes)).is v.faults v.steady v.faithful
 
 -- A new node has the opening over what its disk holds.
 pub new-has : (settings : Settings) (tuple : Tuple) (disk : List (List ℕ)) (s : SecondaryState) → s ≡ fresh settings tuple → IsInRange settings
@@ -96,10 +97,10 @@ new-has settings tuple disk s is in_range size =
     some-get (x ∷ xs) (suc n) = some-get xs n ∙ grind (arith, nat_tests)
 
 -- so some history is had
-pub new-is : (settings : Settings) (tuple : Tuple) (disk : List (List ℕ)) (s : SecondaryState) (faults : ℕ) (steady : Bool) → s ≡ fresh settings tuple
+pub new-is : (settings : Settings) (tuple : Tuple) (disk : List (List ℕ)) (s : SecondaryState) (faults : ℕ) (steady faithful : Bool) → s ≡ fresh settings tuple
     → IsInRange settings → length disk ≡ settings.blocks
-    → IsNode (record { core = s; disk = disk; outgoing = None; incoming = None; faults = faults; steady = steady })
-new-is settings tuple disk s faults steady is in_range size =
+    → IsNode (record { core = s; disk = disk; outgoing = None; incoming = None; faults = faults; steady = steady; faithful = faithful })
+new-is settings tuple disk s faults steady faithful is in_range size =
     let shut : is_some s.end ≡ false = ap (λ (x : SecondaryState). is_some x.end) is in record {
       had = record { history = secondary_opening settings (slice_get disk) tuple; has = new-has settings tuple disk s is in_range size };
       out_there = absent s false shut;

@@ -1,5 +1,4 @@
 pub mod Applies
-pub mod Buffers
 pub mod Kept
 pub mod Opens
 pub mod Sends

@@ -8,7 +8,7 @@ use Rattle.secondary_protocol.specs.Core.{SecondaryState, due}
 use Rattle.secondary_protocol.specs.Node.{NodeState, NodeIsHad}
 
 -- A node: its core, the blocks of its disk, both sides of its link if it was opened, how many of its disk's calls have
--- failed, and whether these are known not to fail.
+-- failed, whether these are known not to fail, and whether each read gave what the disk holds.
 pub record SecondaryView : Type 0 where
   pub core : SecondaryState
   pub disk : List (List ℕ)
@@ -16,10 +16,19 @@ pub record SecondaryView : Type 0 where
   pub incoming : Option PacketReceiverState
   pub faults : ℕ
   pub steady : Bool
+  pub faithful : Bool
 
 -- the view of a node with this core, disk and link
-abbrev pub seen : SecondaryState → List (List ℕ) → Option PacketSenderState → Option PacketReceiverState → ℕ → Bool → SecondaryView
-seen core disk outgoing incoming faults steady = record { core = core; disk = disk; outgoing = outgoing; incoming = incoming; faults = faults; steady = steady }
+abbrev pub seen : SecondaryState → List (List ℕ) → Option PacketSenderState → Option PacketReceiverState → ℕ → Bool → Bool → SecondaryView
+seen core disk outgoing incoming faults steady faithful = record {
+  core = core;
+  disk = disk;
+  outgoing = outgoing;
+  incoming = incoming;
+  faults = faults;
+  steady = steady;
+  faithful = faithful;
+}
 
 -- the node as the model's history has it
 abbrev pub node : SecondaryView → NodeState

@@ -24,7 +24,7 @@ impl<S: Store + Drop> Model for Unlinked<S> {
 
     ghost Value = { SecondaryView };
 
-    ghost view = { λ n. seen n.core.state (S.contents n.store) None None (S.faults n.store) (S.steady n.store) };
+    ghost view = { λ n. seen n.core.state (S.contents n.store) None None (S.faults n.store) (S.steady n.store) (S.faithful n.store) };
 }
 
 impl<O: FrameOut + Drop, I: FrameIn + Drop, S: Store + Drop> Secondary<O, I, S> {
@@ -54,13 +54,15 @@ impl<O: FrameOut + Drop, I: FrameIn + Drop, S: Store + Drop> Secondary<O, I, S> 
     pub fn store(&self) -> &S
         ensures contents { S.contents result.now ≡ self.now.disk }
         ensures faults { S.faults result.now ≡ self.now.faults }
+        ensures faithful { S.faithful result.now ≡ self.now.faithful }
     {
         &self.store
     }
 
     /// Drops the node and returns its disk.
     pub fn into_store(self) -> S
-        ensures { S.contents result ≡ self.disk }
+        ensures contents { S.contents result ≡ self.disk }
+        ensures faithful { S.faithful result ≡ self.faithful }
     {
         self.store
     }

@@ -1,15 +1,14 @@
 //! Reading the disk.
-ghost use Rattle.std.specs.Prelude.{◌≡◌, ◌≢◌, ◌⊎◌, ◌+◌, ◌*◌, ◌/◌, ◌<◌, ◌≤◌, Some, length, true, false, IfErr, IsOk, OnOk, OnErr, IfOk};
+ghost use Rattle.std.specs.Prelude.{◌≡◌, ◌≢◌, ◌⊎◌, ◌+◌, ◌*◌, ◌/◌, ◌<◌, ◌≤◌, Some, length, true, false, IsTrue, IfErr, IsOk, OnOk, OnErr, IfOk};
 ghost use Rattle.blocks.specs.declared.block.TheConstants.{BLOCK_BYTES};
 ghost use Rattle.blocks.specs.declared.refusal.Refusal.TheVariants.{BadRange, NoMemory, ReadFault};
 ghost use Rattle.model.specs.Contents.{IsRead, is_range};
 ghost use Rattle.model.specs.Secondary.{SecondaryHistory, secondary_map};
 ghost use Rattle.secondary_protocol.specs.Node.{NodeHas};
-ghost use Rattle.secondary.specs.Reads.{AreRead};
 ghost use Rattle.secondary.specs.State.{node};
 
 use crate::Secondary;
-use blocks::{BLOCK_BYTES, Block, Range, Refusal, Store, StoreFault};
+use blocks::{BLOCK_BYTES, Block, Range, Refusal, Store};
 use link::{FrameIn, FrameOut};
 
 impl<O: FrameOut + Drop, I: FrameIn + Drop, S: Store + Drop> Secondary<O, I, S> {
@@ -19,8 +18,9 @@ impl<O: FrameOut + Drop, I: FrameIn + Drop, S: Store + Drop> Secondary<O, I, S> 
     /// of no use. It takes no memory.
     pub fn read_block(&mut self, block: Block, buffer: &mut [u8]) -> Result<(), Refusal>
         requires { length buffer.old ≡ BLOCK_BYTES }
-        ensures read { OnOk result ((h : SecondaryHistory) → NodeHas (node self.old) h → secondary_map h block.0 ≡ Some buffer.new) }
-        ensures rest { self.new ≡ record self.old { faults = self.new.faults; steady = self.new.steady } }
+        ensures read { OnOk result (IsTrue self.new.faithful → (h : SecondaryHistory) → NodeHas (node self.old) h → secondary_map h block.0 ≡ Some buffer.new) }
+        ensures rest { self.new ≡ record self.old { faults = self.new.faults; steady = self.new.steady; faithful = self.new.faithful } }
+        ensures falls { IsTrue self.new.faithful → IsTrue self.old.faithful }
         ensures works { self.old.steady ≡ true → (self.new ≡ self.old) × IfErr result (λ e. e ≡ BadRange) }
         ensures uncounted { OnOk result (self.new.faults ≡ self.old.faults) }
         ensures refused { IfErr result (λ e. ((e ≡ BadRange) × (length self.old.disk ≤ block.0) × (self.new.faults ≡ self.old.faults))
@@ -40,9 +40,10 @@ impl<O: FrameOut + Drop, I: FrameIn + Drop, S: Store + Drop> Secondary<O, I, S> 
     /// `BadRange` (1) if they are not that, else `NoMemory` (7) if there is no room for their bytes, else
     /// `ReadFault` (14) if the disk fails.
     pub fn read(&mut self, first: u64, count: u64) -> Result<Vec<u8>, Refusal>
-        ensures read { IfOk result (λ bytes. (h : SecondaryHistory) → NodeHas (node self.old) h → IsRead (secondary_map h) first count bytes.items) }
+        ensures read { IfOk result (λ bytes. IsTrue self.new.faithful → (h : SecondaryHistory) → NodeHas (node self.old) h → IsRead (secondary_map h) first count bytes.items) }
         ensures within { OnOk result (is_range self.old.core.settings first count ≡ true) }
-        ensures rest { self.new ≡ record self.old { faults = self.new.faults; steady = self.new.steady } }
+        ensures rest { self.new ≡ record self.old { faults = self.new.faults; steady = self.new.steady; faithful = self.new.faithful } }
+        ensures falls { IsTrue self.new.faithful → IsTrue self.old.faithful }
         ensures works { self.old.steady ≡ true → self.new.steady ≡ true }
         // A steady disk does not fail, and nothing changes.
         ensures steadily { self.old.steady ≡ true → (self.new ≡ self.old) × IfErr result (λ e. e ≢ ReadFault) }
@@ -53,30 +54,9 @@ impl<O: FrameOut + Drop, I: FrameIn + Drop, S: Store + Drop> Secondary<O, I, S> 
     {
         let range = Range::new(first, count, self.core.settings().blocks)?;
         let mut bytes = Vec::from_elem(self.alloc, 0u8, range.count as usize * BLOCK_BYTES)?;
-        match read_blocks(&mut self.store, range.first, &mut bytes) {
+        match self.store.read_blocks(range.first, &mut bytes) {
             Ok(()) => Ok(bytes),
             Err(_) => Err(Refusal::ReadFault),
         }
     }
-}
-
-// Reads as many blocks of a disk as the buffer holds, from block `first` on.
-fn read_blocks<S: Store>(store: &mut S, first: Block, bytes: &mut [u8]) -> Result<(), StoreFault>
-    requires inside { first.0 + length bytes.old / 4096 ≤ length (S.contents store.old) }
-    requires few { first.0 + length bytes.old / 4096 < 4294967296 }
-    requires whole { 4096 * (length bytes.old / 4096) ≡ length bytes.old }
-    ensures size { length bytes.new ≡ length bytes.old }
-    ensures read { OnOk result (AreRead (S.contents store.old) first.0 bytes.new (length bytes.new / 4096)) }
-    ensures same { S.contents store.new ≡ S.contents store.old }
-    ensures works { S.steady store.old ≡ true → S.steady store.new ≡ true }
-    ensures steadily { S.steady store.old ≡ true → IsOk result }
-    ensures uncounted { OnOk result (S.faults store.new ≡ S.faults store.old) }
-    ensures counted { OnErr result (S.faults store.old < S.faults store.new) }
-{
-    for offset in 0..bytes.len() / BLOCK_BYTES {
-        let at = offset * BLOCK_BYTES;
-        let block = Block(first.0 + offset as u64);
-        store.read(block, &mut bytes[at..at + BLOCK_BYTES])?;
-    }
-    Ok(())
 }

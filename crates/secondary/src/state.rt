@@ -30,9 +30,9 @@ impl<O: FrameOut + Drop, I: FrameIn + Drop, S: Store + Drop> Model for Secondary
 
     ghost Value = { SecondaryView };
 
-    ghost view = { λ n. seen n.core.state (S.contents n.store) n.outgoing n.incoming (S.faults n.store) (S.steady n.store) };
+    ghost view = { λ n. seen n.core.state (S.contents n.store) n.outgoing n.incoming (S.faults n.store) (S.steady n.store) (S.faithful n.store) };
 
-    ghost invariant = { λ n. IsNode (seen n.core.state (S.contents n.store) n.outgoing n.incoming (S.faults n.store) (S.steady n.store)) };
+    ghost invariant = { λ n. IsNode (seen n.core.state (S.contents n.store) n.outgoing n.incoming (S.faults n.store) (S.steady n.store) (S.faithful n.store)) };
 }
 
 impl<O: FrameOut + Drop, I: FrameIn + Drop, S: Store + Drop> Secondary<O, I, S> {
@@ -48,7 +48,7 @@ impl<O: FrameOut + Drop, I: FrameIn + Drop, S: Store + Drop> Secondary<O, I, S> 
         tuple: Tuple,
     ) -> Result<Secondary<O, I, S>, Refusal>
         ensures history { IfOk result (λ n. NodeHas (node n) (secondary_opening settings (slice_get (S.contents store)) tuple)) }
-        ensures disk { IfOk result (λ n. (n.faults ≡ S.faults store) × (n.steady ≡ S.steady store)) }
+        ensures disk { IfOk result (λ n. (n.faults ≡ S.faults store) × (n.steady ≡ S.steady store) × (n.faithful ≡ S.faithful store)) }
         ensures link { IfOk result (λ n. (n.outgoing ≡ None) × (n.incoming ≡ None)) }
         ensures refused { IfErr result (λ e. ((e ≡ BadSetting) × (IsInRange settings → length (S.contents store) ≡ settings.blocks → ⊥))
             ⊎ ((e ≡ NoMemory) × IsInRange settings × (length (S.contents store) ≡ settings.blocks))) }

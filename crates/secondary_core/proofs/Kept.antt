@@ -8,7 +8,7 @@ use Rattle.model.specs.Frames.{Packet}
 use Rattle.model.specs.Stream.{StreamItem, WriteItem, ResyncItem, BarrierItem, SyncUuidItem, UuidsItem, contents_of, first_of}
 use Rattle.peerdisk.specs.Pending.{PeerDiskState, Pending, is_pending, without}
 use Rattle.peerdisk.proofs.Pendings.{all-push, all-without}
-use Rattle.peerdisk.proofs.Stamps.{length-flags}
+use Rattle.peerdisk.proofs.Flags.{length-flags}
 use Rattle.secondary_protocol.specs.Core.{Intake, and_item, answers}
 use Rattle.secondary_core.specs.Connections.{HasRoom, IsServed, acknowledged}
 use Rattle.secondary_core.specs.Outboxes.{OutboxState, acknowledging}

@@ -1,10 +1,11 @@
 -- What the sessions of a server leave.
-use Rattle.std.proofs.Common.{ℕ, suc, ◌≡◌, ◌≤◌, inl, inr, Bool, true, false, not, ◌&&◌, List, [], ◌∷◌, length, filter, Option, Some, None, Result, Ok, Err}
+use Rattle.std.proofs.Common.{ℕ, suc, ◌≡◌, ◌<◌, ◌≤◌, inl, inr, Bool, true, false, not, ◌&&◌, List, [], ◌∷◌, length, filter, Option, Some, None, Result, Ok, Err}
 use Rattle.std.proofs.Common.{slice_get, refl, sym, ◌∙◌, ap, subst, arith, max, nat_lt, Vec, Global}
-use Rattle.std.specs.Prelude.{IfOk, IsOk, is_some}
+use Rattle.std.specs.Prelude.{IfOk, IfSome, IsOk, IsTrue}
 use Rattle.std.proofs.Math.Nat.{le-max_left}
 use Rattle.std.proofs.lemmas.Bool.{cases_Bool, cases_lt, both_ways, and_from, and_parts, le-ltb}
 use Rattle.std.proofs.lemmas.Option.{slice_get_within}
+use Rattle.bitmap.specs.Marks.{marked}
 use Rattle.blocks.specs.Ranges.{below}
 use Rattle.blocks.specs.declared.refusal.Refusal.{Refusal}
 use Rattle.halves.specs.Opening.{opening_of}
@@ -25,8 +26,8 @@ use Rattle.primary.specs.State.{PrimaryView, node as primary_node}
 use Rattle.primary_protocol.specs.Node.{NodeHas}
 use Rattle.secondary.specs.State.{SecondaryView, node as secondary_node}
 use Rattle.secondary_protocol.specs.Node.{NodeHas as NodeHasToo}
-use Rattle.serving.specs.Sessions.{NodesComeTo, IsSession, opening}
-use Rattle.serving.specs.declared.session_end.SessionEnd.{SessionEnd}
+use Rattle.serving.specs.Disks.{AreFaithful, DisksState, unmarked_between}
+use Rattle.serving.specs.Sessions.{NodesComeTo, IsSession, Rest, opening}
 use Rattle.serving.specs.declared.totals.Totals.{Totals}
 use Rattle.session_nodes.specs.Primaries.{PrimaryHas, PrimaryIsHad}
 use Rattle.session_nodes.specs.Secondaries.{SecondaryHas, SecondaryIsHad}
@@ -58,63 +59,25 @@ unmarked-there p none block = elim (cases_Bool (is_marked p block)) [
   ]
 ]
 
-none-there : (v : Option (List ℕ)) → is_some v ≡ false → v ≡ None
-none-there None is = refl
-none-there (Some x) is = absurd (cc)
+-- a block of a list in which nothing passes
+none-below : (p : ℕ → Bool) (n block : ℕ) → length (filter p (below n)) ≡ 0 → block < n → p block ≡ false
+none-below p n block none less = let there = below-has n block less in none-passes p (below n) there.0 block none there.1
 
--- then both disks have the same block here
-same-there : (p : PrimaryHistory) (s : SecondaryHistory) (blocks : ℕ) → blocks ≡ p.settings.blocks → IsDisk blocks (local_map p) → IsDisk blocks (secondary_map s)
-    → unmarked_differences p s ≡ 0 → length (marked_blocks p) ≡ 0 → (block : ℕ) → local_map p block ≡ secondary_map s block
-same-there p s blocks size local peer none clean block = elim (cases_lt block blocks) [
-  | inr past ↦
-      let out : nat_lt block blocks ≡ false = le-ltb block blocks past in
-      none-there (local_map p block) (local block ∙ out) ∙ sym (none-there (secondary_map s block) (peer block ∙ out))
-  | inl inside ↦ elim (cases_Bool (same_block (local_map p block) (secondary_map s block))) [
-    | inl same ↦ same-equal (local_map p block) (secondary_map s block) same
-    | inr differs ↦ absurd (
-        let least = le-max_left p.settings.blocks s.settings.blocks in
-        let there = below-has (max p.settings.blocks s.settings.blocks) block (omega (arith, inside, size, least)) in
-        let fails = none-passes (λ b. not (same_block (local_map p b) (secondary_map s b)) && not (is_marked p b)) _ there.0 block none there.1 in
-        both_ways _ fails (and_from (not (same_block (local_map p block) (secondary_map s block))) (not (is_marked p block)) (ap not differs)
-        (ap not (unmarked-there p clean block))))
-  ]
+-- Where a session leaves no mark, and a comparison finds no difference without one, the disks are the same.
+pub ends-alike : (o : Opening) (before : Totals) (rest : Rest) (local peer : List (List ℕ)) (blocks : ℕ) → IsSession o before rest
+    → unmarked_between rest.parts.marks local peer blocks ≡ 0 → rest.totals.marked ≡ 0 → (block : ℕ) → block < blocks
+    → slice_get local block ≡ slice_get peer block
+ends-alike o before rest local peer blocks session none clean block less = elim (cases_Bool (same_block (slice_get local block) (slice_get peer block))) [
+  | inl same ↦ same-equal (slice_get local block) (slice_get peer block) same
+  | inr differs ↦ absurd (
+      let fails = none-below (λ b. not (same_block (slice_get local b) (slice_get peer b)) && not (marked rest.parts.marks b)) blocks block none less in
+      let unmarked : marked rest.parts.marks block ≡ false = session.comes.left.marks block
+      ∙ unmarked-there (primary_run session.here (primary_at o)) (sym session.comes.marked ∙ clean) block in
+      both_ways _ fails (and_from (not (same_block (slice_get local block) (slice_get peer block))) (not (marked rest.parts.marks block)) (ap not differs)
+      (ap not unmarked)))
 ]
 
--- lists with the same elements are the same
-pub all-same : {X : Type 0} (xs ys : List X) → ((k : ℕ) → slice_get xs k ≡ slice_get ys k) → xs ≡ ys
-all-same [] [] each = refl
-all-same [] (y ∷ ys) each = absurd (let first : None ≡ Some y = each 0 in cc (first))
-all-same (x ∷ xs) [] each = absurd (let first : Some x ≡ None = each 0 in cc (first))
-all-same (x ∷ xs) (y ∷ ys) each =
-    let rest : xs ≡ ys = all-same xs ys (λ k. each (suc k)) in
-    let here : Some x ≡ Some y = each 0 in
-    let first : x ≡ y = cc here in
-    cc (first, rest)
-
--- Where a session leaves no mark and no difference without one, the disks are the same.
-pub ends-alike : (o : Opening) (before : Totals) (rest : SessionEnd) → IsSession o before rest → rest.totals.unmarked ≡ 0 → rest.totals.marked ≡ 0
-    → rest.disks.local.disk ≡ rest.disks.peer.disk
-ends-alike o before rest session none clean = all-same rest.disks.local.disk rest.disks.peer.disk (λ block. session.local block
-    ∙ same-there p s rest.parts.settings.blocks (ap (λ x. x.blocks) session.comes.left.settings) session.comes.sound.local session.comes.sound.peer
-    (sym (ap (λ n. n.unmarked) session.comes.settles.exact) ∙ sym session.comes.unmarked ∙ none) (sym session.comes.marked ∙ clean) block
-    ∙ sym (session.peer block))
-  where
-    p : PrimaryHistory
-    p = primary_run session.here (primary_at o)
-
-    s : SecondaryHistory
-    s = secondary_run session.there (secondary_at o)
-
 -- A session.
-
--- a settlement leaves both nodes their histories
-pub still-has : (p : PrimaryHistory) (old new : PrimaryView) → new ≡ record old { faults = new.faults; steady = new.steady } → NodeHas (primary_node old) p
-    → NodeHas (primary_node new) p
-still-has p old new is = subst (λ (v : PrimaryView). NodeHas (primary_node v) p) (sym is)
-
-pub still-has-too : (s : SecondaryHistory) (old new : SecondaryView) → new ≡ record old { faults = new.faults; steady = new.steady }
-    → NodeHasToo (secondary_node old) s → NodeHasToo (secondary_node new) s
-still-has-too s old new is = subst (λ (v : SecondaryView). NodeHasToo (secondary_node v) s) (sym is)
 
 -- what holds of these receipts, where the work gave them
 pub given : (worked : Result (Vec Receipt Global) Refusal) (receipts : Vec Receipt Global) (Q : List Receipt → Type 0) → worked ≡ Ok receipts → Q receipts.items
@@ -122,35 +85,35 @@ pub given : (worked : Result (Vec Receipt Global) Refusal) (receipts : Vec Recei
 given worked receipts Q is holds = subst (λ (w : Result (Vec Receipt Global) Refusal). IfOk w (λ all. Q all.items)) (sym is) holds
 
 -- honest identifiers are so over the same disks
-honest-over : (rest : SessionEnd) (p : PrimaryHistory) (s : SecondaryHistory) → ((block : ℕ) → slice_get rest.disks.local.disk block ≡ local_map p block)
-    → ((block : ℕ) → slice_get rest.disks.peer.disk block ≡ secondary_map s block)
+honest-over : (rest : Rest) (p : PrimaryHistory) (s : SecondaryHistory) → ((block : ℕ) → slice_get rest.disks.local block ≡ local_map p block)
+    → ((block : ℕ) → slice_get rest.disks.peer block ≡ secondary_map s block)
     → WasHonest (opening_of rest.parts (local_map p) (secondary_map s)) → WasHonest (opening rest)
 honest-over rest p s local peer = subst WasHonest (λ i. opening_of rest.parts (λ block. sym (local block) i) (λ block. sym (peer block) i))
 
 -- what two nodes that ended make of what they leave
-pub session-of : (o : Opening) (before : Totals) (result : Result SessionEnd Refusal) (worked : Result (Vec Receipt Global) Refusal) (a : PrimaryView)
-    (b : SecondaryView) → WasHonest o → IsUnparted o → PrimaryIsHad (Some o) a × SecondaryIsHad (Some o) b
+pub session-of : (o : Opening) (before : Totals) (result : Result Rest Refusal) (worked : Result (Vec Receipt Global) Refusal) (a : PrimaryView)
+    (b : SecondaryView) → PrimaryIsHad (Some o) a × SecondaryIsHad (Some o) b
     → ((p : PrimaryHistory) (s : SecondaryHistory) → PrimaryHas a p → SecondaryHas b s → IsJoined p s) → b.core.number ≤ a.core.connections
-    → IfOk result (λ _. IsOk worked) → IfOk result (λ rest. (rest.disks.local.disk ≡ a.disk) × (rest.disks.peer.disk ≡ b.disk))
+    → IfOk result (λ rest. rest.disks.local_faithful ≡ a.faithful) → IfOk result (λ _. IsOk worked)
+    → IfOk result (λ rest. (rest.disks.local ≡ a.disk) × (rest.disks.peer ≡ b.disk))
     → IfOk result (λ rest. IfOk worked (λ receipts. NodesComeTo a b receipts.items before rest.totals rest.parts))
     → IfOk result (λ rest. IsSession o before rest)
-session-of o before (Err refusal) worked a b honest unparted had joined numbered done disks comes = tt
-session-of o before (Ok rest) (Err refusal) a b honest unparted had joined numbered done disks comes = absurd (let wrong : false ≡ true = done in cc (wrong))
-session-of o before (Ok rest) (Ok receipts) a b honest unparted had joined numbered done disks comes =
+session-of o before (Err refusal) worked a b had joined numbered faithful done disks comes = tt
+session-of o before (Ok rest) (Err refusal) a b had joined numbered faithful done disks comes = absurd (let wrong : false ≡ true = done in cc (wrong))
+session-of o before (Ok rest) (Ok receipts) a b had joined numbered faithful done disks comes =
     let p = had.0 in
     let s = had.1 in
     let here : PrimaryHas a (primary_run p.began.0 (primary_at o)) = subst (PrimaryHas a) p.began.1 p.has in
     let there : SecondaryHas b (secondary_run s.began.0 (secondary_at o)) = subst (SecondaryHas b) s.began.1 s.has in
     let joins = joined (primary_run p.began.0 (primary_at o)) (secondary_run s.began.0 (secondary_at o)) here there in
-    let left = comes numbered (primary_run p.began.0 (primary_at o)) (secondary_run s.began.0 (secondary_at o)) here.has there.has joins
-    (were-honest o p.began.0 s.began.0 honest) in
-    let local : (block : ℕ) → slice_get rest.disks.local.disk block ≡ local_map (primary_run p.began.0 (primary_at o)) block =
+    let left = comes numbered (primary_run p.began.0 (primary_at o)) (secondary_run s.began.0 (secondary_at o)) here.has there.has joins in
+    let local : (block : ℕ) → slice_get rest.disks.local block ≡ local_map (primary_run p.began.0 (primary_at o)) block =
     λ block. ap (λ (l : List (List ℕ)). slice_get l block) disks.0 ∙ here.has.leaves.disk block in
-    let peer : (block : ℕ) → slice_get rest.disks.peer.disk block ≡ secondary_map (secondary_run s.began.0 (secondary_at o)) block =
+    let peer : (block : ℕ) → slice_get rest.disks.peer block ≡ secondary_map (secondary_run s.began.0 (secondary_at o)) block =
     λ block. ap (λ (l : List (List ℕ)). slice_get l block) disks.1 ∙ there.has.leaves.disk block in
-    let opens : (primary_run p.began.0 (primary_at o)).opening_tuple.current ≡ (secondary_run s.began.0 (secondary_at o)).opening_tuple.current
-    → (primary_run p.began.0 (primary_at o)).opening_tuple.bitmap ≡ 0
-    = λ same. ap (λ (t : Tuple). t.bitmap) (kept-opening-primary o p.began.0).tuple
+    let opens : IsUnparted o → (primary_run p.began.0 (primary_at o)).opening_tuple.current
+    ≡ (secondary_run s.began.0 (secondary_at o)).opening_tuple.current → (primary_run p.began.0 (primary_at o)).opening_tuple.bitmap ≡ 0
+    = λ unparted same. ap (λ (t : Tuple). t.bitmap) (kept-opening-primary o p.began.0).tuple
     ∙ unparted (ap (λ (t : Tuple). t.current) (sym (kept-opening-primary o p.began.0).tuple) ∙ same
     ∙ ap (λ (t : Tuple). t.current) (kept-opening-secondary o s.began.0).tuple) in
     record {
@@ -161,8 +124,19 @@ session-of o before (Ok rest) (Ok receipts) a b honest unparted had joined numbe
       comes = left;
       local = local;
       peer = peer;
-      order = λ none. keeps-order _ _ here.has.reached there.has.reached (were-honest o p.began.0 s.began.0 honest) joins
-          (record { local = none; opening = opens });
-      unparted = left.unparted opens;
-      honest = honest-over rest (primary_run p.began.0 (primary_at o)) (secondary_run s.began.0 (secondary_at o)) local peer left.sound.identifiers;
+      faithful = λ fine. here.has.leaves.faithful (subst IsTrue faithful fine);
+      honest = λ honest fine. honest-over rest (primary_run p.began.0 (primary_at o)) (secondary_run s.began.0 (secondary_at o)) local peer
+          (left.sound (were-honest o p.began.0 s.began.0 honest) fine).identifiers;
+      unparted = λ honest unparted. left.unparted (were-honest o p.began.0 s.began.0 honest) (opens unparted);
+      order = λ honest unparted fine none. keeps-order _ _ here.has.reached there.has.reached (were-honest o p.began.0 s.began.0 honest) joins
+          (record { faithful = fine; local = none; opening = opens unparted });
     }
+
+-- A comparison that found nothing, where no block is marked.
+pub found-alike : (o : Opening) (before : Totals) (rest : Rest) (last : DisksState) (blocks : ℕ) (found : Option ℕ) → IsSession o before rest
+    → IfSome found (λ n. AreFaithful last → n ≡ unmarked_between rest.parts.marks last.local last.peer blocks) → found ≡ Some 0 → rest.totals.marked ≡ 0
+    → AreFaithful last → (block : ℕ) → block < blocks → slice_get last.local block ≡ slice_get last.peer block
+found-alike o before rest last blocks found session counted none clean faithful =
+    ends-alike o before rest last.local last.peer blocks session
+    (sym (subst (λ (f : Option ℕ). IfSome f (λ n. AreFaithful last → n ≡ unmarked_between rest.parts.marks last.local last.peer blocks)) none counted faithful))
+    clean

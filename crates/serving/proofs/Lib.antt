@@ -1,4 +1,5 @@
 -- When two disks are alike, and what sessions leave.
 pub mod Alike
+pub mod Comparing
 pub mod Ended
 pub mod Succeeding

@@ -1,5 +1,5 @@
 //! The end of a server, and the lines that it prints.
-ghost use Rattle.std.specs.Prelude.{◌≡◌, false, None, OnOk};
+ghost use Rattle.std.specs.Prelude.{◌≡◌, false, None, IfSome, OnOk};
 ghost use Rattle.std.specs.Io.KnownBytes.{Appends};
 ghost use Rattle.result_lines.specs.Text.{results_text};
 ghost use Rattle.serving.specs.Served.{results};
@@ -14,6 +14,8 @@ use std::io::Write;
 #[derive(Drop)]
 pub(crate) struct End<'a> {
     pub(crate) totals: Totals,
+    /// On how many blocks without a mark the disks differ, if they were compared.
+    pub(crate) unmarked: Option<u32>,
     /// The images' paths.
     pub(crate) files: Both<&'a str>,
     /// Whether an image was replaced, or has another length, while it was served.
@@ -33,16 +35,16 @@ impl<'a> End<'a> {
         out: &mut W,
         err: &mut E,
     ) -> Result<(), Fault<'a>>
-        ensures printed { OnOk result (Appends (W.contents out.old) (W.contents out.new) (results_text (results self.now.totals))) }
+        ensures printed { OnOk result (Appends (W.contents out.old) (W.contents out.new) (results_text (results self.now.totals self.now.unmarked))) }
         ensures unchanged { OnOk result ((self.now.changed.local ≡ false) × (self.now.changed.peer ≡ false)) }
-        ensures alike { OnOk result ((self.now.totals.unmarked ≡ 0) × (self.now.totals.marked ≡ 0)) }
+        ensures alike { OnOk result (IfSome self.now.unmarked (λ n. n ≡ 0) × (self.now.totals.marked ≡ 0)) }
         ensures whole { OnOk result ((self.now.torn.local ≡ false) × (self.now.torn.peer ≡ false)) }
         ensures synced { OnOk result ((self.now.unsynced.local ≡ None) × (self.now.unsynced.peer ≡ None)) }
     {
         if self.changed.local || self.changed.peer {
             return self.tell(None, err);
         }
-        match self.totals.results().print(out) {
+        match self.totals.results(self.unmarked).print(out) {
             Ok(()) => self.tell(None, err),
             Err(error) => self.tell(Some(Fault::Unwritten(error)), err),
         }
@@ -52,7 +54,7 @@ impl<'a> End<'a> {
     fn tell<E: Write>(&self, first: Option<Fault<'a>>, err: &mut E) -> Result<(), Fault<'a>>
         ensures none { OnOk result (first.entry ≡ None) }
         ensures unchanged { OnOk result ((self.now.changed.local ≡ false) × (self.now.changed.peer ≡ false)) }
-        ensures alike { OnOk result ((self.now.totals.unmarked ≡ 0) × (self.now.totals.marked ≡ 0)) }
+        ensures alike { OnOk result (IfSome self.now.unmarked (λ n. n ≡ 0) × (self.now.totals.marked ≡ 0)) }
         ensures whole { OnOk result ((self.now.torn.local ≡ false) × (self.now.torn.peer ≡ false)) }
         ensures synced { OnOk result ((self.now.unsynced.local ≡ None) × (self.now.unsynced.peer ≡ None)) }
     {
@@ -66,15 +68,12 @@ impl<'a> End<'a> {
     fn tell_further<E: Write>(&self, first: Option<Fault<'a>>, err: &mut E) -> Option<Fault<'a>>
         ensures none { result ≡ None → first.entry ≡ None }
         ensures unchanged { result ≡ None → (self.now.changed.local ≡ false) × (self.now.changed.peer ≡ false) }
-        ensures alike { result ≡ None → (self.now.totals.unmarked ≡ 0) × (self.now.totals.marked ≡ 0) }
+        ensures alike { result ≡ None → IfSome self.now.unmarked (λ n. n ≡ 0) × (self.now.totals.marked ≡ 0) }
         ensures whole { result ≡ None → (self.now.torn.local ≡ false) × (self.now.torn.peer ≡ false) }
         ensures synced { result ≡ None → (self.now.unsynced.local ≡ None) × (self.now.unsynced.peer ≡ None) }
     {
-        let Totals {
-            unmarked,
-            marked,
-            ..
-        } = self.totals;
+        let unmarked = self.unmarked.unwrap_or(0);
+        let marked = self.totals.marked;
         let Both { local, peer } = self.files;
         let mut first = first;
         first = or_told(

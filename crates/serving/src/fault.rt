@@ -7,7 +7,7 @@ ghost use Rattle.numbers.specs.Statuses.{status_of};
 ghost use Rattle.numbers.specs.declared.status.SessionStatus.TheVariants as status;
 ghost use Rattle.serving.specs.declared.fault.Fault.TheVariants.{Refused, Unbound, Unstarted};
 
-use blocks::{BLOCK_BYTES, MAX_BLOCKS, Refusal};
+use blocks::{BLOCK_BYTES, MAX_DEVICE_BLOCKS, Refusal};
 use client_threads::{ListenFault, StartFault};
 use image_store::OpenFault;
 use numbers::SessionStatus;
@@ -59,7 +59,7 @@ impl fmt::Display for Fault<'_> {
             Fault::Unopened(file, fault) => write!(f, "{file}: {fault}"),
             Fault::NoDevice(file) => write!(
                 f,
-                "{file}: an image has 1 to {MAX_BLOCKS} blocks of {BLOCK_BYTES} bytes"
+                "{file}: an image has 1 to {MAX_DEVICE_BLOCKS} blocks of {BLOCK_BYTES} bytes"
             ),
             Fault::Unbound(fault) => write!(f, "{fault}"),
             Fault::Refused(refusal) => write!(f, "refused {}: {refusal}", refusal.number()),

@@ -3,22 +3,20 @@ ghost use Rattle.std.specs.Prelude.{◌≡◌, ◌<◌, ◌≤◌, ◌↔◌, If
 ghost use Rattle.blocks.specs.declared.refusal.Refusal.TheVariants.{BadSetting};
 ghost use Rattle.serving.specs.Served.{AreInRange};
 
+use crate::disks::Disks;
 use crate::fault::Fault;
-use crate::session_end::Disks;
-use blocks::{BLOCK_BYTES, MAX_BLOCKS, Refusal};
-use image_store::{Both, ImageLock, ImageStore, OpenFault, SyncHandle};
+use blocks::{BLOCK_BYTES, MAX_DEVICE_BLOCKS, Refusal};
+use file_store::{FileStore, OpeningContents};
+use image_store::{Both, ImageLock, OpenFault, SyncHandle, open_image};
 use options::ServeOptions;
-use std::fs;
 use std::fs::File;
 use std::rt::Files;
 
 /// An opened image, and the handle by which it is synced.
-type Opened = (ImageStore<File>, SyncHandle<File>);
+type Opened<X> = (FileStore<File, X>, SyncHandle<File>);
 
 /// Returns which images may have kept parts of a write that failed.
-pub(crate) fn torn_images(disks: &Disks) -> Both<bool>
-    ensures { (result.local ≡ disks.now.local.torn) × (result.peer ≡ disks.now.peer.torn) }
-{
+pub(crate) fn torn_images<X: OpeningContents>(disks: &Disks<FileStore<File, X>>) -> Both<bool> {
     Both {
         local: disks.local.is_torn(),
         peer: disks.peer.is_torn(),
@@ -31,25 +29,25 @@ pub(crate) fn check_size(options: &ServeOptions<'_>) -> Result<(), Refusal>
     ensures refused { IfErr result (λ e. e ≡ BadSetting) }
 {
     match options.blocks {
-        Some(blocks) if blocks == 0 || blocks > MAX_BLOCKS => Err(Refusal::BadSetting),
+        Some(blocks) if blocks == 0 || blocks > MAX_DEVICE_BLOCKS => Err(Refusal::BadSetting),
         _ => Ok(()),
     }
 }
 
 /// Returns the device's size in blocks: as many as are asked for, else those of the local image.
-pub(crate) fn blocks_of<'a, H: Files>(rt: &H, options: &ServeOptions<'a>) -> Result<u32, Fault<'a>>
+pub(crate) fn blocks_of<'a>(options: &ServeOptions<'a>, local: &ImageLock) -> Result<u32, Fault<'a>>
     requires { AreInRange options.now }
-    ensures range { IfOk result (λ blocks. (0 < blocks) × (blocks ≤ 262144)) }
+    ensures range { IfOk result (λ blocks. (0 < blocks) × (blocks ≤ 2147483648)) }
     ensures asked { IfOk result (λ blocks. IfSome options.now.blocks (λ asked. blocks ≡ asked)) }
 {
     if let Some(blocks) = options.blocks {
         return Ok(blocks);
     }
-    let blocks = match fs::metadata(rt, options.local) {
-        Ok(metadata) => metadata.len() / BLOCK_BYTES as u64,
+    let blocks = match local.image_bytes() {
+        Ok(bytes) => bytes / BLOCK_BYTES as u64,
         Err(error) => return Err(Fault::Unopened(options.local, OpenFault::Unread(error))),
     };
-    if blocks == 0 || blocks > u64::from(MAX_BLOCKS) {
+    if blocks == 0 || blocks > u64::from(MAX_DEVICE_BLOCKS) {
         return Err(Fault::NoDevice(options.local));
     }
     Ok(blocks as u32)
@@ -92,21 +90,19 @@ fn lock<'a, H: Files<File = File>>(rt: &H, file: &'a str) -> Result<ImageLock, F
 }
 
 /// Opens both images as disks of `blocks` blocks, the local one first. Returns the disks, and the handles that sync them.
-pub(crate) fn open_both<'a, H: Files<File = File> + AllocGlobal>(
+pub(crate) fn open_both<'a, H: Files<File = File>, X: OpeningContents>(
     rt: &H,
     options: &ServeOptions<'a>,
     blocks: u32,
-) -> Result<(Disks, Both<SyncHandle<File>>), Fault<'a>>
-    requires { (0 < blocks) × (blocks ≤ 262144) }
-{
-    match open(rt, options.local, blocks) {
-        Ok((local, local_sync)) => match open(rt, options.peer, blocks) {
+) -> Result<(Disks<FileStore<File, X>>, Both<SyncHandle<File>>), Fault<'a>> {
+    match open::<H, X>(rt, options.local, blocks, true) {
+        Ok((local, local_sync)) => match open::<H, X>(rt, options.peer, blocks, false) {
             Ok((peer, peer_sync)) => {
                 let syncs = Both {
                     local: local_sync,
                     peer: peer_sync,
                 };
-                Ok((Both { local, peer }, syncs))
+                Ok((Disks { local, peer }, syncs))
             }
             Err(fault) => Err(fault),
         },
@@ -115,14 +111,13 @@ pub(crate) fn open_both<'a, H: Files<File = File> + AllocGlobal>(
 }
 
 // Opens an image as a disk of `blocks` blocks.
-fn open<'a, H: Files<File = File> + AllocGlobal>(
+fn open<'a, H: Files<File = File>, X: OpeningContents>(
     rt: &H,
     file: &'a str,
     blocks: u32,
-) -> Result<Opened, Fault<'a>>
-    requires { (0 < blocks) × (blocks ≤ 262144) }
-{
-    match ImageStore::open(rt, file, blocks) {
+    is_local: bool,
+) -> Result<Opened<X>, Fault<'a>> {
+    match open_image::<H, X>(rt, file, blocks, is_local) {
         Ok(opened) => Ok(opened),
         Err(fault) => Err(Fault::Unopened(file, fault)),
     }

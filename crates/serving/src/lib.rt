@@ -2,8 +2,11 @@
 //! number of clients at a time read and write one export, while the session mirrors it.
 #![tactic(auto)]
 
+mod compare;
+mod disks;
 mod end;
 mod fault;
+mod first_start;
 mod images;
 mod server;
 mod session;
@@ -11,6 +14,7 @@ mod session_end;
 mod sessions;
 mod totals;
 
-pub use options::ServeOptions;
+pub use file_store::{AnyContents, OpeningContents};
+pub use options::{FirstStart, ServeOptions};
 pub use server::serve;
 pub use volume::Host;

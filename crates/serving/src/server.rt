@@ -1,18 +1,21 @@
 //! A server, from its images to the lines that it prints.
-ghost use Rattle.std.specs.Prelude.{◌≡◌, Err, IfOk, OnOk};
+ghost use Rattle.std.specs.Prelude.{◌≡◌, ◌||◌, nat_le, is_some, Err, IfOk, OnOk};
 ghost use Rattle.blocks.specs.SettingsRange.{standard};
 ghost use Rattle.blocks.specs.declared.refusal.Refusal.TheVariants.{BadSetting};
 ghost use Rattle.numbers.specs.declared.status.SessionStatus.TheVariants as status;
 ghost use Rattle.serving.specs.Served.{AreInRange, CameTo, HasEnded, HasServed};
 ghost use Rattle.serving.specs.declared.fault.Fault.TheVariants.{Refused};
 
+use crate::compare::compared;
+use crate::disks::Disks;
 use crate::end::End;
 use crate::fault::Fault;
 use crate::images::{blocks_of, changed_images, check_size, lock_both, open_both, torn_images};
-use crate::session_end::Disks;
+use crate::session_end::SessionEnd;
 use crate::sessions::run_sessions;
 use blocks::Refusal;
 use client_threads::{Listeners, Service, start_threads};
+use file_store::{FileStore, OpeningContents};
 use image_store::{Both, ImageLock, SyncHandle};
 use numbers::SessionStatus;
 use options::ServeOptions;
@@ -27,15 +30,19 @@ use std::sync::Arc;
 use volume::{Host, Runtime};
 
 /// Serves both images to block clients until `input` has a line `quit`, and prints `completed X`, `settled X` and
-/// `unmarked 0`, X being the number of ranges that clients wrote. Locks both images meanwhile. The end of `input` is no order
+/// `unmarked 0`, X being the number of ranges that clients wrote; `unmarked not compared` if the images have more than 262,144
+/// blocks and no comparison was asked for. Locks both images meanwhile. The end of `input` is no order
 /// to end. Returns how it ended:
 ///
-/// - `Done`: both disks are the same, and both images are on stable storage.
+/// - `Done`: no block is marked, no comparison found a difference, and both images are on stable storage. `X` names what the
+///   images held when they were opened: what it says of both disks holds if each file gave what was last written to it, or
+///   what it held then.
 /// - `Failed`, with a line on `err` that says why: a file, a sync, an address, the output, memory or a thread failed, an image
 ///   is in use, was changed by others or may have kept parts of a write that failed, the disks differ without a mark, or blocks
 ///   are still marked.
 /// - `Refused`, with a line on `err`: any other refusal. A size that no device has (15) is refused before anything else.
 pub fn serve<
+    X: OpeningContents + Send + 'static,
     H: Host + Files<File = File> + Net<Listener = TcpListener, Stream = TcpStream> + RandomSource,
     I: Read + Drop + Send + 'static,
     W: Write,
@@ -44,7 +51,7 @@ pub fn serve<
     ensures done { result ≡ status.Done → HasServed options.now (W.contents out.old) (W.contents out.new) }
     ensures refused { (AreInRange options.now → ⊥) → result ≡ status.Refused }
 {
-    match serve_images(rt, options, input, out, err) {
+    match serve_images::<X, H, I, W, E>(rt, options, input, out, err) {
         Ok(()) => SessionStatus::Done,
         Err(fault) => {
             let _ = writeln!(err, "{fault}");
@@ -56,6 +63,7 @@ pub fn serve<
 // Serves both images if the options ask for no size, or for one that a device has.
 fn serve_images<
     'a,
+    X: OpeningContents + Send + 'static,
     H: Host + Files<File = File> + Net<Listener = TcpListener, Stream = TcpStream> + RandomSource,
     I: Read + Drop + Send + 'static,
     W: Write,
@@ -65,7 +73,7 @@ fn serve_images<
     ensures refused { (AreInRange options.now → ⊥) → result ≡ Err (Refused BadSetting) }
 {
     match check_size(options) {
-        Ok(()) => serve_sized(rt, options, input, out, err),
+        Ok(()) => serve_sized::<X, H, I, W, E>(rt, options, input, out, err),
         Err(refusal) => Err(Fault::Refused(refusal)),
     }
 }
@@ -73,6 +81,7 @@ fn serve_images<
 // Serves both images under their locks, and prints what came of it.
 fn serve_sized<
     'a,
+    X: OpeningContents + Send + 'static,
     H: Host + Files<File = File> + Net<Listener = TcpListener, Stream = TcpStream> + RandomSource,
     I: Read + Drop + Send + 'static,
     W: Write,
@@ -82,7 +91,7 @@ fn serve_sized<
     ensures { OnOk result (HasServed options.now (W.contents out.old) (W.contents out.new)) }
 {
     let locks = lock_both(rt, options)?;
-    let served = serve_locked(rt, options, &locks, input, err);
+    let served = serve_locked::<X, H, I, E>(rt, options, &locks, input, err);
     drop(locks);
     served?.print(out, err)
 }
@@ -90,6 +99,7 @@ fn serve_sized<
 // Serves both images. Returns how this ended.
 fn serve_locked<
     'a,
+    X: OpeningContents + Send + 'static,
     H: Host + Files<File = File> + Net<Listener = TcpListener, Stream = TcpStream> + RandomSource,
     I: Read + Drop + Send + 'static,
     E: Write,
@@ -103,13 +113,13 @@ fn serve_locked<
     requires { AreInRange options.now }
     ensures { IfOk result (HasEnded options.now) }
 {
-    let blocks = blocks_of(rt, options)?;
+    let blocks = blocks_of(options, &locks.local)?;
     let listeners = Listeners::open(rt, options.listen, options.page_port)?;
-    match open_both(rt, options, blocks) {
+    match open_both::<H, X>(rt, options, blocks) {
         Ok((disks, syncs)) => match start_service(
             rt, options, blocks, syncs, listeners, input, err,
         ) {
-            Ok(service) => serve_sessions(rt, &service, options, disks, locks),
+            Ok(service) => serve_sessions(rt, &service, options, disks, locks, err),
             Err(fault) => Err(fault),
         },
         Err(fault) => Err(fault),
@@ -144,31 +154,51 @@ fn start_service<
     Ok(service)
 }
 
-// Runs the sessions of a server until it ends, and puts both images on stable storage.
-fn serve_sessions<'a, H: Runtime + Files<File = File>>(
+// Runs the sessions of a server until it ends, puts both images on stable storage, and compares them where that is asked for or
+// takes little time.
+fn serve_sessions<
+    'a,
+    H: Runtime + Files<File = File>,
+    X: OpeningContents + Send + 'static,
+    E: Write,
+>(
     rt: &H,
     service: &Service,
     options: &ServeOptions<'a>,
-    disks: Disks,
+    disks: Disks<FileStore<File, X>>,
     locks: &Both<ImageLock>,
+    err: &mut E,
 ) -> Result<End<'a>, Fault<'a>>
-    ensures { IfOk result (CameTo (record standard { protocol = service.now.protocol; blocks = service.now.blocks }) disks.local.disk disks.peer.disk) }
+    ensures came { IfOk result (CameTo (record standard { protocol = service.now.protocol; blocks = service.now.blocks }) options.now.first disks) }
+    ensures compares { IfOk result (λ end. is_some end.unmarked ≡ (options.now.compare || nat_le service.now.blocks 262144)) }
 {
-    let ran = run_sessions(*rt, service, options.cut_every, disks);
+    let ran = run_sessions(*rt, service, options.cut_every, options.first, disks, err);
     let unsynced = service.requests.sync_images(rt);
-    match ran {
-        Ok(last) => Ok(End {
-            totals: last.totals,
-            files: Both {
-                local: options.local,
-                peer: options.peer,
-            },
-            changed: changed_images(rt, locks, options, service.blocks),
-            torn: torn_images(&last.disks),
-            unsynced,
-        }),
-        Err(refusal) => Err(Fault::Refused(refusal)),
-    }
+    let last = ran?;
+    let SessionEnd {
+        disks,
+        parts,
+        totals,
+    } = last;
+    let mut disks = disks;
+    let unmarked = compared(
+        options.compare,
+        &mut disks,
+        &parts.marks,
+        service.blocks,
+        err,
+    )?;
+    Ok(End {
+        totals,
+        unmarked,
+        files: Both {
+            local: options.local,
+            peer: options.peer,
+        },
+        changed: changed_images(rt, locks, options, service.blocks),
+        torn: torn_images(&disks),
+        unsynced,
+    })
 }
 
 // Moves what all threads share to memory of its own.

@@ -1,21 +1,18 @@
 //! One session of a server, from its start to its settlement.
-ghost use Rattle.handover.specs.Left.{IsUnparted};
 ghost use Rattle.ruled_link.specs.Names as names;
 ghost use Rattle.serving.specs.Links.{IsNewDirection};
 ghost use Rattle.serving.specs.Sessions.{IsSession, opening};
-ghost use Rattle.settle.specs.Settled.{WasHonest};
 ghost use Rattle.std.specs.Prelude.{◌≡◌, slice_get, IfOk};
 ghost use Rattle.volume.specs.Links.{AreEndsOf};
 ghost use Rattle.volume.specs.Opening.{opening_of};
 
-use crate::session_end::{Disks, SessionEnd, settle_session};
+use crate::disks::Disks;
+use crate::session_end::{SessionEnd, settle_session};
 use crate::totals::Totals;
-use blocks::{Refusal, Settings};
+use blocks::{Refusal, Settings, Store};
 use client_threads::{Service, work};
-use image_store::{Both, ImageStore};
 use ruled_link::{RuledIn, RuledOut, ruled};
 use std::alloc::Global;
-use std::fs::File;
 use std::marker::Brand;
 use std::sync::Wait;
 use volume::{Linked, Parts, Runtime, Session};
@@ -24,16 +21,14 @@ use volume::{Linked, Parts, Runtime, Session};
 type Direction<R> = (RuledOut<R>, RuledIn<R>);
 
 /// Runs a session over these disks, does the requests of clients over it, and returns what it leaves. The refusals are
-/// `BadSetting` (15), `NoMemory` (7), and those of `Session::start`, `client_threads::work`, `Session::finish`, `settle` and
+/// `BadSetting` (15), `NoMemory` (7), and those of `Session::start`, `client_threads::work`, `Session::finish`, `confirm` and
 /// `parts_after`. If a sync of the peer's image has failed, nothing is sent to it: the link is cut after the hello.
-pub(crate) fn run_session<R: Runtime>(
+pub(crate) fn run_session<R: Runtime, D: Store + Drop + Send + 'static>(
     rt: R,
     service: &Service,
     cut_every: Option<u32>,
-    start: SessionEnd,
-) -> Result<SessionEnd, Refusal>
-    requires honest { WasHonest (opening start) }
-    requires unparted { IsUnparted (opening start) }
+    start: SessionEnd<D>,
+) -> Result<SessionEnd<D>, Refusal>
     ensures session { IfOk result (λ next. IsSession (opening start) start.totals next) }
 {
     let SessionEnd {
@@ -47,7 +42,7 @@ pub(crate) fn run_session<R: Runtime>(
     };
     match link(rt, service.alloc, parts.settings) {
         Ok((there, back)) => {
-            run_named::<Brand, R>(rt, service, cut_every, there, back, disks, parts, totals)
+            run_named::<Brand, R, D>(rt, service, cut_every, there, back, disks, parts, totals)
         }
         Err(refusal) => Err(refusal),
     }
@@ -70,33 +65,23 @@ fn link<R: Wait + Copy>(
 }
 
 // Uses the session, from its start to its end, in one function over its name, which the caller picks.
-fn run_named<L: Linked + Send + Sync + 'static, R: Runtime>(
+fn run_named<L: Linked + Send + Sync + 'static, R: Runtime, D: Store + Drop + Send + 'static>(
     rt: R,
     service: &Service,
     cut_every: Option<u32>,
     there: Direction<R>,
     back: Direction<R>,
-    disks: Disks,
+    disks: Disks<D>,
     parts: Parts,
     totals: Totals,
-) -> Result<SessionEnd, Refusal>
+) -> Result<SessionEnd<D>, Refusal>
     requires there { AreEndsOf L.link names.There there }
     requires back { AreEndsOf L.link names.Back back }
-    requires opening { L.opening ≡ opening_of parts (slice_get disks.local.disk) (slice_get disks.peer.disk) }
-    requires honest { WasHonest L.opening }
-    requires unparted { IsUnparted L.opening }
+    requires opening { L.opening ≡ opening_of parts (slice_get disks.local) (slice_get disks.peer) }
     ensures session { IfOk result (λ next. IsSession L.opening totals next) }
 {
-    let Both { local, peer } = disks;
-    match Session::<R, L, ImageStore<File>, ImageStore<File>>::start(
-        rt,
-        service.alloc,
-        there,
-        back,
-        local,
-        peer,
-        parts,
-    ) {
+    let Disks { local, peer } = disks;
+    match Session::<R, L, D, D>::start(rt, service.alloc, there, back, local, peer, parts) {
         Ok(session) => {
             let worked = work(&rt, service, session.mirror(), cut_every);
             match session.finish() {

@@ -2,45 +2,52 @@
 ghost use Rattle.std.specs.Prelude.{◌≡◌, IfOk, IsOk};
 ghost use Rattle.serving.specs.Sessions.{NodesComeTo};
 
+use crate::disks::Disks;
 use crate::totals::Totals;
 use blocks::{Refusal, Store};
 use client_threads::Service;
 use handover::parts_after;
-use image_store::{Both, ImageStore};
 use link::{FrameIn, FrameOut};
 use primary::{Primary, Receipt};
 use secondary::Secondary;
-use settle::settle;
-use std::fs::File;
+use settle::confirm;
+use std::marker::Model;
 use volume::Parts;
-
-/// The disks of both nodes.
-pub(crate) type Disks = Both<ImageStore<File>>;
 
 /// What a session leaves for the next one.
 #[derive(Drop)]
-pub(crate) struct SessionEnd {
-    pub(crate) disks: Disks,
+pub(crate) struct SessionEnd<D: Store> {
+    pub(crate) disks: Disks<D>,
     pub(crate) parts: Parts,
     pub(crate) totals: Totals,
 }
 
+impl<D: Store> Model for SessionEnd<D> {
+    ghost use Rattle.serving.specs.Sessions.{Rest};
+
+    ghost Value = { Rest };
+
+    ghost view = { λ e. record { disks = e.disks; parts = e.parts; totals = e.totals } };
+}
+
 /// Settles two nodes at rest with the receipts that their session gave, if its work was done, and returns what the next session
-/// starts from, over the disks of these nodes. The refusals are that of the work, and those of `settle` and `parts_after`.
-pub(crate) fn settle_session(
+/// starts from, over the same disks. It reads no block. The refusals are that of the work, and those of `confirm` and
+/// `parts_after`.
+pub(crate) fn settle_session<D: Store + Drop>(
     service: &Service,
     totals: Totals,
-    primary: Primary<impl FrameOut + Drop, impl FrameIn + Drop, ImageStore<File>>,
-    secondary: Secondary<impl FrameOut + Drop, impl FrameIn + Drop, ImageStore<File>>,
+    primary: Primary<impl FrameOut + Drop, impl FrameIn + Drop, D>,
+    secondary: Secondary<impl FrameOut + Drop, impl FrameIn + Drop, D>,
     worked: Result<Vec<Receipt>, Refusal>,
-) -> Result<SessionEnd, Refusal>
-    ensures disks { IfOk result (λ rest. (rest.disks.local.disk ≡ primary.disk) × (rest.disks.peer.disk ≡ secondary.disk)) }
+) -> Result<SessionEnd<D>, Refusal>
+    ensures disks { IfOk result (λ rest. (rest.disks.local ≡ primary.disk) × (rest.disks.peer ≡ secondary.disk)) }
+    ensures faithful { IfOk result (λ rest. rest.disks.local_faithful ≡ primary.faithful) }
     ensures done { IfOk result (λ _. IsOk worked) }
     ensures comes { IfOk result (λ rest. IfOk worked (λ receipts. NodesComeTo primary secondary receipts.items totals rest.totals rest.parts)) }
 {
-    let (mut primary, mut secondary) = (primary, secondary);
-    let settled = settle_and_hand_over(service, totals, &mut primary, &mut secondary, worked);
-    let disks = Both {
+    let mut primary = primary;
+    let settled = settle_and_hand_over(service, totals, &mut primary, &secondary, worked);
+    let disks = Disks {
         local: primary.into_store(),
         peer: secondary.into_store(),
     };
@@ -59,16 +66,16 @@ fn settle_and_hand_over(
     service: &Service,
     totals: Totals,
     primary: &mut Primary<impl FrameOut + Drop, impl FrameIn + Drop, impl Store + Drop>,
-    secondary: &mut Secondary<impl FrameOut + Drop, impl FrameIn + Drop, impl Store + Drop>,
+    secondary: &Secondary<impl FrameOut + Drop, impl FrameIn + Drop, impl Store + Drop>,
     worked: Result<Vec<Receipt>, Refusal>,
 ) -> Result<(Parts, Totals), Refusal>
-    ensures disks { (primary.new.disk ≡ primary.old.disk) × (secondary.new.disk ≡ secondary.old.disk) }
+    ensures same { primary.new ≡ primary.old }
     ensures done { IfOk result (λ _. IsOk worked) }
-    ensures comes { IfOk result (λ left. IfOk worked (λ receipts. NodesComeTo primary.old secondary.old receipts.items totals left.1 left.0)) }
+    ensures comes { IfOk result (λ left. IfOk worked (λ receipts. NodesComeTo primary.old secondary.now receipts.items totals left.1 left.0)) }
 {
     let receipts = worked?;
-    let settled = settle(primary, secondary, receipts.as_slice())?;
+    let confirmed = confirm(primary, secondary, receipts.as_slice())?;
     let parts = parts_after(service.alloc, primary, secondary, service.words())?;
-    let totals = totals.with_session(receipts.len(), settled, primary.marks());
+    let totals = totals.with_session(receipts.len(), confirmed, primary.marks());
     Ok((parts, totals))
 }

@@ -4,7 +4,7 @@ ghost use Rattle.serving.specs.Served.{results};
 ghost use Rattle.serving.specs.Sessions.{counted};
 
 use result_lines::Results;
-use settle::Settled;
+use settle::Confirmed;
 
 /// The results of a server's sessions.
 #[derive(Clone, Copy, Debug, PartialEq, Eq)]
@@ -13,8 +13,6 @@ pub(crate) struct Totals {
     pub(crate) completed: u64,
     /// Receipts that the settlements confirmed.
     pub(crate) confirmed: u64,
-    /// Blocks without a mark on which the disks differed, after the last session.
-    pub(crate) unmarked: u32,
     /// Blocks that were marked after the last session: the peer's image may not have them.
     pub(crate) marked: u32,
 }
@@ -24,31 +22,29 @@ impl Totals {
     pub(crate) const NOTHING: Totals = Totals {
         completed: 0,
         confirmed: 0,
-        unmarked: 0,
         marked: 0,
     };
 
-    /// Returns the results that are printed.
-    pub(crate) fn results(&self) -> Results
-        ensures { result ≡ results self.now }
+    /// Returns the results that are printed, where the disks were compared with this many unmarked differences, or not.
+    pub(crate) fn results(&self, unmarked: Option<u32>) -> Results
+        ensures { result ≡ results self.now unmarked }
     {
         Results {
             completed: self.completed,
             settled: self.confirmed,
-            unmarked: self.unmarked,
+            unmarked,
         }
     }
 
     /// Adds the results of one session, after which this many blocks are marked.
-    pub(crate) fn with_session(&self, completed: usize, settled: Settled, marked: u32) -> Totals
+    pub(crate) fn with_session(&self, completed: usize, session: Confirmed, marked: u32) -> Totals
         ensures completed { result.completed ≡ counted self.now.completed completed }
-        ensures confirmed { result.confirmed ≡ counted self.now.confirmed settled.confirmed }
-        ensures last { (result.unmarked ≡ settled.unmarked) × (result.marked ≡ marked) }
+        ensures confirmed { result.confirmed ≡ counted self.now.confirmed session.confirmed }
+        ensures last { result.marked ≡ marked }
     {
         Totals {
             completed: self.completed.saturating_add(completed as u64),
-            confirmed: self.confirmed.saturating_add(settled.confirmed),
-            unmarked: settled.unmarked,
+            confirmed: self.confirmed.saturating_add(session.confirmed),
             marked,
         }
     }

@@ -1,6 +1,6 @@
 //! Tests of a client over a socket. Its bytes and the server's are written out by hand from the protocol document.
 use blocks::Protocol;
-use serving::{Host, ServeOptions, serve};
+use serving::{AnyContents, FirstStart, Host, ServeOptions, serve};
 use std::alloc::{AllocError, Global};
 use std::fs::File;
 use std::io::{Read, Write};
@@ -273,6 +273,8 @@ pub(crate) fn options_of(
         listen,
         page_port: Some(page.port()),
         cut_every: None,
+        first: FirstStart::Compare,
+        compare: false,
     }
 }
 
@@ -290,7 +292,7 @@ pub(crate) fn serve_until<
         is_given: false,
     };
     let mut err = Vec::new(rt.alloc());
-    serve(&rt, options, order, out, &mut err).code()
+    serve::<AnyContents, _, _, _, _>(&rt, options, order, out, &mut err).code()
 }
 
 /// Writes an image of zeros for a client of the tests.

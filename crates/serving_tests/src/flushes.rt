@@ -3,10 +3,11 @@ use crate::page::resync_lines;
 use blocks::{BLOCK_BYTES, Protocol, Refusal};
 use bytes::Bytes;
 use halves::{Begun, Device};
-use image_store::{Both, ImageStore};
+use image_store::{Both, open_image};
 use nbd::{Command, Request};
 use primary::Receipt;
 use requests::Requests;
+use serving::AnyContents;
 use status_lines::{PrimaryLine, SecondaryLine};
 use std::alloc::Global;
 use std::fs::{self, File, Files, OpenFile};
@@ -134,8 +135,8 @@ pub(crate) fn requests_under(
     image: &str,
 ) -> Requests {
     fs::write(rt, image, &[0; 4096]).expect(rt, "a file");
-    let (_, local) = ImageStore::open(rt, image, 1).expect(rt, "an image");
-    let (_, peer) = ImageStore::open(rt, image, 1).expect(rt, "an image");
+    let (_, local) = open_image::<_, AnyContents>(rt, image, 1, true).expect(rt, "an image");
+    let (_, peer) = open_image::<_, AnyContents>(rt, image, 1, false).expect(rt, "an image");
     fs::remove_file(rt, image).expect(rt, "a file");
     Requests::new(rt.alloc(), protocol, Both { local, peer })
 }

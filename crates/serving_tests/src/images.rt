@@ -1,6 +1,8 @@
 //! Tests of a disk over an image file, and of its lock, by whole calls over files of their own. No contract says what a file holds.
-use blocks::{BLOCK_BYTES, Block, MemStore, Range, Refusal, Store, StoreFault};
-use image_store::{ImageLock, ImageStore, OpenFault};
+use blocks::{BLOCK_BYTES, Block, Range, Refusal, Store, StoreFault};
+use file_store::FileStore;
+use image_store::{ImageLock, OpenFault, SyncHandle, open_image};
+use serving::AnyContents;
 use std::alloc::{AllocError, Global};
 use std::cell::Cell;
 use std::fs::{File, Files, OpenFile};
@@ -17,6 +19,15 @@ fn image(alloc: Global, blocks: u8, length: usize) -> Result<Vec<u8>, AllocError
     }
     bytes.resize(length, 0)?;
     Ok(bytes)
+}
+
+// Opens an image of this many blocks as a disk.
+fn open<H: Files<File = File>>(
+    rt: &H,
+    path: &str,
+    blocks: u32,
+) -> Result<(FileStore<File, AnyContents>, SyncHandle<File>), OpenFault> {
+    open_image::<H, AnyContents>(rt, path, blocks, true)
 }
 
 // Makes a file of such an image.
@@ -36,7 +47,7 @@ fn is_image(rt: &(impl Files + AllocGlobal), path: &str, fills: &[u8]) -> io::Re
 }
 
 // Returns the byte that fills the block, if there is such a block, filled with one byte.
-fn fill_of<F: FileExt>(store: &mut ImageStore<F>, block: usize) -> Option<u8> {
+fn fill_of<F: FileExt>(store: &mut FileStore<F, AnyContents>, block: usize) -> Option<u8> {
     let block = block as u64;
     if block >= u64::from(store.blocks()) {
         return None;
@@ -48,7 +59,7 @@ fn fill_of<F: FileExt>(store: &mut ImageStore<F>, block: usize) -> Option<u8> {
 }
 
 // Returns whether the store has one block for each of these bytes, filled with it.
-fn is_held<F: FileExt>(store: &mut ImageStore<F>, fills: &[u8]) -> bool {
+fn is_held<F: FileExt>(store: &mut FileStore<F, AnyContents>, fills: &[u8]) -> bool {
     let mut is_alike = store.blocks() as usize == fills.len();
     for (block, fill) in fills.iter().enumerate() {
         is_alike &= fill_of(store, block) == Some(*fill);
@@ -58,7 +69,7 @@ fn is_held<F: FileExt>(store: &mut ImageStore<F>, fills: &[u8]) -> bool {
 
 // Writes two blocks from this one on, filled with these bytes.
 fn put_two<F: FileExt>(
-    store: &mut ImageStore<F>,
+    store: &mut FileStore<F, AnyContents>,
     first: u64,
     fills: [u8; 2],
 ) -> Result<Result<(), StoreFault>, Refusal> {
@@ -71,7 +82,7 @@ fn put_two<F: FileExt>(
 // Checks the result of a write of two blocks.
 fn puts<F: FileExt>(
     rt: &impl Abort,
-    store: &mut ImageStore<F>,
+    store: &mut FileStore<F, AnyContents>,
     (first, fills): (u64, [u8; 2]),
     wanted: Result<(), StoreFault>,
 ) {
@@ -82,13 +93,13 @@ fn puts<F: FileExt>(
 #[test]
 fn a_write_is_in_the_file(rt: HostRuntime) {
     make_image(&rt, "written", 4, 16_384);
-    let (mut store, sync) = ImageStore::open(&rt, "written", 4).expect(&rt, "a store");
+    let (mut store, sync) = open(&rt, "written", 4).expect(&rt, "a store");
     assert!(rt; is_held(&mut store, &[1, 2, 3, 4]));
     puts(&rt, &mut store, (1, [170, 187]), Ok(()));
     assert!(rt; is_held(&mut store, &[1, 170, 187, 4]));
     assert!(rt; is_image(&rt, "written", &[1, 170, 187, 4]).expect(&rt, "an image"));
     sync.sync().expect(&rt, "a flush");
-    let (mut again, _) = ImageStore::open(&rt, "written", 4).expect(&rt, "a store");
+    let (mut again, _) = open(&rt, "written", 4).expect(&rt, "a store");
     assert!(rt; is_held(&mut again, &[1, 170, 187, 4]));
     fs::remove_file(&rt, "written").expect(&rt, "a file");
 }
@@ -97,7 +108,7 @@ fn a_write_is_in_the_file(rt: HostRuntime) {
 fn refuses(rt: &(impl Abort + Files<File = File> + AllocGlobal), blocks: u8, length: usize) {
     make_image(rt, "other_length", blocks, length);
     let length = length as u64;
-    let fault = match ImageStore::open(rt, "other_length", 5) {
+    let fault = match open(rt, "other_length", 5) {
         Ok(_) => None,
         Err(fault) => Some(fault),
     };
@@ -127,7 +138,7 @@ fn another_length_is_refused(rt: HostRuntime) {
 // A file that does not exist is not created.
 #[test]
 fn a_missing_file_is_unread(rt: HostRuntime) {
-    let fault = match ImageStore::open(&rt, "no_image", 4) {
+    let fault = match open(&rt, "no_image", 4) {
         Ok(_) => None,
         Err(fault) => Some(fault),
     };
@@ -158,7 +169,7 @@ fn an_image_is_locked_once(rt: HostRuntime) {
             "{path}"
         );
     }
-    assert!(rt; ImageStore::open(&rt, "locked", 1).is_ok());
+    assert!(rt; open(&rt, "locked", 1).is_ok());
     assert!(rt; lock.is_unchanged(&rt, "locked_link", 4096));
     assert!(rt; !lock.is_unchanged(&rt, "locked_link", 8192));
     drop(lock);
@@ -195,7 +206,7 @@ fn make_large(rt: &(impl Abort + Files<File = File>)) {
 #[test]
 fn a_large_image_opens(rt: HostRuntime) {
     make_large(&rt);
-    let (mut store, _) = ImageStore::open(&rt, "large", 4096).expect(&rt, "a store");
+    let (mut store, _) = open(&rt, "large", 4096).expect(&rt, "a store");
     puts(&rt, &mut store, (4094, [5, 6]), Ok(()));
     for (block, fill) in [(0, 0), (4093, 0), (4094, 5), (4095, 6)] {
         assert_eq!(rt; fill_of(&mut store, block), Some(fill));
@@ -209,7 +220,7 @@ fn a_large_image_opens(rt: HostRuntime) {
 #[test]
 fn a_flush_needs_no_store(rt: HostRuntime) {
     make_image(&rt, "flushed", 4, 16_384);
-    let (store, sync) = ImageStore::open(&rt, "flushed", 4).expect(&rt, "a store");
+    let (store, sync) = open(&rt, "flushed", 4).expect(&rt, "a store");
     let sync = Arc::new(rt.alloc(), sync).expect(&rt, "memory");
     let theirs = Arc::try_clone(&sync).expect(&rt, "a second handle");
     let child = thread::spawn(&rt, move || {
@@ -257,17 +268,16 @@ fn failing_store(
     rt: &(impl Abort + Files<File = File> + AllocGlobal),
     path: &str,
     passes_from: u32,
-) -> ImageStore<FailingFile> {
+) -> FileStore<FailingFile, AnyContents> {
     make_image(rt, path, 0, 16_384);
-    let memory = MemStore::zeroed(rt.alloc(), 4).expect(rt, "memory");
-    let file = fs::OpenOptions::new().write(true).open(rt, path);
+    let file = fs::OpenOptions::new().read(true).write(true).open(rt, path);
     let file = FailingFile {
         file: file.expect(rt, "a file"),
         writes: Cell::new(0),
         short_write: 1,
         passes_from,
     };
-    ImageStore::over(file, memory)
+    FileStore::over(file, 4, true)
 }
 
 // Checks that the file at this path has one block for each of these bytes, filled with it, or that it does not if
@@ -277,34 +287,53 @@ fn check_image(rt: &(impl Abort + Files + AllocGlobal), path: &str, fills: &[u8]
     assert_eq!(rt; is_found, is_wanted);
 }
 
-// Checks that a write that fails in the middle does not change memory, that the file has the old bytes or the store tells of
-// it, and that the next write changes both.
-fn fails_and_is_mended(
+// Checks that the next write mends what a failed one left, and removes the file.
+fn is_mended(
     rt: &(impl Abort + Files<File = File> + AllocGlobal),
     path: &str,
-    passes_from: u32,
-    is_taken_back: bool,
+    mut store: FileStore<FailingFile, AnyContents>,
 ) {
-    let mut store = failing_store(rt, path, passes_from);
-    puts(rt, &mut store, (0, [7, 8]), Ok(()));
-    puts(rt, &mut store, (1, [170, 187]), Err(StoreFault));
-    assert!(rt; is_held(&mut store, &[7, 8, 0, 0]));
-    check_image(rt, path, &[7, 8, 0, 0], is_taken_back);
-    assert_eq!(rt; store.is_torn(), !is_taken_back);
     puts(rt, &mut store, (1, [170, 187]), Ok(()));
     assert!(rt; is_held(&mut store, &[7, 170, 187, 0]));
     check_image(rt, path, &[7, 170, 187, 0], true);
     fs::remove_file(rt, path).expect(rt, "a file");
 }
 
-// A write that fails in the middle changes neither memory nor the file, if the file takes the old bytes back.
+// A write that fails in the middle is tried once more, block by block: what the file then takes, it has.
 #[test]
-fn a_failed_write_is_taken_back(rt: HostRuntime) {
-    fails_and_is_mended(&rt, "taken_back", 3, true);
+fn a_failed_write_is_tried_again(rt: HostRuntime) {
+    let mut store = failing_store(&rt, "tried_again", 3);
+    puts(&rt, &mut store, (0, [7, 8]), Ok(()));
+    puts(&rt, &mut store, (1, [170, 187]), Err(StoreFault));
+    assert!(rt; is_held(&mut store, &[7, 170, 187, 0]));
+    assert!(rt; !store.is_torn());
+    is_mended(&rt, "tried_again", store);
 }
 
-// If the file does not take the old bytes back either, memory has them, and the next write mends the file.
+// If the file does not take its blocks then either, the store tells that one of them is partly new. The other one is as it was.
 #[test]
-fn a_torn_file_is_mended_by_a_write(rt: HostRuntime) {
-    fails_and_is_mended(&rt, "torn", 5, false);
+fn a_torn_block_is_told(rt: HostRuntime) {
+    let mut store = failing_store(&rt, "torn", 5);
+    puts(&rt, &mut store, (0, [7, 8]), Ok(()));
+    puts(&rt, &mut store, (1, [170, 187]), Err(StoreFault));
+    assert_eq!(rt; fill_of(&mut store, 0), Some(7));
+    assert_eq!(rt; fill_of(&mut store, 1), None);
+    assert_eq!(rt; fill_of(&mut store, 2), Some(0));
+    assert!(rt; store.is_torn());
+    is_mended(&rt, "torn", store);
+}
+
+// A write that the file refuses at once leaves it as it was, and it is not torn.
+#[test]
+fn a_refused_write_changes_nothing(rt: HostRuntime) {
+    make_image(&rt, "refused", 4, 16_384);
+    let file = fs::OpenOptions::new()
+        .read(true)
+        .open(&rt, "refused")
+        .expect(&rt, "a file");
+    let mut store = FileStore::<File, AnyContents>::over(file, 4, true);
+    puts(&rt, &mut store, (1, [170, 187]), Err(StoreFault));
+    assert!(rt; is_held(&mut store, &[1, 2, 3, 4]));
+    assert!(rt; !store.is_torn());
+    fs::remove_file(&rt, "refused").expect(&rt, "a file");
 }

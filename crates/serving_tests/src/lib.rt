@@ -7,6 +7,8 @@ mod clients;
 #[cfg(test)]
 mod endings;
 #[cfg(test)]
+mod first_starts;
+#[cfg(test)]
 mod flushes;
 #[cfg(test)]
 mod held_flush;

@@ -1,7 +1,7 @@
 -- A primary's calls keep all its connections over one link.
 use Rattle.std.proofs.Common.{ℕ, zero, suc, ◌≡◌, ◌<◌, ◌≤◌, ◌-◌, inl, inr, Bool, true, false, not, List, [], ◌∷◌, ◌++◌, length, take, Option}
 use Rattle.std.proofs.Common.{Some, None, slice_get, Ok, refl, sym, ◌∙◌, ap, subst, arith}
-use Rattle.std.specs.Prelude.{unwrap_or, Result, Err, IfOk, IfSome, OnErr, is_some}
+use Rattle.std.specs.Prelude.{unwrap_or, Result, Err, IfOk, IfSome, IsTrue, OnErr, is_some}
 use Rattle.std.proofs.lemmas.List.{length-append}
 use Rattle.std.proofs.lemmas.List.Elements.{All-append, All-cons, All-nil}
 use Rattle.std.proofs.lemmas.Bool.{cases_lt}
@@ -86,7 +86,7 @@ stays-after (Sends room out_of_memory) none h reached =
     tested-keeps (Stays h) h (step.send_tests h room out_of_memory) (λ _. step.succeeding (step.sending h) (with_primary_connection pushing h)) (stays-self h)
     (λ passed. stays-follows h (with_primary_connection pushing h) (record { connections = length-change pushing h.connections; settings = refl }))
 stays-after (Takes frame out_of_memory) none h reached = stays-takes h reached frame out_of_memory
-stays-after (Resyncs out_of_memory) none h reached = stays-keeps h _ _ (resyncs-keeps out_of_memory h)
+stays-after (Resyncs read out_of_memory) none h reached = stays-keeps h _ _ (resyncs-keeps read out_of_memory h).2
 stays-after (FailsResync out_of_memory) none h reached = tested-keeps (Stays h) h (step.resync_tests h out_of_memory) (λ _. (reply.Refused ReadFault, h))
     (stays-self h)
     (λ passed. stays-self h)
@@ -380,6 +380,32 @@ first-over sync loss v w h o i out inn none has steps out_there in_there =
     never-open : (number : ℕ) → primary_connection_at h number ≡ no_primary_connection h.tuple
     never-open zero = refl
     never-open (suc k) = ap (λ (l : List PrimaryConnection). unwrap_or (slice_get l k) (no_primary_connection h.tuple)) none
+
+-- A read changes no more than whether the disk is faithful.
+pub has-read : (v w : PrimaryView) (faults : ℕ) (steady faithful : Bool) → w ≡ record v { faults = faults; steady = steady; faithful = faithful }
+    → (IsTrue w.faithful → IsTrue v.faithful) → (h : PrimaryHistory) → PrimaryHas v h → PrimaryHas w h
+has-read v w faults steady faithful is falls h has = subst (λ (x : PrimaryView). PrimaryHas x h) (sym is) (record {
+  has = record {
+    leaves = record {
+      core = has.has.leaves.core;
+      disk = has.has.leaves.disk;
+      pushed = has.has.leaves.pushed;
+      taken = has.has.leaves.taken;
+      faithful = λ true. has.has.leaves.faithful (falls (subst (λ (x : PrimaryView). IsTrue x.faithful) (sym is) true));
+    };
+    reached = has.has.reached;
+  };
+  over = record { traffic = has.over.traffic; opened = has.over.opened; ended = has.over.ended };
+})
+
+pub had-read : {o : Option Opening} (v w : PrimaryView) (faults : ℕ) (steady faithful : Bool)
+    → w ≡ record v { faults = faults; steady = steady; faithful = faithful } → (IsTrue w.faithful → IsTrue v.faithful)
+    → PrimaryIsHad o v → PrimaryIsHad o w
+had-read v w faults steady faithful is falls had = record {
+  history = had.history;
+  has = has-read v w faults steady faithful is falls had.history had.has;
+  began = had.began;
+}
 
 -- a node of whose beginning nothing is known
 pub forget : {o : Option Opening} (v : PrimaryView) → PrimaryIsHad o v → PrimaryIsHad None v

@@ -1,5 +1,5 @@
 //! The primary under its lock.
-ghost use Rattle.std.specs.Prelude.{◌≡◌, ◌<◌, ◌≤◌, ◌*◌, ◌⊎◌, true, false, None, Some, Err, if◌then◌else◌, slice_get, unwrap_or, vec_len, IfOk, IfErr, IfSome, OnOk, OnErr};
+ghost use Rattle.std.specs.Prelude.{◌≡◌, ◌<◌, ◌≤◌, ◌*◌, ◌⊎◌, true, false, IsTrue, None, Some, Err, if◌then◌else◌, slice_get, unwrap_or, vec_len, IfOk, IfErr, IfSome, OnOk, OnErr};
 ghost use Rattle.blocks.specs.declared.outcome.Reply.{Reply};
 ghost use Rattle.blocks.specs.declared.outcome.Reply.TheVariants as reply;
 ghost use Rattle.blocks.specs.declared.outcome.What.TheVariants as what;
@@ -19,6 +19,7 @@ ghost use Rattle.session_nodes.specs.Primaries.{HasAccepted, HasHeld, IsPrimaryS
 ghost use Rattle.session_nodes.specs.Queries.{is_quiet, released_to, sent_items};
 
 use crate::Beginning;
+use bitmap::Bitmap;
 use blocks::{ConnectionWords, Done, Refusal, Settings, Store, Tuple};
 use bytes::Bytes;
 use link::{FrameIn, FrameOut};
@@ -50,24 +51,24 @@ impl<B: Beginning, O: FrameOut + Drop, I: FrameIn + Drop, S: Store + Drop> Model
 impl<B: Beginning, O: FrameOut + Drop, I: FrameIn + Drop, S: Store + Drop> Local<B, O, I, S> {
     /// Creates a primary over its disk, and opens it over unused ends of a link.
     ///
-    /// `BadSetting` (15) and `NoMemory` (7) come as for `Primary::new`, `UsedIdentifier` (33) as for `Primary::open`.
+    /// `BadSetting` (15) and `NoMemory` (7) come as for `Primary::with_bitmap`, `UsedIdentifier` (33) as for `Primary::open`.
     pub fn open(
         alloc: Global,
         settings: Settings,
         store: S,
         tuple: Tuple,
-        marks: Vec<bool>,
+        marks: Bitmap,
         link: (O, I),
         words: ConnectionWords,
     ) -> Result<Local<B, O, I, S>, Refusal>
         requires outward { IsNewOut (O.state link.0) }
         requires inward { IsNewIn (I.state link.1) }
-        requires began { IfSome B.opening (λ opening. primary_opening settings (slice_get (S.contents store)) tuple (λ block. unwrap_or (slice_get marks.items block) false)
+        requires began { IfSome B.opening (λ opening. primary_opening settings (slice_get (S.contents store)) tuple (λ block. unwrap_or (slice_get marks block) false)
             ≡ primary_at opening) }
         ensures opened { IfOk result (λ n. PrimaryHas n (primary_after (Opens words.sync words.loss false)
-            (primary_opening settings (slice_get (S.contents store)) tuple (λ block. unwrap_or (slice_get marks.items block) false)))) }
+            (primary_opening settings (slice_get (S.contents store)) tuple (λ block. unwrap_or (slice_get marks block) false)))) }
     {
-        let mut node = Primary::new(alloc, settings, store, tuple, marks)?;
+        let mut node = Primary::with_bitmap(alloc, settings, store, tuple, marks)?;
         let (outward, inward) = link;
         match node.open(outward, inward, words.sync, words.loss) {
             Ok(()) => Ok(Local {
@@ -100,8 +101,10 @@ impl<B: Beginning, O: FrameOut + Drop, I: FrameIn + Drop, S: Store + Drop> Local
 
     /// Reads blocks of the local disk. The refusals are those of `Primary::read`.
     pub fn read(&mut self, first: u64, count: u64) -> Result<Vec<u8>, Refusal>
-        ensures read { IfOk result (λ bytes. (h : PrimaryHistory) → PrimaryHas self.old h → IsRead (local_map h) first count bytes.items) }
-        ensures held { IfOk result (λ bytes. HasHeld B.opening first count bytes.items) }
+        ensures read { IfOk result (λ bytes. IsTrue self.new.faithful → (h : PrimaryHistory) → PrimaryHas self.old h → IsRead (local_map h) first count bytes.items) }
+        ensures held { IfOk result (λ bytes. IsTrue self.new.faithful → HasHeld B.opening first count bytes.items) }
+        ensures falls { IsTrue self.new.faithful → IsTrue self.old.faithful }
+        ensures known { ((store : S) → IsTrue (S.faithful store)) → IsTrue self.new.faithful }
         ensures within { OnOk result (is_range self.old.core.settings first count ≡ true) }
         ensures length { IfOk result (λ bytes. vec_len bytes ≡ count * 4096) }
         ensures refused { IfErr result (λ e. ((e ≡ BadRange) × (is_range self.old.core.settings first count ≡ false))

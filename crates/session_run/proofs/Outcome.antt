@@ -1,7 +1,7 @@
 -- What a settlement says of the numbers of its outcome.
 use Rattle.std.proofs.Common.{ℕ, ◌≡◌, ◌≤◌, ◌∙◌, Bool, true, false, List, Option, Some, None, Result, Ok, Err, slice_get, ap, subst, arith}
 use Rattle.std.proofs.Common.{Vec, Global, sym}
-use Rattle.std.specs.Prelude.{vec_len, IfOk, IsOk}
+use Rattle.std.specs.Prelude.{vec_len, IfOk, IsOk, IsTrue}
 use Rattle.blocks.specs.declared.refusal.Refusal.{Refusal}
 use Rattle.blocks.specs.SettingsRange.{standard}
 use Rattle.blocks.specs.declared.tuple.Tuple.{Tuple}
@@ -56,7 +56,7 @@ pub outcome-of : (options : RunOptions) (o : Opening) (result : Result Report Re
     → IfOk result (λ report. IfOk worked (λ receipts. IfOk ended (λ nodes. IsNumber (λ n. n.unmarked) nodes.0 nodes.1 receipts.items report.unmarked)))
     → IfOk result (λ report. IfOk worked (λ receipts. IfOk ended (λ nodes. nodes.1.core.number ≤ nodes.0.core.connections
     → HasSettled nodes.0 nodes.1 receipts.items report.confirmed report.unmarked)))
-    → IfOk result (λ report. IfOk ended (λ nodes. (report.disks.local ≡ nodes.0.disk) × (report.disks.peer ≡ nodes.1.disk)))
+    → IfOk result (λ report. IfOk ended (λ nodes. (report.disks.local ≡ nodes.0.disk) × (report.disks.peer ≡ nodes.1.disk) × IsTrue nodes.0.faithful))
     → IfOk ended (λ nodes. PrimaryIsHad (Some o) nodes.0 × SecondaryIsHad (Some o) nodes.1)
     → IfOk ended (λ nodes. nodes.1.core.number ≤ nodes.0.core.connections) → IfOk result (IsOutcome options o)
 outcome-of options o (Err refusal) worked ended honest unparted done planned count confirmed unmarked settles disks had numbered = tt
@@ -82,6 +82,7 @@ outcome-of options o (Ok report) (Ok receipts) (Ok nodes) honest unparted done p
           let settled = settles numbered (primary_run p.began.0 (primary_at o)) (secondary_run s.began.0 (secondary_at o)) here.has there.has joined were in
           subst (Settles (primary_run p.began.0 (primary_at o)) (secondary_run s.began.0 (secondary_at o)) receipts.items) settled.1.0.exact settled.1.0;
       order = λ joined none. keeps-order _ _ here.has.reached there.has.reached were joined (record {
+        faithful = here.has.leaves.faithful disks.2;
         local = none;
         opening = λ same. ap (λ (t : Tuple). t.bitmap) (kept-opening-primary o p.began.0).tuple ∙ unparted;
       });
@@ -98,7 +99,7 @@ pub linked-of : (options : RunOptions) (o : Opening) (result : Result Report Ref
     → IfOk result (λ report. IfOk worked (λ receipts. IfOk ended (λ nodes. IsNumber (λ n. n.unmarked) nodes.0 nodes.1 receipts.items report.unmarked)))
     → IfOk result (λ report. IfOk worked (λ receipts. IfOk ended (λ nodes. nodes.1.core.number ≤ nodes.0.core.connections
     → HasSettled nodes.0 nodes.1 receipts.items report.confirmed report.unmarked)))
-    → IfOk result (λ report. IfOk ended (λ nodes. (report.disks.local ≡ nodes.0.disk) × (report.disks.peer ≡ nodes.1.disk)))
+    → IfOk result (λ report. IfOk ended (λ nodes. (report.disks.local ≡ nodes.0.disk) × (report.disks.peer ≡ nodes.1.disk) × IsTrue nodes.0.faithful))
     → IfOk ended (λ nodes. PrimaryIsHad (Some o) nodes.0 × SecondaryIsHad (Some o) nodes.1)
     → IfOk ended (λ nodes. nodes.1.core.number ≤ nodes.0.core.connections)
     → IfOk ended (λ nodes. (p : PrimaryHistory) (s : SecondaryHistory) → PrimaryHas nodes.0 p → SecondaryHas nodes.1 s → IsJoined p s)

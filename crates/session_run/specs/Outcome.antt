@@ -100,4 +100,4 @@ pub record HasRun (options : RunOptions) (before after : Option (List ℕ)) : Ty
   pub run : IsRun options local_image peer_image report
   pub completed : report.completed ≡ options.writers * options.writes
   pub unmarked : report.unmarked ≡ 0
-  pub printed : Appends before after (results_text (record { completed = options.writers * options.writes; settled = report.confirmed; unmarked = 0 }))
+  pub printed : Appends before after (results_text (record { completed = options.writers * options.writes; settled = report.confirmed; unmarked = Some 0 }))

@@ -6,6 +6,7 @@ ghost use Rattle.session_run.specs.Outcome.{IsOpening};
 ghost use Rattle.settle.specs.Settled.{WasHonest};
 ghost use Rattle.volume.specs.Opening.{opening_of};
 
+use bitmap::Bitmap;
 use blocks::{MemStore, Refusal, Tuple};
 use image_store::Both;
 use options::RunOptions;
@@ -43,7 +44,7 @@ pub(crate) fn parts(
         } else {
             unknown
         },
-        marks: Vec::from_elem(alloc, false, settings.blocks as usize)?,
+        marks: Bitmap::unmarked(alloc, u64::from(settings.blocks))?,
         sync: 2,
         loss: 3,
         is_cut: false,

@@ -1,5 +1,5 @@
 //! The outcome of a session.
-ghost use Rattle.std.specs.Prelude.{◌≡◌, ◌≤◌, ◌*◌, ◌↔◌, vec_len, IfOk, IsOk};
+ghost use Rattle.std.specs.Prelude.{◌≡◌, ◌≤◌, ◌*◌, ◌↔◌, vec_len, IfOk, IsOk, IsTrue, Some};
 ghost use Rattle.session_run.specs.Outcome.{HasSettled, IsNumber};
 
 use crate::fault::Fault;
@@ -32,12 +32,12 @@ pub(crate) struct Report {
 impl Report {
     /// Returns the results that are printed.
     pub(crate) fn results(&self) -> Results
-        ensures { result ≡ record { completed = self.now.completed; settled = self.now.confirmed; unmarked = self.now.unmarked } }
+        ensures { result ≡ record { completed = self.now.completed; settled = self.now.confirmed; unmarked = Some self.now.unmarked } }
     {
         Results {
             completed: self.completed,
             settled: self.confirmed,
-            unmarked: self.unmarked,
+            unmarked: Some(self.unmarked),
         }
     }
 
@@ -72,7 +72,7 @@ pub(crate) fn conclude<
     ensures unmarked { IfOk result (λ report. IfOk worked (λ receipts. IfOk ended (λ nodes. IsNumber (λ n. n.unmarked) nodes.0 nodes.1 receipts.items report.unmarked))) }
     ensures settles { IfOk result (λ report. IfOk worked (λ receipts. IfOk ended (λ nodes. nodes.1.core.number ≤ nodes.0.core.connections
         → HasSettled nodes.0 nodes.1 receipts.items report.confirmed report.unmarked))) }
-    ensures disks { IfOk result (λ report. IfOk ended (λ nodes. (report.disks.local ≡ nodes.0.disk) × (report.disks.peer ≡ nodes.1.disk))) }
+    ensures disks { IfOk result (λ report. IfOk ended (λ nodes. (report.disks.local ≡ nodes.0.disk) × (report.disks.peer ≡ nodes.1.disk) × IsTrue nodes.0.faithful)) }
 {
     let (mut primary, mut secondary) = match ended {
         Ok(nodes) => nodes,
@@ -106,10 +106,14 @@ fn settled_by<O: FrameOut + Drop, I: FrameIn + Drop, P: FrameOut + Drop, J: Fram
     ensures settles { IfOk result (λ settled. IfOk worked (λ receipts. secondary.old.core.number ≤ primary.old.core.connections
         → HasSettled primary.old secondary.old receipts.items settled.1.confirmed settled.1.unmarked)) }
     ensures worked { IfOk result (λ _. IsOk worked) }
+    ensures faithful { IfOk result (λ _. IsTrue primary.old.faithful) }
     ensures disks { (primary.new.disk ≡ primary.old.disk) × (secondary.new.disk ≡ secondary.old.disk) }
 {
     let receipts = worked?;
     let settled = settle(primary, secondary, receipts.as_slice())?;
+    // Disks in memory are faithful.
+    let _ = primary.store();
+    let _ = secondary.store();
     Ok((receipts.len() as u64, settled))
 }
 

@@ -13,7 +13,7 @@ use crate::report::Report;
 use crate::saving::save;
 use crate::session::run_session;
 use crate::sockets::run_over;
-use blocks::Refusal;
+use blocks::{MAX_BLOCKS, Refusal};
 use image_store::Both;
 use numbers::SessionStatus;
 use options::{Images, Path, RunOptions};
@@ -69,6 +69,7 @@ fn run_images<
     ensures refused { (IsInRange (record standard { protocol = options.now.protocol; blocks = options.now.blocks }) → ⊥) → result ≡ Err (Refused BadSetting) }
 {
     match options.settings().check() {
+        Ok(()) if options.blocks > MAX_BLOCKS => Err(Fault::Refused(Refusal::BadSetting)),
         Ok(()) => run_loaded(rt, options, images, out, err),
         Err(refusal) => Err(Fault::Refused(refusal)),
     }

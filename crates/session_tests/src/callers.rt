@@ -17,6 +17,9 @@ pub(crate) const WRITERS: usize = 4;
 
 pub(crate) const WRITES: u64 = 50;
 
+/// How many writes a writer of two blocks at a time makes. No disk is armed to fail the last one of a writer.
+pub(crate) const WIDE_WRITES: u64 = 20;
+
 /// How often a caller that waits looks again.
 const LOOKS: u32 = 1_000_000;
 
@@ -26,6 +29,8 @@ pub(crate) enum Work {
     /// Four writers write fifty times each, to two blocks of their own, while the link is cut and reconnected `cuts`
     /// times.
     Writers { cuts: u32 },
+    /// Four writers write twenty times each, both of their two blocks at a time.
+    WideWriters,
     /// Four writers all write to the same two blocks.
     SharedBlocks,
     /// One caller writes a thousand times, and cuts and reconnects the link after every tenth write.
@@ -43,6 +48,8 @@ pub(crate) enum Work {
     OneConnection,
     /// One caller asks for what a session refuses, and complains of any other reply.
     Refused,
+    /// The thread that has the session makes the session's own calls.
+    OwnCalls,
 }
 
 /// Does the work. Returns what the callers have then.
@@ -55,6 +62,7 @@ pub(crate) fn carry_out<R: Abort + Runtime>(
 ) -> Answers {
     match work {
         Work::Writers { cuts } => all_writers(rt, alloc, mirror, cuts, false),
+        Work::WideWriters => wide_writers(rt, alloc, mirror),
         Work::SharedBlocks => all_writers(rt, alloc, mirror, 0, true),
         Work::CutEveryTenth => cut_every_tenth(rt, alloc, mirror),
         Work::Gate { receipt_opens } => gate(rt, alloc, mirror, signals, receipt_opens),
@@ -63,11 +71,13 @@ pub(crate) fn carry_out<R: Abort + Runtime>(
         Work::OneWrite => one_write(rt, alloc, mirror),
         Work::OneConnection => one_connection(alloc, mirror),
         Work::Refused => refused(rt, alloc, mirror),
+        // These are no calls of the mirror.
+        Work::OwnCalls => nothing(alloc),
     }
 }
 
-// Returns no answers.
-fn nothing(alloc: Global) -> Answers {
+/// Returns no answers.
+pub(crate) fn nothing(alloc: Global) -> Answers {
     Answers {
         receipts: Vec::new(alloc),
         local_faults: 0,
@@ -75,8 +85,8 @@ fn nothing(alloc: Global) -> Answers {
     }
 }
 
-// Records the answer to a write.
-fn note(rt: &impl Abort, answers: &mut Answers, answer: Result<Receipt, Refusal>) {
+/// Records the answer to a write.
+pub(crate) fn note(rt: &impl Abort, answers: &mut Answers, answer: Result<Receipt, Refusal>) {
     match answer {
         Ok(receipt) => answers.receipts.push(receipt).expect(rt, "memory"),
         Err(Refusal::LocalFault) => {
@@ -123,11 +133,58 @@ fn all_writers<R: Abort + Runtime>(
         },
     )
     .expect(rt, "memory");
+    all_of(rt, alloc, each)
+}
+
+// Runs four writers of two blocks at a time, each in a thread of its own.
+fn wide_writers<R: Abort + Runtime>(
+    rt: &R,
+    alloc: Global,
+    mirror: &(impl Device + Sync),
+) -> Answers {
+    let each = thread::map_indices(
+        rt,
+        alloc,
+        WRITERS,
+        &|writer| write_both(rt, alloc, mirror, writer as u64),
+    )
+    .expect(rt, "memory");
+    all_of(rt, alloc, each)
+}
+
+// Returns the answers of all callers.
+fn all_of(rt: &impl Abort, alloc: Global, each: Vec<Answers>) -> Answers {
     let mut all = nothing(alloc);
     for mut answers in each {
         add(rt, &mut all, &mut answers);
     }
     all
+}
+
+// Makes the writes of one writer, each of both of its blocks, and reads back the last of them.
+fn write_both(rt: &impl Abort, alloc: Global, mirror: &impl Device, writer: u64) -> Answers {
+    let mut answers = nothing(alloc);
+    let (first, base) = (writer % 4 * 2, writer % 4 * 50);
+    for turn in 1..=WIDE_WRITES {
+        let answer = write_two(alloc, mirror, first, (base + turn) as u8);
+        note(rt, &mut answers, answer);
+    }
+    let last = (base + WIDE_WRITES) as u8;
+    if !holds(mirror, first, last) || !holds(mirror, first + 1, last) {
+        answers.complaints = answers.complaints.saturating_add(1);
+    }
+    answers
+}
+
+// Writes two blocks filled with a byte.
+fn write_two(
+    alloc: Global,
+    mirror: &impl Device,
+    first: u64,
+    byte: u8,
+) -> Result<Receipt, Refusal> {
+    let bytes = Bytes::copy_from_slice(alloc, &[byte; 2 * BLOCK_BYTES])?;
+    mirror.write(first, &bytes)
 }
 
 // Makes the writes of one writer, and reads back the last of them if its blocks are its own.

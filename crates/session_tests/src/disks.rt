@@ -1,5 +1,5 @@
 //! Disks of the tests' own, which the threads of a test watch.
-ghost use Rattle.std.specs.Prelude.{◌+◌, if◌then◌else◌, is_some};
+ghost use Rattle.std.specs.Prelude.{if◌then◌else◌, is_some};
 
 use blocks::{BLOCK_BYTES, Block, MemStore, Range, Store, StoreFault};
 use std::alloc::Global;
@@ -38,82 +38,6 @@ impl Signals {
     /// Makes the same for threads to share.
     pub(crate) fn shared(rt: &impl Abort, alloc: Global) -> Arc<Signals, Global> {
         Arc::new(alloc, Signals::new()).expect(rt, "memory")
-    }
-}
-
-/// The write that a disk fails.
-#[derive(Clone, Copy)]
-pub(crate) struct FailingWrite {
-    /// How many writes pass before it.
-    pub(crate) passes: u64,
-    /// Whether it writes its blocks all the same.
-    pub(crate) keeps: bool,
-}
-
-/// A disk in memory that fails one write and one read, if it is made to.
-#[derive(Drop)]
-pub(crate) struct FailingDisk {
-    memory: MemStore,
-    /// `None` if no other write fails.
-    failing_write: Option<FailingWrite>,
-    /// How many reads pass before the one that fails; `None` if no other read fails.
-    failing_read: Option<u64>,
-}
-
-impl FailingDisk {
-    /// Makes a disk that fails these.
-    pub(crate) fn new(
-        memory: MemStore,
-        failing_write: Option<FailingWrite>,
-        failing_read: Option<u64>,
-    ) -> FailingDisk {
-        FailingDisk {
-            memory,
-            failing_write,
-            failing_read,
-        }
-    }
-}
-
-impl Store for FailingDisk {
-    ghost contents = { λ s. s.memory };
-
-    ghost faults = { λ s. (if is_some s.failing_write then 0 else 1) + (if is_some s.failing_read then 0 else 1) };
-
-    fn blocks(&self) -> u32 {
-        self.memory.blocks()
-    }
-
-    fn write(&mut self, range: Range, bytes: &[u8]) -> Result<(), StoreFault> {
-        match self.failing_write {
-            Some(FailingWrite { passes: 0, keeps }) => {
-                self.failing_write = None;
-                if keeps {
-                    self.memory.write(range, bytes)?;
-                }
-                return Err(StoreFault);
-            }
-            Some(FailingWrite { passes, keeps }) => {
-                self.failing_write = Some(FailingWrite {
-                    passes: passes - 1,
-                    keeps,
-                });
-            }
-            None => {}
-        }
-        self.memory.write(range, bytes)
-    }
-
-    fn read(&mut self, block: Block, buffer: &mut [u8]) -> Result<(), StoreFault> {
-        match self.failing_read {
-            Some(0) => {
-                self.failing_read = None;
-                return Err(StoreFault);
-            }
-            Some(passes) => self.failing_read = Some(passes - 1),
-            None => {}
-        }
-        self.memory.read(block, buffer)
     }
 }
 

@@ -1,31 +1,31 @@
-//! Tests of sessions in which a disk fails.
+//! Tests of sessions in which a disk fails, once, in the call for which it was armed before the session's start.
 use crate::callers::Work;
-use crate::disks::{FailingDisk, FailingWrite, GatedDisk, Signals, memory};
+use crate::disks::{GatedDisk, Signals, memory};
 use crate::outcome::Outcome;
 use crate::session::{Case, UNKNOWN, run};
-use blocks::Protocol;
+use blocks::{FaultStore, Protocol};
 use std::alloc::Global;
 use std::process::Abort;
 use volume::Runtime;
 
-/// Which call of which disk fails.
+/// Which disk fails a write.
 #[derive(Clone, Copy, Debug, PartialEq, Eq)]
-enum Fault {
-    /// The local disk fails a write after this many.
-    LocalWrite(u64),
-    /// The peer's disk fails a write after this many.
-    PeerWrite(u64),
+enum Side {
+    Local,
+    Peer,
 }
 
-// Returns the write that fails after this many. It is on the disk all the same, if their number is odd.
-fn failing_after(passes: u64) -> FailingWrite {
-    FailingWrite {
-        passes,
-        keeps: passes % 2 == 1,
-    }
+/// A write of two blocks that fails.
+#[derive(Clone, Copy, Debug, PartialEq, Eq)]
+struct Fault {
+    side: Side,
+    /// How many writes to this disk pass before it.
+    passes: u64,
+    /// How many of its blocks are on the disk all the same.
+    kept: u64,
 }
 
-// Runs a session of four writers over two disks. One of them fails once.
+// Runs a session of four writers over two disks of zeros. One of them fails once.
 fn over_failing<R: Abort + Runtime>(
     rt: R,
     alloc: Global,
@@ -33,61 +33,78 @@ fn over_failing<R: Abort + Runtime>(
     fault: Fault,
 ) -> Outcome {
     let signals = Signals::shared(&rt, alloc);
-    let (local, peer) = match fault {
-        Fault::LocalWrite(passes) => (Some(failing_after(passes)), None),
-        Fault::PeerWrite(passes) => (None, Some(failing_after(passes))),
-    };
-    let disks = (
-        FailingDisk::new(memory(&rt, alloc, false), local, None),
-        FailingDisk::new(memory(&rt, alloc, false), peer, None),
-    );
-    let case = Case::of(protocol, Work::Writers { cuts: 0 });
-    run(rt, alloc, case, disks, &signals).expect(&rt, "a session")
+    let mut local = FaultStore::new(memory(&rt, alloc, false));
+    let mut peer = FaultStore::new(memory(&rt, alloc, false));
+    match fault.side {
+        Side::Local => local.arm_after(fault.passes, fault.kept),
+        Side::Peer => peer.arm_after(fault.passes, fault.kept),
+    }
+    let case = Case::of(protocol, Work::WideWriters);
+    run(rt, alloc, case, (local, peer), &signals).expect(&rt, "a session")
 }
 
 // Runs a session without writes that copies all eight blocks to its peer, over a local disk that fails one read of
 // them.
 fn over_failing_reads<R: Abort + Runtime>(rt: R, alloc: Global, passes: u64) -> Outcome {
     let signals = Signals::shared(&rt, alloc);
-    let disks = (
-        FailingDisk::new(memory(&rt, alloc, true), None, Some(passes)),
-        GatedDisk::new(&rt, memory(&rt, alloc, false), &signals, false),
-    );
+    let mut local = FaultStore::new(memory(&rt, alloc, true));
+    local.arm_read_after(passes);
+    let peer = GatedDisk::new(&rt, memory(&rt, alloc, false), &signals, false);
     let case = Case {
         peer: UNKNOWN,
         ..Case::of(Protocol::C, Work::Resync { writes: 8 })
     };
-    run(rt, alloc, case, disks, &signals).expect(&rt, "a session")
+    run(rt, alloc, case, (local, peer), &signals).expect(&rt, "a session")
+}
+
+// Runs a session for each of the first ten writes to this disk, and for none, one and both of its blocks kept. Checks
+// that of the eighty writes `faults` fail, and each other one has its receipt. A test is one protocol with the peer's
+// faults: thirty sessions that lose their link.
+fn check_each_fault<R: Abort + Runtime + Copy>(
+    rt: R,
+    alloc: Global,
+    protocol: Protocol,
+    side: Side,
+    faults: u32,
+) {
+    let completed = 80u32.saturating_sub(faults);
+    for passes in 0..10u64 {
+        for kept in 0..=2u64 {
+            let fault = Fault { side, passes, kept };
+            let outcome = over_failing(rt, alloc, protocol, fault);
+            let case = (protocol, fault);
+            outcome.check_no_complaints(&rt, completed as usize, &case);
+            assert_eq!(rt; outcome.local_faults, faults, "{case:?}");
+            outcome.check_settled(&rt, u64::from(completed), &case);
+            // Under C the peer answers no write that its disk fails, and the disk of the primary completes it alone.
+            assert!(rt;
+                side == Side::Local || protocol != Protocol::C || outcome.linked < 80,
+                "{case:?}"
+            );
+        }
+    }
 }
 
 #[test]
 fn a_local_fault_is_its_callers_alone(rt: HostRuntime) {
     for protocol in [Protocol::A, Protocol::B, Protocol::C] {
-        for passes in 0..10u64 {
-            let outcome = over_failing(rt, rt.alloc(), protocol, Fault::LocalWrite(passes));
-            assert_eq!(rt;
-                (outcome.receipts, outcome.local_faults),
-                (199, 1),
-                "{protocol:?} {passes}"
-            );
-            outcome.check_settled(&rt, 199, &(protocol, passes));
-        }
+        check_each_fault(rt, rt.alloc(), protocol, Side::Local, 1);
     }
 }
 
 #[test]
-fn a_peer_fault_leaves_no_difference_unmarked(rt: HostRuntime) {
-    for protocol in [Protocol::A, Protocol::B, Protocol::C] {
-        for passes in 0..10u64 {
-            let outcome = over_failing(rt, rt.alloc(), protocol, Fault::PeerWrite(passes));
-            assert_eq!(rt;
-                (outcome.receipts, outcome.local_faults),
-                (200, 0),
-                "{protocol:?} {passes}"
-            );
-            outcome.check_settled(&rt, 200, &(protocol, passes));
-        }
-    }
+fn a_peer_fault_leaves_no_difference_unmarked_under_a(rt: HostRuntime) {
+    check_each_fault(rt, rt.alloc(), Protocol::A, Side::Peer, 0);
+}
+
+#[test]
+fn a_peer_fault_leaves_no_difference_unmarked_under_b(rt: HostRuntime) {
+    check_each_fault(rt, rt.alloc(), Protocol::B, Side::Peer, 0);
+}
+
+#[test]
+fn a_peer_fault_leaves_no_difference_unmarked_under_c(rt: HostRuntime) {
+    check_each_fault(rt, rt.alloc(), Protocol::C, Side::Peer, 0);
 }
 
 #[test]

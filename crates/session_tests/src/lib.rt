@@ -17,6 +17,8 @@ mod nodes;
 #[cfg(test)]
 mod outcome;
 #[cfg(test)]
+mod own_calls;
+#[cfg(test)]
 mod pipes;
 #[cfg(test)]
 mod pumping;

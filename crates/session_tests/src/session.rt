@@ -7,6 +7,8 @@ ghost use Rattle.volume.specs.Opening.{opening_of};
 use crate::callers::{Work, carry_out};
 use crate::disks::Signals;
 use crate::outcome::{Outcome, bring_together};
+use crate::own_calls::own_calls;
+use bitmap::Bitmap;
 use blocks::{ConnectionWords, Protocol, Refusal, Settings, Store, Tuple};
 use ruled_link::{RuledIn, RuledOut, ruled};
 use std::alloc::Global;
@@ -88,7 +90,7 @@ impl Case {
             settings,
             own: self.own,
             peer: self.peer,
-            marks: Vec::from_elem(alloc, false, settings.blocks as usize)?,
+            marks: Bitmap::unmarked(alloc, u64::from(settings.blocks))?,
             sync: self.words.sync,
             loss: self.words.loss,
             is_cut: self.is_cut,
@@ -137,7 +139,11 @@ fn run_named<
     let (local, peer) = disks;
     match Session::<R, L, S, T>::start(rt, alloc, there, back, local, peer, parts) {
         Ok(session) => {
-            let answers = carry_out(&rt, alloc, session.mirror(), signals, work);
+            let answers = if work == Work::OwnCalls {
+                own_calls(&rt, alloc, &session)
+            } else {
+                carry_out(&rt, alloc, session.mirror(), signals, work)
+            };
             let nodes = session.finish().expect(&rt, "both nodes");
             Ok(bring_together(&rt, nodes, &answers))
         }

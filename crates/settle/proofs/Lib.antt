@@ -1,3 +1,4 @@
 pub mod Comparing
 pub mod Settling
 pub mod Openings
+pub mod Reading

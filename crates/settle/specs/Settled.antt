@@ -1,5 +1,5 @@
 -- A settlement as its caller sees it, in plain values.
-use Rattle.std.specs.Prelude.{Bool, true, false, [], ◌∷◌, Result, Ok, Err}
+use Rattle.std.specs.Prelude.{ℕ, Bool, true, false, [], ◌∷◌, Result, Ok, Err}
 use Rattle.blocks.specs.declared.refusal.Refusal.{Refusal}
 use Rattle.blocks.specs.declared.refusal.Refusal.TheVariants.{ReadFault}
 use Rattle.model.specs.Primary.{PrimaryHistory}
@@ -7,6 +7,7 @@ use Rattle.model.specs.Secondary.{SecondaryHistory, secondary_connection}
 use Rattle.model.specs.Headline.{IsHonest, opening_marked}
 use Rattle.model.specs.Settlement.{Settlement}
 use Rattle.model.specs.Theorems.{Opening, marks_at}
+use Rattle.settle.specs.declared.settlement.Confirmed.{Confirmed}
 use Rattle.settle.specs.declared.settlement.Settled.{Settled}
 
 -- the numbers of a settlement
@@ -17,6 +18,15 @@ numbers n = record { sent = n.sent; taken = n.taken; applied = n.applied; confir
 abbrev pub settled : Result Settled Refusal → Result Settlement Refusal
 settled (Ok n) = Ok (numbers n)
 settled (Err refusal) = Err refusal
+
+-- the counts of a settlement without a comparison, with the unmarked blocks that differ
+abbrev pub with_unmarked : ℕ → Confirmed → Settlement
+with_unmarked unmarked n = record { sent = n.sent; taken = n.taken; applied = n.applied; confirmed = n.confirmed; unmarked = unmarked }
+
+-- the result of such a settlement, with the unmarked blocks that differ
+abbrev pub compared : ℕ → Result Confirmed Refusal → Result Settlement Refusal
+compared unmarked (Ok n) = Ok (with_unmarked unmarked n)
+compared unmarked (Err refusal) = Err refusal
 
 -- the settlement was refused since a disk failed a read
 abbrev pub is_read_fault : Result Settled Refusal → Bool

@@ -1,5 +1,5 @@
 //! The comparison of two disks.
-ghost use Rattle.std.specs.Prelude.{◌≡◌, ◌⊎◌, ◌<◌, length, not, true, IfErr, IfOk, OnOk, IsOk};
+ghost use Rattle.std.specs.Prelude.{◌≡◌, ◌⊎◌, ◌<◌, length, not, true, IsTrue, IfErr, IfOk, OnOk, IsOk};
 ghost use Rattle.blocks.specs.declared.block.TheConstants.{BLOCK_BYTES};
 ghost use Rattle.blocks.specs.declared.refusal.Refusal.TheVariants.{ReadFault};
 ghost use Rattle.model.specs.Pair.{same_block};
@@ -26,10 +26,13 @@ pub(crate) fn unmarked<
     J: FrameIn + Drop,
     T: Store + Drop,
 >(primary: &mut Primary<O, I, S>, secondary: &mut Secondary<P, J, T>) -> Result<u32, Refusal>
-    ensures count { IfOk result (λ n. (p : PrimaryHistory) (s : SecondaryHistory) → PrimaryHas (primary_node primary.old) p → SecondaryHas (secondary_node secondary.old) s
+    ensures count { IfOk result (λ n. IsTrue primary.new.faithful → IsTrue secondary.new.faithful → (p : PrimaryHistory) (s : SecondaryHistory) → PrimaryHas (primary_node primary.old) p → SecondaryHas (secondary_node secondary.old) s
         → n ≡ unmarked_differences p s) }
-    ensures primary { primary.new ≡ record primary.old { faults = primary.new.faults; steady = primary.new.steady } }
-    ensures secondary { secondary.new ≡ record secondary.old { faults = secondary.new.faults; steady = secondary.new.steady } }
+    ensures primary { primary.new ≡ record primary.old { faults = primary.new.faults; steady = primary.new.steady; faithful = primary.new.faithful } }
+    ensures secondary { secondary.new ≡ record secondary.old { faults = secondary.new.faults; steady = secondary.new.steady; faithful = secondary.new.faithful } }
+    ensures falls { (IsTrue primary.new.faithful → IsTrue primary.old.faithful) × (IsTrue secondary.new.faithful → IsTrue secondary.old.faithful) }
+    ensures sure { primary.old.steady ≡ true → secondary.old.steady ≡ true
+        → (primary.new.faithful ≡ primary.old.faithful) × (secondary.new.faithful ≡ secondary.old.faithful) }
     ensures refused { IfErr result (λ e. (e ≡ ReadFault) × ((primary.old.faults < primary.new.faults) ⊎ (secondary.old.faults < secondary.new.faults))) }
     ensures uncounted { OnOk result ((primary.new.faults ≡ primary.old.faults) × (secondary.new.faults ≡ secondary.old.faults)) }
     ensures works { primary.old.steady ≡ true → secondary.old.steady ≡ true → (primary.new.steady ≡ true) × (secondary.new.steady ≡ true) × IsOk result }
@@ -65,10 +68,13 @@ fn differs<
 ) -> Result<bool, Refusal>
     requires local { length local.old ≡ BLOCK_BYTES }
     requires peer { length peer.old ≡ BLOCK_BYTES }
-    ensures differs { IfOk result (λ differs. (p : PrimaryHistory) (s : SecondaryHistory) → PrimaryHas (primary_node primary.old) p → SecondaryHas (secondary_node secondary.old) s
+    ensures differs { IfOk result (λ differs. IsTrue primary.new.faithful → IsTrue secondary.new.faithful → (p : PrimaryHistory) (s : SecondaryHistory) → PrimaryHas (primary_node primary.old) p → SecondaryHas (secondary_node secondary.old) s
         → differs ≡ not (same_block (local_map p block.0) (secondary_map s block.0))) }
-    ensures primary { primary.new ≡ record primary.old { faults = primary.new.faults; steady = primary.new.steady } }
-    ensures secondary { secondary.new ≡ record secondary.old { faults = secondary.new.faults; steady = secondary.new.steady } }
+    ensures primary { primary.new ≡ record primary.old { faults = primary.new.faults; steady = primary.new.steady; faithful = primary.new.faithful } }
+    ensures secondary { secondary.new ≡ record secondary.old { faults = secondary.new.faults; steady = secondary.new.steady; faithful = secondary.new.faithful } }
+    ensures falls { (IsTrue primary.new.faithful → IsTrue primary.old.faithful) × (IsTrue secondary.new.faithful → IsTrue secondary.old.faithful) }
+    ensures sure { primary.old.steady ≡ true → secondary.old.steady ≡ true
+        → (primary.new.faithful ≡ primary.old.faithful) × (secondary.new.faithful ≡ secondary.old.faithful) }
     ensures refused { IfErr result (λ e. (e ≡ ReadFault) × ((primary.old.faults < primary.new.faults) ⊎ (secondary.old.faults < secondary.new.faults))) }
     ensures uncounted { OnOk result ((primary.new.faults ≡ primary.old.faults) × (secondary.new.faults ≡ secondary.old.faults)) }
     ensures works { primary.old.steady ≡ true → secondary.old.steady ≡ true → (primary.new.steady ≡ true) × (secondary.new.steady ≡ true) × IsOk result }

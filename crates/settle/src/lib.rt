@@ -5,4 +5,4 @@
 mod compare;
 mod settlement;
 
-pub use settlement::{Settled, is_at_rest, settle};
+pub use settlement::{Confirmed, Settled, confirm, is_at_rest, settle};

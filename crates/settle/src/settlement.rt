@@ -1,17 +1,17 @@
 //! The settlement of two nodes.
-ghost use Rattle.std.specs.Prelude.{◌≡◌, ◌⊎◌, ◌<◌, ◌≤◌, length, true, Err, IfOk, OnOk};
+ghost use Rattle.std.specs.Prelude.{◌≡◌, ◌⊎◌, ◌<◌, ◌≤◌, false, length, true, IsTrue, Err, IfOk, OnOk};
 ghost use Rattle.blocks.specs.declared.refusal.Refusal.TheVariants.{ReadFault};
 ghost use Rattle.model.specs.Headline.{IsJoined};
 ghost use Rattle.model.specs.Primary.{PrimaryHistory};
 ghost use Rattle.model.specs.Secondary.{SecondaryHistory, secondary_connection_at, items_taken};
-ghost use Rattle.model.specs.Settlement.{applied_items, is_at_rest, settle};
+ghost use Rattle.model.specs.Settlement.{applied_items, is_at_rest, settle, unmarked_differences};
 ghost use Rattle.model.specs.Theorems.{Settles, SettlesAnyhow};
 ghost use Rattle.model.specs.WriteOrder.{IsUnharmed, KeepsWriteOrder};
 ghost use Rattle.primary.specs.State.{node as primary_node};
 ghost use Rattle.primary_protocol.specs.Node.{NodeHas as PrimaryHas};
 ghost use Rattle.secondary.specs.State.{node as secondary_node};
 ghost use Rattle.secondary_protocol.specs.Node.{NodeHas as SecondaryHas};
-ghost use Rattle.settle.specs.Settled.{WereHonest, is_read_fault, kept, numbers, settled};
+ghost use Rattle.settle.specs.Settled.{WereHonest, compared, is_read_fault, kept, numbers, settled, with_unmarked};
 
 use crate::compare::unmarked;
 use blocks::{Refusal, Store};
@@ -32,6 +32,19 @@ pub struct Settled {
     pub confirmed: u64,
     /// On how many unmarked blocks the disks differ. A block that only one of them has counts.
     pub unmarked: u32,
+}
+
+/// The counts of two nodes at rest, without a comparison of their disks.
+#[derive(Debug, PartialEq, Eq, Clone, Copy)]
+pub struct Confirmed {
+    /// How many items of the primary's last connection were sent.
+    pub sent: u32,
+    /// How many items the secondary took on that connection: 0 if it never opened it.
+    pub taken: u32,
+    /// How many writes and resync items among those are applied.
+    pub applied: u32,
+    /// How many receipts are confirmed: all that were given.
+    pub confirmed: u64,
 }
 
 /// Compares two nodes at rest, and the callers' receipts with the journal.
@@ -58,22 +71,25 @@ pub fn settle<
     secondary: &mut Secondary<P, J, T>,
     receipts: &[Receipt],
 ) -> Result<Settled, Refusal>
-    ensures kept { (p : PrimaryHistory) (s : SecondaryHistory) → PrimaryHas (primary_node primary.old) p → SecondaryHas (secondary_node secondary.old) s
+    ensures kept { IsTrue primary.new.faithful → IsTrue secondary.new.faithful → (p : PrimaryHistory) (s : SecondaryHistory) → PrimaryHas (primary_node primary.old) p → SecondaryHas (secondary_node secondary.old) s
         → settled result ≡ settle p (kept s) receipts.now (is_read_fault result) }
     ensures history { secondary.old.core.number ≤ primary.old.core.connections
-        → (p : PrimaryHistory) (s : SecondaryHistory) → PrimaryHas (primary_node primary.old) p → SecondaryHas (secondary_node secondary.old) s
+        → IsTrue primary.new.faithful → IsTrue secondary.new.faithful → (p : PrimaryHistory) (s : SecondaryHistory) → PrimaryHas (primary_node primary.old) p → SecondaryHas (secondary_node secondary.old) s
         → settled result ≡ settle p s receipts.now (is_read_fault result) }
-    ensures primary { primary.new ≡ record primary.old { faults = primary.new.faults; steady = primary.new.steady } }
-    ensures secondary { secondary.new ≡ record secondary.old { faults = secondary.new.faults; steady = secondary.new.steady } }
+    ensures primary { primary.new ≡ record primary.old { faults = primary.new.faults; steady = primary.new.steady; faithful = primary.new.faithful } }
+    ensures secondary { secondary.new ≡ record secondary.old { faults = secondary.new.faults; steady = secondary.new.steady; faithful = secondary.new.faithful } }
+    ensures falls { (IsTrue primary.new.faithful → IsTrue primary.old.faithful) × (IsTrue secondary.new.faithful → IsTrue secondary.old.faithful) }
+    ensures sure { primary.old.steady ≡ true → secondary.old.steady ≡ true
+        → (primary.new.faithful ≡ primary.old.faithful) × (secondary.new.faithful ≡ secondary.old.faithful) }
     ensures fault { result ≡ Err ReadFault → (primary.old.faults < primary.new.faults) ⊎ (secondary.old.faults < secondary.new.faults) }
     ensures uncounted { (result ≡ Err ReadFault → ⊥) → (primary.new.faults ≡ primary.old.faults) × (secondary.new.faults ≡ secondary.old.faults) }
     ensures works { primary.old.steady ≡ true → secondary.old.steady ≡ true
         → (primary.new.steady ≡ true) × (secondary.new.steady ≡ true) × (result ≡ Err ReadFault → ⊥) }
     ensures settles { secondary.old.core.number ≤ primary.old.core.connections
-        → IfOk result (λ n. (p : PrimaryHistory) (s : SecondaryHistory) → PrimaryHas (primary_node primary.old) p → SecondaryHas (secondary_node secondary.old) s
+        → IfOk result (λ n. IsTrue primary.new.faithful → IsTrue secondary.new.faithful → (p : PrimaryHistory) (s : SecondaryHistory) → PrimaryHas (primary_node primary.old) p → SecondaryHas (secondary_node secondary.old) s
         → IsJoined p s → WereHonest p s → Settles p s receipts.now (numbers n)) }
     ensures anyhow { secondary.old.core.number ≤ primary.old.core.connections
-        → IfOk result (λ n. (p : PrimaryHistory) (s : SecondaryHistory) → PrimaryHas (primary_node primary.old) p → SecondaryHas (secondary_node secondary.old) s
+        → IfOk result (λ n. IsTrue primary.new.faithful → IsTrue secondary.new.faithful → (p : PrimaryHistory) (s : SecondaryHistory) → PrimaryHas (primary_node primary.old) p → SecondaryHas (secondary_node secondary.old) s
         → IsJoined p s → SettlesAnyhow p s receipts.now (numbers n)) }
     ensures order { OnOk result ((p : PrimaryHistory) (s : SecondaryHistory) → PrimaryHas (primary_node primary.old) p → SecondaryHas (secondary_node secondary.old) s
         → IsJoined p s → WereHonest p s → IsUnharmed p s → KeepsWriteOrder p s) }
@@ -92,6 +108,56 @@ pub fn settle<
         applied,
         confirmed: receipts.len() as u64,
         unmarked,
+    })
+}
+
+/// Compares the callers' receipts of two nodes at rest with the journal, as `settle` does, and reads no disk.
+///
+/// Returns `NotDrained` (36) unless both ends are closed, nothing is pending at the secondary, and the primary's
+/// disk has done or failed every write; else `StrangeReceipt` (19) if a receipt matches no entry of the journal, or
+/// is given twice. It changes neither node, and takes no memory; it takes time for each receipt and each accepted write.
+///
+/// It says what `settle` says of two disks: that no difference is lost follows from both histories, and needs no comparison.
+pub fn confirm<
+    O: FrameOut + Drop,
+    I: FrameIn + Drop,
+    S: Store + Drop,
+    P: FrameOut + Drop,
+    J: FrameIn + Drop,
+    T: Store + Drop,
+>(
+    primary: &mut Primary<O, I, S>,
+    secondary: &Secondary<P, J, T>,
+    receipts: &[Receipt],
+) -> Result<Confirmed, Refusal>
+    ensures kept { (p : PrimaryHistory) (s : SecondaryHistory) → PrimaryHas (primary_node primary.old) p → SecondaryHas (secondary_node secondary.now) s
+        → compared (unmarked_differences p s) result ≡ settle p (kept s) receipts.now false }
+    ensures history { secondary.now.core.number ≤ primary.old.core.connections
+        → (p : PrimaryHistory) (s : SecondaryHistory) → PrimaryHas (primary_node primary.old) p → SecondaryHas (secondary_node secondary.now) s
+        → compared (unmarked_differences p s) result ≡ settle p s receipts.now false }
+    ensures same { primary.new ≡ primary.old }
+    ensures settles { secondary.now.core.number ≤ primary.old.core.connections
+        → IfOk result (λ n. (p : PrimaryHistory) (s : SecondaryHistory) → PrimaryHas (primary_node primary.old) p → SecondaryHas (secondary_node secondary.now) s
+        → IsJoined p s → WereHonest p s → Settles p s receipts.now (with_unmarked (unmarked_differences p s) n)) }
+    ensures anyhow { secondary.now.core.number ≤ primary.old.core.connections
+        → IfOk result (λ n. (p : PrimaryHistory) (s : SecondaryHistory) → PrimaryHas (primary_node primary.old) p → SecondaryHas (secondary_node secondary.now) s
+        → IsJoined p s → SettlesAnyhow p s receipts.now (with_unmarked (unmarked_differences p s) n)) }
+{
+    if !is_at_rest(primary, secondary) {
+        return Err(Refusal::NotDrained);
+    }
+    let are_found = primary.confirm(receipts);
+    if !are_found {
+        return Err(Refusal::StrangeReceipt);
+    }
+    let sent = primary.items_sent();
+    let confirmed = receipts.len() as u64;
+    let (taken, applied) = items_at(secondary, primary.connections());
+    Ok(Confirmed {
+        sent,
+        taken,
+        applied,
+        confirmed,
     })
 }
 

@@ -1,3 +1,5 @@
+pub mod Entries
+pub mod Noted
 pub mod Numbers
 pub mod Answered
 pub mod FirstFrom

@@ -1,6 +1,8 @@
 //! The transfer log of a primary: the writes that are not released, with their states.
 #![tactic(auto)]
 
+mod ghost_numbers;
+mod last_writes;
 mod local;
 mod log;
 mod protocol;

@@ -1,8 +1,10 @@
 //! The transfer log of a primary.
-ghost use Rattle.std.specs.Prelude.{filter, find, nat_le, slice_get, suc, ◌≡◌, ◌+◌, ◌<◌, ◌≤◌, length, IfOk, IfErr, IfSome};
+ghost use Rattle.std.specs.Prelude.{Contains, MatchOption, filter, find, nat_le, slice_get, suc, ◌≡◌, ◌+◌, ◌<◌, ◌≤◌, length, true, IfOk, IfErr, IfSome, IsSomeAnd, None};
 ghost use Rattle.std.specs.Option.{option_copied, option_map};
+ghost use Rattle.std.specs.List.{AllByRecursion};
 ghost use Rattle.transferlog.specs.Log.{clears, empty_log};
 ghost use Rattle.epochs.specs.Epochs.{unacknowledged};
+ghost use Rattle.blocks.specs.Ranges.{is_between};
 ghost use Rattle.transferlog.specs.Writes.{is_open, is_unanswered, is_waiting};
 ghost use Rattle.transferlog.specs.Ring.{Rises, write_at};
 ghost use Rattle.blocks.specs.declared.refusal.Refusal.TheVariants.{NoMemory};
@@ -10,10 +12,11 @@ ghost use Rattle.blocks.specs.declared.refusal.Refusal.TheVariants.{NoMemory};
 mod stream;
 mod writes;
 
+use crate::last_writes::LastWrites;
 use crate::report::{Completed, Released};
 use crate::ring::Ring;
 use crate::write::Write;
-use blocks::{Block, Protocol, Refusal};
+use blocks::{Block, Protocol, Range, Refusal};
 use epochs::Epochs;
 use std::alloc::Global;
 use std::marker::Model;
@@ -21,15 +24,17 @@ use std::marker::Model;
 /// A primary's unreleased writes under protocols A, B and C (DRBD's transfer log). It decides which of them are
 /// completed and which released, keeps the epochs of the connection's stream, and says which marks a release clears.
 ///
-/// Numbers are consecutive, so a write is found by subtraction, and a call takes constant time, except these. `new`
-/// takes time for each block of the device. `open`, `unanswered` and `drain` take time for each number from the first
-/// unreleased one on, `unreleased_from` for each number from `from` to the one that it returns, and `barrier_acked`
-/// for each write of the epoch. A release takes time for each number that it takes out of the log, and `local_done`
-/// and `local_fault` for each number up to the next write that waits for the local disk; both pass each number once
-/// over all calls.
+/// Numbers are consecutive, so a write is found by subtraction, and a call takes constant time, except these. `open`,
+/// `unanswered` and `drain` take time for each number from the first unreleased one on, `unreleased` for each number
+/// from there to the write that it finds, `unreleased_from` for each number from `from` to the one that it returns, and
+/// `barrier_acked` for each write of the epoch. A release takes time for each number that it takes out of the log, and
+/// `local_done` and `local_fault` for each number up to the next write that waits for the local disk; both pass each
+/// number once over all calls. A call that makes a new report first takes time for each block of the writes that the
+/// last one released.
 ///
-/// The memory is a slot for each number from the first unreleased one on, four bytes for each block of the device,
-/// and room for `backlog` reports of each kind.
+/// The memory is a slot for each number from the first unreleased one on, an entry for each block of a write that is
+/// unreleased or that the last call released, and room for `backlog` reports of each kind. It does not grow with the
+/// device.
 #[derive(Drop)]
 pub struct TransferLog {
     protocol: Protocol,
@@ -39,8 +44,9 @@ pub struct TransferLog {
     connection: Option<u32>,
     // The number of the last write up to which all epochs are acknowledged.
     acknowledged_through: u64,
-    // For each block the number of the last write to it, 0 if there is none.
-    last_writes: Vec<u32>,
+    // How many blocks the device has.
+    blocks: u32,
+    last_writes: LastWrites,
     ring: Ring,
     epochs: Epochs,
     released: Vec<Released>,
@@ -60,8 +66,8 @@ impl Model for TransferLog {
 }
 
 impl TransferLog {
-    /// Returns an empty log for a device of `blocks` blocks, 1 to 262,144. `NoMemory` (7) if its tables cannot be
-    /// allocated.
+    /// Returns an empty log for a device of `blocks` blocks. `NoMemory` (7) if its tables cannot be allocated. It
+    /// takes memory and time for each of `backlog` reports, and none for a block.
     pub fn new(
         alloc: Global,
         protocol: Protocol,
@@ -81,7 +87,8 @@ impl TransferLog {
             accepted: 0,
             connection: None,
             acknowledged_through: 0,
-            last_writes: Vec::from_elem(alloc, 0u32, blocks as usize)?,
+            blocks,
+            last_writes: LastWrites::new(alloc, blocks),
             ring: Ring::new(alloc),
             epochs: Epochs::new(alloc, max_epoch),
             released: Vec::with_capacity(alloc, backlog as usize)?,
@@ -165,7 +172,7 @@ impl TransferLog {
     pub fn blocks(&self) -> usize
         ensures { result ≡ length self.now.state.last_writes }
     {
-        self.last_writes.len()
+        self.blocks as usize
     }
 
     /// Returns the lowest number of a write that waits for the local disk. It takes constant time.
@@ -174,6 +181,18 @@ impl TransferLog {
     {
         let write = self.ring.first_waiting()?;
         Some(write.number())
+    }
+
+    /// Returns the range of the unreleased write that has `index` unreleased ones below it, or `None` if there are not
+    /// more than `index`. It takes no memory. It takes time for each number from the first unreleased one to that
+    /// write's, released numbers between them included, so a caller that goes over all unreleased writes takes
+    /// `unreleased_from`.
+    pub fn unreleased(&self, index: u32) -> Option<Range>
+        ensures { MatchOption (slice_get self.now.state.writes index) (result ≡ None)
+            (λ w. IsSomeAnd result (λ range. (range.first.0 ≡ w.first) × (range.count ≡ w.count))) }
+    {
+        let write = self.ring.nth(index)?;
+        Some(write.range())
     }
 
     /// Returns the first unreleased write whose number is `from` or more. It takes time for each number from `from`
@@ -190,17 +209,20 @@ impl TransferLog {
     /// Returns whether the release of a write, by the last call, clears the mark of this block: the release clears
     /// marks, the write covers the block, and no later write does. It takes constant time.
     pub fn clears(&self, released: &Released, block: Block) -> bool
+        requires reported { Contains self.now.state.released released.now }
         ensures { result ≡ clears released.now block.0 self.now.state.last_writes }
     {
         let inside = released.first <= block.0 && block.0 - released.first < released.count;
         released.clears && inside && self.last_write_to(block) == Some(released.number)
     }
 
+    // Returns the number of the last write to the block, if it is known: it is if the last call released that write.
     fn last_write_to(&self, block: Block) -> Option<u64>
-        ensures { result ≡ slice_get self.now.state.last_writes block.0 }
+        ensures last { IfSome result (λ number. slice_get self.now.state.last_writes block.0 ≡ Some number) }
+        ensures known { AllByRecursion (λ r. is_between r.first r.count block.0 ≡ true
+            → slice_get self.now.state.last_writes block.0 ≡ Some r.number → result ≡ Some r.number) self.now.state.released }
     {
-        let number = self.last_writes.get(block.0 as usize)?;
-        Some(u64::from(*number))
+        self.last_writes.known(block)
     }
 
     /// Returns the unreleased write with this number.

@@ -1,5 +1,5 @@
 //! The ring of the unreleased writes.
-ghost use Rattle.std.specs.Prelude.{find, nat_le, IfSome, ◌&&◌, ◌≤◌, filter, map, not, vec_len, vec_capacity, ◌≡◌, ◌+◌, ◌^◌, ◌<◌, [], ◌∷◌, ◌++◌, length, IsOk, OnOk, is_some, if◌then◌else◌};
+ghost use Rattle.std.specs.Prelude.{find, nat_le, slice_get, IfSome, ◌&&◌, ◌≤◌, filter, map, not, vec_len, vec_capacity, ◌≡◌, ◌+◌, ◌^◌, ◌<◌, [], ◌∷◌, ◌++◌, length, IsOk, OnOk, is_some, if◌then◌else◌};
 ghost use Rattle.std.specs.List.{list_any};
 ghost use Rattle.blocks.specs.Ranges.{is_between};
 ghost use Rattle.std.specs.Option.{option_copied, option_map, option_and_then};
@@ -20,8 +20,9 @@ use std::marker::Model;
 /// A call takes constant time, except these. A removal drops the holes before the first remaining write, and a change
 /// by which the local disk is done with a write passes the numbers up to the next one that waits: each number is
 /// dropped once and passed once, so this is constant time for each accepted number. `open`, `unanswered`,
-/// `unlink_all` and `release_rest` take time for each number from the first write on, `first_from` for each number
-/// from `from` to the one that it returns, and `lacks_answer` and `release_all` for each number that they are given.
+/// `unlink_all` and `release_rest` take time for each number from the first write on, `nth` for each number from the
+/// first write to the one that it returns, `first_from` for each number from `from` to the one that it returns, and
+/// `lacks_answer` and `release_all` for each number that they are given.
 #[derive(Drop)]
 pub(crate) struct Ring {
     first: u64,
@@ -151,6 +152,23 @@ impl Ring {
         None
     }
 
+    /// Returns the write that has `index` writes below it. It takes time for each number from the first write to the
+    /// one that it returns, since a hole stands for each removed write between them.
+    pub(crate) fn nth(&self, index: u32) -> Option<&Write>
+        ensures { option_copied result ≡ slice_get self.now.writes index }
+    {
+        let mut left = index;
+        for slot in 0..self.slots.len() {
+            if let Some(write) = self.slots[slot].as_ref() {
+                if left == 0 {
+                    return Some(write);
+                }
+                left -= 1;
+            }
+        }
+        None
+    }
+
     /// Returns how many writes are neither completed nor failed.
     pub(crate) fn open(&self) -> u32
         ensures { result ≡ length (filter is_open self.now.writes) }
@@ -260,6 +278,7 @@ impl Ring {
         ensures capacity { vec_capacity released.new ≡ vec_capacity released.old }
         ensures writes { self.new.writes ≡ filter (λ w. not (is_released acknowledged_through w)) self.old.writes }
         ensures next { self.new.next ≡ self.old.next }
+        ensures rises { Rises 0 self.old.writes }
     {
         // Proof hint: brings the invariant that numbers rise into scope.
         let _ = &self.first;
@@ -276,6 +295,7 @@ impl Ring {
         ensures capacity { vec_capacity released.new ≡ vec_capacity released.old }
         ensures writes { self.new.writes ≡ filter (λ w. not (is_released acknowledged_through w)) self.old.writes }
         ensures next { self.new.next ≡ self.old.next }
+        ensures rises { Rises 0 self.old.writes }
     {
         let from = self.first;
         let to = self.first + self.slots.len() as u64;

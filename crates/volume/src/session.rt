@@ -1,18 +1,20 @@
 //! A session over a link in this process.
-ghost use Rattle.std.specs.Prelude.{◌≡◌, ◌≤◌, Some, slice_get, IfErr, IfOk};
-ghost use Rattle.blocks.specs.declared.refusal.Refusal.TheVariants.{NotDrained};
+ghost use Rattle.std.specs.Prelude.{◌≡◌, ◌≤◌, ◌⊎◌, ◌*◌, Some, length, slice_get, vec_len, IfErr, IfOk, IsTrue};
+ghost use Rattle.blocks.specs.declared.refusal.Refusal.TheVariants.{BadRange, NoMemory, NotDrained, ReadFault};
 ghost use Rattle.halves.specs.Opening.{opening_of};
 ghost use Rattle.model.specs.Headline.{IsJoined};
 ghost use Rattle.model.specs.Primary.{PrimaryHistory};
 ghost use Rattle.model.specs.Secondary.{SecondaryHistory};
 ghost use Rattle.ruled_link.specs.Names as names;
-ghost use Rattle.session_nodes.specs.Primaries.{PrimaryHas, PrimaryIsHad};
+ghost use Rattle.session_nodes.specs.Primaries.{HasAccepted, HasHeld, PrimaryHas, PrimaryIsHad};
 ghost use Rattle.session_nodes.specs.Secondaries.{SecondaryHas, SecondaryIsHad};
 ghost use Rattle.volume.specs.Links.{AreEndsOf};
 
 use blocks::{ConnectionWords, Refusal, Store};
-use halves::Parts;
+use bytes::Bytes;
+use halves::{Device, Parts};
 use locked_halves::{LocalHalf, PeerHalf};
+use primary::Receipt;
 use ruled_link::{NamedIn, NamedOut, RuledIn, RuledOut};
 use session_link::{
     Back, Began, Linked, SessionPrimary, SessionSecondary, There, check_numbers, join_nodes,
@@ -111,6 +113,38 @@ impl<R: Threads + Wait + Clock + Drop, L: Linked, S: Store + Drop, T: Store + Dr
     /// Returns the mirror, which any number of threads may share.
     pub fn mirror(&self) -> &SessionMirror<R, L, S, T> {
         self.running.mirror()
+    }
+
+    /// Writes whole blocks from `first` on, and returns the receipt once the write is completed as the protocol says:
+    /// `Device::write` of the mirror, with its refusals. A primary that began as the session did accepted these bytes under
+    /// the receipt's number.
+    pub fn write(&self, first: u64, bytes: &Bytes) -> Result<Receipt, Refusal>
+        ensures own { IfOk result (λ receipt. (receipt.first ≡ first) × (receipt.count * 4096 ≡ length bytes.now)) }
+        ensures accepted { IfOk result (λ receipt. HasAccepted (Some L.opening) receipt.number first bytes.now) }
+    {
+        self.running.mirror().write(first, bytes)
+    }
+
+    /// Reads blocks of the local disk, 1 to 32 inside the device and inside one extent: `Device::read` of the mirror, with
+    /// its refusals. If reads of such a disk are always faithful, the disk of a primary that began as the session did held
+    /// these bytes there.
+    pub fn read(&self, first: u64, count: u64) -> Result<Vec<u8>, Refusal>
+        ensures held { IfOk result (λ bytes. ((store : S) → IsTrue (S.faithful store)) → HasHeld (Some L.opening) first count bytes.items) }
+        ensures length { IfOk result (λ bytes. vec_len bytes ≡ count * 4096) }
+        ensures refused { IfErr result (λ e. (e ≡ BadRange) ⊎ ((e ≡ NoMemory) ⊎ (e ≡ ReadFault))) }
+    {
+        self.running.mirror().read(first, count)
+    }
+
+    /// Closes both ends of the link: `Device::cut` of the mirror.
+    pub fn cut(&self) {
+        self.running.mirror().cut();
+    }
+
+    /// Opens both ends again under fresh words, and returns the connection's number: `Device::reconnect` of the mirror, with
+    /// its refusals.
+    pub fn reconnect(&self, sync: u64, loss: u64) -> Result<u32, Refusal> {
+        self.running.mirror().reconnect(sync, loss)
     }
 
     /// Ends the session: cuts the link, lets the disks finish all pending work, stops the threads, and returns both

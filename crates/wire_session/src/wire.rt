@@ -1,17 +1,19 @@
 //! A session whose frames go over streams of bytes, such as sockets.
-ghost use Rattle.std.specs.Prelude.{◌≡◌, ◌<◌, ◌≤◌, false, slice_get, unwrap_or, IfErr, IfOk, IfSome};
-ghost use Rattle.blocks.specs.declared.refusal.Refusal.TheVariants.{NotDrained};
+ghost use Rattle.std.specs.Prelude.{◌≡◌, ◌<◌, ◌≤◌, ◌⊎◌, ◌*◌, false, length, slice_get, unwrap_or, vec_len, IfErr, IfOk, IfSome, IsTrue};
+ghost use Rattle.blocks.specs.declared.refusal.Refusal.TheVariants.{BadRange, NoMemory, NotDrained, ReadFault};
 ghost use Rattle.halves.specs.Opening.{opening_of};
 ghost use Rattle.model.specs.Primary.{primary_opening};
 ghost use Rattle.model.specs.Secondary.{secondary_opening};
 ghost use Rattle.model.specs.Theorems.{primary_at, secondary_at};
-ghost use Rattle.session_nodes.specs.Primaries.{PrimaryIsHad};
+ghost use Rattle.session_nodes.specs.Primaries.{HasAccepted, HasHeld, PrimaryIsHad};
 ghost use Rattle.session_nodes.specs.Secondaries.{SecondaryIsHad};
 
+use bitmap::Bitmap;
 use blocks::{ConnectionWords, Refusal, Settings, Store, Tuple};
-use halves::Parts;
+use bytes::Bytes;
+use halves::{Device, Parts};
 use locked_halves::{LocalHalf, PeerHalf};
-use primary::Primary;
+use primary::{Primary, Receipt};
 use ruled_link::{RuledIn, RuledOut};
 use secondary::Secondary;
 use session_link::check_numbers;
@@ -107,11 +109,11 @@ fn open_local<R: Wait + Copy + Drop, B: Beginning, S: Store + Drop>(
     settings: Settings,
     store: S,
     tuple: Tuple,
-    marks: Vec<bool>,
+    marks: Bitmap,
     words: ConnectionWords,
 ) -> Result<(WireLocal<R, B, S>, PumpEnds<R>), Refusal>
     requires link { 0 < settings.link }
-    requires began { IfSome B.opening (λ opening. primary_opening settings (slice_get (S.contents store)) tuple (λ block. unwrap_or (slice_get marks.items block) false)
+    requires began { IfSome B.opening (λ opening. primary_opening settings (slice_get (S.contents store)) tuple (λ block. unwrap_or (slice_get marks block) false)
         ≡ primary_at opening) }
 {
     let (ends, rows) = half_rows(rt, alloc, settings.link)?;
@@ -148,6 +150,37 @@ impl<R: Threads + Wait + Clock + Drop, B: Beginning, S: Store + Drop, T: Store +
     /// Returns the mirror, which any number of threads may share.
     pub fn mirror(&self) -> &WireMirror<R, B, S, T> {
         self.running.mirror()
+    }
+
+    /// Writes whole blocks from `first` on, and returns the receipt once the write is completed as the protocol says:
+    /// `Device::write` of the mirror, with its refusals. A primary that began as the session did accepted these bytes under
+    /// the receipt's number.
+    pub fn write(&self, first: u64, bytes: &Bytes) -> Result<Receipt, Refusal>
+        ensures own { IfOk result (λ receipt. (receipt.first ≡ first) × (receipt.count * 4096 ≡ length bytes.now)) }
+        ensures accepted { IfOk result (λ receipt. HasAccepted B.opening receipt.number first bytes.now) }
+    {
+        self.running.mirror().write(first, bytes)
+    }
+
+    /// Reads blocks of the local disk, 1 to 32 inside the device and inside one extent: `Device::read` of the mirror, with
+    /// its refusals. If reads of such a disk are always faithful, the disk of a primary that began as the session did held
+    /// these bytes there.
+    pub fn read(&self, first: u64, count: u64) -> Result<Vec<u8>, Refusal>
+        ensures held { IfOk result (λ bytes. ((store : S) → IsTrue (S.faithful store)) → HasHeld B.opening first count bytes.items) }
+        ensures length { IfOk result (λ bytes. vec_len bytes ≡ count * 4096) }
+        ensures refused { IfErr result (λ e. (e ≡ BadRange) ⊎ ((e ≡ NoMemory) ⊎ (e ≡ ReadFault))) }
+    {
+        self.running.mirror().read(first, count)
+    }
+
+    /// Closes both ends of the link: `Device::cut` of the mirror.
+    pub fn cut(&self) {
+        self.running.mirror().cut();
+    }
+
+    /// Returns `NotConnected` (12), since a session over streams has one connection: `Device::reconnect` of the mirror.
+    pub fn reconnect(&self, sync: u64, loss: u64) -> Result<u32, Refusal> {
+        self.running.mirror().reconnect(sync, loss)
     }
 
     /// Ends the session: closes both ends, lets the disks finish all pending work, stops the threads, and returns both

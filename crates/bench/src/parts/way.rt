@@ -1,5 +1,5 @@
 //! A write's way through the parts of a primary under protocol C.
-ghost use Rattle.std.specs.Prelude.{◌≡◌, ◌<◌, ◌≤◌, IsSomeAnd, OnOk, true, false};
+ghost use Rattle.std.specs.Prelude.{Contains, ◌≡◌, ◌<◌, ◌≤◌, IsSomeAnd, OnOk, true, false};
 ghost use Rattle.transferlog.specs.Ring.{write_at};
 ghost use Rattle.transferlog.specs.declared.local.Local.TheVariants.{Waiting};
 
@@ -148,14 +148,6 @@ fn end(activity: &mut ActivityLog, extent: Extent) -> Result<(), Refusal> {
     Ok(())
 }
 
-/// Makes a bitmap without marks, for a device of this many blocks.
-fn unmarked(alloc: Global, blocks: u32) -> Result<Bitmap, Refusal>
-    requires { blocks ≤ 262144 }
-{
-    let marks = Vec::from_elem(alloc, false, blocks as usize)?;
-    Bitmap::from_marks(alloc, &marks)
-}
-
 /// Marks the write's block. `BadRange` (1) if the device has no such block.
 fn mark(bitmap: &mut Bitmap, range: Range) -> Result<(), Refusal>
     requires { range.count ≡ 1 }
@@ -168,7 +160,9 @@ fn mark(bitmap: &mut Bitmap, range: Range) -> Result<(), Refusal>
 }
 
 /// Clears the mark of a released write's block, if the release clears it. Returns whether it does.
-fn clear(log: &TransferLog, bitmap: &mut Bitmap, released: &Released) -> bool {
+fn clear(log: &TransferLog, bitmap: &mut Bitmap, released: &Released) -> bool
+    requires { Contains log.now.state.released released.now }
+{
     let block = Block(released.first);
     let clears = log.clears(released, block) && block.0 < bitmap.len();
     if clears {
@@ -193,7 +187,7 @@ impl Way {
         requires few_blocks { blocks ≤ 262144 }
     {
         let contents = Bytes::copy_from_slice(alloc, b"contents of a write")?;
-        let bitmap = unmarked(alloc, blocks)?;
+        let bitmap = Bitmap::unmarked(alloc, u64::from(blocks))?;
         let activity = ActivityLog::new(alloc, 1024)?;
         let mut log = TransferLog::new(alloc, Protocol::C, blocks, 20_000, in_flight)?;
         log.connect(1);

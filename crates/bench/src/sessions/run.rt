@@ -6,6 +6,7 @@ ghost use Rattle.volume.specs.Opening.{opening_of};
 
 use crate::sessions::report::Report;
 use crate::sessions::writers::write_all;
+use bitmap::Bitmap;
 use blocks::{MemStore, Protocol, Refusal, Settings, Tuple};
 use link::{FrameIn, FrameOut};
 use primary::Primary;
@@ -80,7 +81,7 @@ fn parts(alloc: Global, plan: Plan) -> Result<(Parts, Disks), Refusal> {
         settings,
         own: alike,
         peer: alike,
-        marks: Vec::from_elem(alloc, false, BLOCKS as usize)?,
+        marks: Bitmap::unmarked(alloc, u64::from(BLOCKS))?,
         sync: 2,
         loss: 3,
         is_cut: false,

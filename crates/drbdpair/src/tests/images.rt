@@ -117,7 +117,7 @@ const UNUSABLE: [UnusableImages; 6] = [
         command: "serve",
         local: "empty_image",
         peer: "free_image",
-        message: "empty_image: an image has 1 to 262144 blocks of 4096 bytes\n",
+        message: "empty_image: an image has 1 to 2147483648 blocks of 4096 bytes\n",
     },
     UnusableImages {
         command: "serve",

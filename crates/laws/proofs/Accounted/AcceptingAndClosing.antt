@@ -1,5 +1,5 @@
 -- Accepting a write and the close of an end keep the account of unmarked blocks.
-use Rattle.std.proofs.Common.{ℕ, ◌≡◌, ◌-◌, ◌<◌, inl, inr, Bool, true, false, List, [], ◌∷◌, ◌++◌, length, Option, Some, None, slice_get, refl}
+use Rattle.std.proofs.Common.{ℕ, ◌≡◌, ◌-◌, ◌<◌, inl, inr, Bool, true, false, List, [], ◌∷◌, ◌++◌, length, Option, Some, None, slice_get, refl, IsTrue}
 use Rattle.std.proofs.Common.{sym, ◌∙◌, ap, subst, arith}
 use Rattle.std.specs.Prelude.{if◌then◌else◌}
 use Rattle.std.specs.List.{list_any}
@@ -46,8 +46,8 @@ pub account-shuts : (h later : PrimaryHistory) (f : PrimaryConnection → Primar
     → later.settings ≡ h.settings → later.opening_marks ≡ h.opening_marks → later.opening_tuple ≡ h.opening_tuple
     → ((primary_connection h).begun ≡ false → later.tuple ≡ h.tuple)
     → ((block : ℕ) → later.marks block ≡ false → (h.marks block ≡ false) × ((i : ℕ) (a : Accepted) → slice_get h.writes i ≡ Some a → is_released h a ≡ false
-    → covers a.write block ≡ false)) → IsAccounted later
-account-shuts h later f standing accounted known connections writes grows stream begun taken settings opening_marks opening_tuple tuple marks =
+    → covers a.write block ≡ false)) → (IsTrue later.faithful → IsTrue h.faithful) → IsAccounted later
+account-shuts h later f standing accounted known connections writes grows stream begun taken settings opening_marks opening_tuple tuple marks falls =
     let grow : AllGrow h.connections later.connections = grows-change h later f connections grows in
     let last : (block : ℕ) → latest later.connections block ≡ latest h.connections block =
     λ block. ap (λ (l : List PrimaryConnection). latest l block) connections
@@ -65,7 +65,7 @@ account-shuts h later f standing accounted known connections writes grows stream
           let there = latest-at h.connections block touch was in
           let clean = marks block unmarked in
           elim (accounted.settled block touch clean.0 was) [
-            | inl sure ↦ inl (sure-carries h later block touch grow there is sure)
+            | inl sure ↦ inl (sure-carries h later block touch grow falls there is sure)
             | inr held ↦ absurd (
                 let a : Accepted = held.1 in
                 let home = accounted.known.tracked.homes.housed held.0 touch.connection touch.place a held.2 held.3 in
@@ -103,7 +103,7 @@ account-closes h standing accounted known = account-shuts h (closing h) (λ c. r
     (begins-self (primary_connection h).taken) refl refl refl (λ new. tuple-stays (primary_connection h).loss h.tuple (primary_connection h).begun new)
     (λ block unmarked.
     let parts = close-parts h block unmarked in
-    (parts.0, λ i a at held. none-unreleased h block i a parts.1 at held))
+    (parts.0, λ i a at held. none-unreleased h block i a parts.1 at held)) (λ faithful. faithful)
 
 -- A refused frame releases nothing.
 
@@ -173,7 +173,7 @@ account-refuses h frame peer standing accounted known =
       parts.0,
       λ i a at held. none-unreleased before block i a parts.1 at (same-released h before g accounted.known.tracked.homes twice refl frames refl i a at
           ∙ held),
-    ))
+    )) (λ faithful. faithful)
 
 -- A write is accepted.
 
@@ -197,6 +197,7 @@ account-submits h first contents accounted known = go (is_established (primary_c
           grow = λ k c at. (c, at, grows-self c);
           former = λ k d at. inl (d, at, λ c. c, begins-self d.taken);
           writes = stay-and-one h.writes added;
+          faithful = λ faithful. faithful;
         } in
         let keeps : KeepsBegun h later = record { forward = λ k c at was. (c, at, was, begins-self c.taken); back = λ k d at. inl (d, at, refl) } in
         let clean : (block : ℕ) → later.marks block ≡ false → h.marks block ≡ false = λ block unmarked. (unmarked-by w h.marks block unmarked).0 in
@@ -225,7 +226,7 @@ account-submits h first contents accounted known = go (is_established (primary_c
           closed = λ x. x;
           taken = begins-self (primary_connection h).taken;
         } in
-        let carries : Carries h later = carries-change h later f refl (stay-and-one h.writes added) keeps in
+        let carries : Carries h later = carries-change h later f refl (stay-and-one h.writes added) keeps (λ faithful. faithful) in
         let there : slice_get later.connections k0 ≡ Some (f (primary_connection h)) = get-last-changed f (no_primary_connection h.tuple) h.connections
         (primary_connection h)
         (open-at h standing.0) refl in

@@ -19,7 +19,7 @@ use Rattle.laws.proofs.Primary.FirstStreams.{first-now, first-stays}
 use Rattle.laws.proofs.Blocks.Latest.{latest}
 use Rattle.laws.proofs.Blocks.LatestMoves.{latest-same-last, latest-appended}
 use Rattle.laws.proofs.Tracked.Kept.{IsKnown}
-use Rattle.laws.proofs.Accounted.{IsAccounted}
+use Rattle.laws.proofs.Accounted.{IsAccounted, IsTrue}
 use Rattle.laws.proofs.Accounted.Steps.{KeepsEnd, open-plain, carries-change, Began, accounted-from}
 use Rattle.laws.proofs.Blocks.Ranges.{touches-nothing}
 use Rattle.laws.proofs.Primary.Ends.{frames-taking}
@@ -39,6 +39,7 @@ record Begins (h later : PrimaryHistory) (peer : Tuple) (decided : Decision) (f 
   last : (block : ℕ) → latest later.connections block ≡ latest h.connections block
   marks : (block : ℕ) → block < later.settings.blocks → later.marks block ≡ false → h.marks block ≡ false
   full : decided ≡ FullSync → (block : ℕ) → block < later.settings.blocks → later.marks block ≡ false → ⊥
+  falls : IsTrue later.faithful → IsTrue h.faithful
 
 -- the streams that began are those of before and this one
 began-begins : (h later : PrimaryHistory) (peer : Tuple) (decided : Decision) (f : PrimaryConnection → PrimaryConnection)
@@ -78,7 +79,7 @@ account-beginning h later peer decided f standing new is accounted known b =
       taken = taken;
     } in
     accounted-from h later accounted known
-    (carries-change h later f b.connections (λ i a at. (a, subst (λ ws. slice_get ws i ≡ Some a) (sym b.writes) at, refl, refl, λ w. w)) keeps)
+    (carries-change h later f b.connections (λ i a at. (a, subst (λ ws. slice_get ws i ≡ Some a) (sym b.writes) at, refl, refl, λ w. w)) keeps b.falls)
     (λ i a at. (a, subst (λ ws. slice_get ws i ≡ Some a) b.writes at, refl, refl, λ w. w)) b.settings b.opening_marks
     (began-begins h later peer decided f standing new is accounted b) b.marks (λ block unmarked. b.last block)
 
@@ -121,6 +122,7 @@ account-begins h peer decided standing new is accounted = go decided is
           settings = refl;
           opening_marks = refl;
           opening_tuple = refl;
+          falls = λ faithful. faithful;
           closed = refl;
           begun = refl;
           taken = refl;
@@ -146,6 +148,7 @@ account-begins h peer decided standing new is accounted = go decided is
           settings = refl;
           opening_marks = refl;
           opening_tuple = refl;
+          falls = λ faithful. faithful;
           closed = refl;
           begun = refl;
           taken = refl;
@@ -170,6 +173,7 @@ account-begins h peer decided standing new is accounted = go decided is
           settings = refl;
           opening_marks = refl;
           opening_tuple = refl;
+          falls = λ faithful. faithful;
           closed = refl;
           begun = refl;
           taken = refl;

@@ -44,6 +44,10 @@ use Rattle.laws.proofs.Blocks.Ranges.{touches-nothing}
 use Rattle.laws.proofs.Primary.Ends.{established-parts, accepted-all}
 use Rattle.laws.proofs.Primary.HomesFollowing.{runs-begun}
 use Rattle.std.proofs.lemmas.Option.{slice_get_past}
+use Rattle.model.specs.PrimarySteps.{copying}
+use Rattle.model.specs.PrimarySteps.{given}
+use Rattle.std.proofs.Common.{IsTrue}
+use Rattle.std.proofs.Common.{is_none}
 
 -- A new connection has an empty stream.
 carries-open : (h : PrimaryHistory) (sync loss : ℕ) → Carries h (opened h sync loss)
@@ -58,6 +62,7 @@ carries-open h sync loss =
                 (subst (λ (n : ℕ). slice_get h.connections n ≡ None) (sym added.0) (slice_get_past h.connections (length h.connections) (omega arith)))
           ];
       writes = λ i a at. (a, at, refl, refl, λ w. w);
+      faithful = λ faithful. faithful;
     }
 
 pub keeps-open : (h : PrimaryHistory) (sync loss : ℕ) → KeepsBegun h (opened h sync loss)
@@ -127,18 +132,18 @@ resynced-now h ack contents plain same =
 -- What follows a step's effect.
 account-completions : (h : PrimaryHistory) → IsAccounted h → IsAccounted (with_completions h)
 account-completions h accounted = accounted-still h (with_completions h) accounted (known-completions h accounted.known) refl
-    (keeps-writes h.writes) refl refl refl (λ none. refl) (λ block unmarked. unmarked)
+    (keeps-writes h.writes) refl refl refl (λ none. refl) (λ block unmarked. unmarked) (λ faithful. faithful)
 
 account-parting : (g : PrimaryHistory) → epoch_is_over g ≡ true → IsAccounted g
     → IsAccounted (appending (BarrierItem (last_epoch (primary_connection g).stream)) g)
 account-parting g over accounted = accounted-appending g (appending (BarrierItem (last_epoch (primary_connection g).stream)) g)
     (BarrierItem (last_epoch (primary_connection g).stream)) (λ block unmarked. touches-nothing 0 block) accounted (known-parting g over accounted.known)
-    (established-parts (primary_connection g) (over-standing g over)).1 refl refl refl refl refl refl
+    (established-parts (primary_connection g) (over-standing g over)).1 refl refl refl refl refl refl (λ faithful. faithful)
 
 account-ending : (g : PrimaryHistory) → resync_is_over g ≡ true → IsAccounted g → IsAccounted (ending_resync g)
 account-ending g over accounted =
     accounted-appending g (ending_resync g) (UuidsItem (sync_end g.tuple)) (λ block unmarked. touches-nothing 0 block) accounted
-    (known-ending g over accounted.known) (runs-begun g over) refl refl refl refl refl refl
+    (known-ending g over accounted.known) (runs-begun g over) refl refl refl refl refl refl (λ faithful. faithful)
 
 account-following : (h : PrimaryHistory) → IsAccounted h → IsAccounted (follows h).history
 account-following = following-from IsAccounted IsAccounted IsAccounted account-completions account-parting (λ g on a. a) account-ending (λ g a. a)
@@ -154,7 +159,7 @@ account-opens h sync loss closed fresh accounted = accounted-carries h (opened h
 account-writes : (h : PrimaryHistory) (number : ℕ) → is_unfinished h number ≡ true → IsAccounted h → IsAccounted (with_outcome number OnDisk h)
 account-writes h number waits accounted =
     accounted-still h (with_outcome number OnDisk h) accounted (known-kept.writes h number waits accounted.known) refl
-    (keeps-outcome number OnDisk h.writes refl) refl refl refl (λ none. refl) (λ block unmarked. unmarked)
+    (keeps-outcome number OnDisk h.writes refl) refl refl refl (λ none. refl) (λ block unmarked. unmarked) (λ faithful. faithful)
 
 account-faults : (h : PrimaryHistory) (number : ℕ) (offsets : List ℕ) → is_unfinished h number ≡ true → IsAccounted h → IsAccounted (faulted number offsets h)
 account-faults h number offsets waits accounted = go (accepted_at h number) (known-kept.faults h number offsets waits accounted.known)
@@ -166,32 +171,32 @@ account-faults h number offsets waits accounted = go (accepted_at h number) (kno
     go (Some failed) known = accounted-still h
         (with_outcome number (Failed (within (length failed.write.contents) offsets)) (record h { marks = marking failed.write h.marks })) accounted known refl
         (keeps-outcome number (Failed (within (length failed.write.contents) offsets)) h.writes refl) refl refl refl (λ none. refl)
-        (λ block unmarked. (unmarked-by failed.write h.marks block unmarked).0)
+        (λ block unmarked. (unmarked-by failed.write h.marks block unmarked).0) (λ faithful. faithful)
 
 account-change : (h later : PrimaryHistory) (f : PrimaryConnection → PrimaryConnection) → IsAccounted h → IsKnown later
     → later.connections ≡ change_last f h.connections
     → KeepsEnd (primary_connection h) (f (primary_connection h))
     → (f (primary_connection h)).begun ≡ (primary_connection h).begun → (f (primary_connection h)).stream ≡ (primary_connection h).stream
     → later.writes ≡ h.writes → later.settings ≡ h.settings → later.opening_marks ≡ h.opening_marks → later.opening_tuple ≡ h.opening_tuple
-    → later.tuple ≡ h.tuple → later.marks ≡ h.marks → IsAccounted later
-account-change h later f accounted known connections keeps begun stream writes settings opening_marks opening_tuple tuple marks =
+    → later.tuple ≡ h.tuple → later.marks ≡ h.marks → (IsTrue later.faithful → IsTrue h.faithful) → IsAccounted later
+account-change h later f accounted known connections keeps begun stream writes settings opening_marks opening_tuple tuple marks falls =
     accounted-change h later f accounted known connections (subst (KeepsWrites h.writes) (sym writes) (keeps-writes h.writes)) keeps begun stream settings
     opening_marks opening_tuple (λ none. tuple)
-    (λ block unmarked. ap (λ (m : ℕ → Bool). m block) (sym marks) ∙ unmarked)
+    (λ block unmarked. ap (λ (m : ℕ → Bool). m block) (sym marks) ∙ unmarked) falls
 
 account-frame : (h : PrimaryHistory) (frame : Received) → (primary_connection h).closed ≡ false → IsKnown (with_primary_connection (with_frame frame) h)
     → IsAccounted h
     → IsAccounted (with_primary_connection (with_frame frame) h)
 account-frame h frame standing known accounted =
     account-change h (with_primary_connection (with_frame frame) h) (with_frame frame) accounted known refl
-    (keeps-taken (primary_connection h) frame (open-plain h accounted.known.tracked.homes standing)) refl refl refl refl refl refl refl refl
+    (keeps-taken (primary_connection h) frame (open-plain h accounted.known.tracked.homes standing)) refl refl refl refl refl refl refl refl (λ faithful. faithful)
 
-account-resyncs : (h : PrimaryHistory) (block : ℕ) → resync_runs (primary_connection h) ≡ true → nat_lt 0 (length (under_way (primary_connection h))) ≡ false
+account-resyncs : (h : PrimaryHistory) (block : ℕ) (read : Option (List ℕ)) → resync_runs (primary_connection h) ≡ true → nat_lt 0 (length (under_way (primary_connection h))) ≡ false
     → free_block h ≡ Some block → IsAccounted h
-    → IsAccounted (appending (ResyncItem block (unwrap_or (local_map h block) [])) h)
-account-resyncs h block runs alone is accounted = accounted-appending h (appending (ResyncItem block (unwrap_or (local_map h block) [])) h)
-    (ResyncItem block (unwrap_or (local_map h block) []))
-    (λ other unmarked. elim (cases_Bool (touches (ResyncItem block (unwrap_or (local_map h block) [])) other)) [
+    → IsAccounted (copying read block h)
+account-resyncs h block read runs alone is accounted = accounted-appending h (copying read block h)
+    (ResyncItem block (given read h block))
+    (λ other unmarked. elim (cases_Bool (touches (ResyncItem block (given read h block)) other)) [
       | inr outside ↦ outside
       | inl inside ↦ absurd (
           let parts = and_parts (nat_le block other) (nat_lt other (block + 1)) inside in
@@ -199,9 +204,9 @@ account-resyncs h block runs alone is accounted = accounted-appending h (appendi
           let before : other < block + 1 = ltb-true other (block + 1) parts.1 in
           let same : block ≡ other = omega arith in
           both_ways (h.marks other) unmarked (subst (λ (b : ℕ). h.marks b ≡ true) same (free-found h block is).marked))
-    ]) accounted (known-kept.resyncs h block runs alone is accounted.known)
+    ]) accounted (known-kept.resyncs h block read tt runs alone is accounted.known)
     (established-parts (primary_connection h) (and_parts (is_established (primary_connection h)) (in_resync (primary_connection h).stream) runs).0).1 refl refl
-    refl refl refl refl
+    refl refl refl refl (λ faithful. (and_parts (is_none read) h.faithful faithful).1)
 
 -- A block of a resync is acknowledged: it was under way, so it is the last item there, and sure now.
 account-clears : (h : PrimaryHistory) (ack : Acknowledged) → (primary_connection h).closed ≡ false → (primary_connection h).begun ≡ true
@@ -212,7 +217,7 @@ account-clears h ack standing begun may accounted =
     let later : PrimaryHistory = record (with_primary_connection (with_frame (Ok (RsWriteAckFrame ack))) h) { marks = clearing ack.first h.marks } in
     let known : IsKnown later = known-kept.clears h ack standing begun may accounted.known in
     let keeps = keeps-taken (primary_connection h) (Ok (RsWriteAckFrame ack)) (open-plain h accounted.known.tracked.homes standing) in
-    let carries : Carries h later = carries-change h later (with_frame (Ok (RsWriteAckFrame ack))) refl (keeps-writes h.writes).forward keeps in
+    let carries : Carries h later = carries-change h later (with_frame (Ok (RsWriteAckFrame ack))) refl (keeps-writes h.writes).forward keeps (λ faithful. faithful) in
     let last : (block : ℕ) → latest later.connections block ≡ latest h.connections block = λ block. latest-same-last (no_primary_connection h.tuple)
     (with_frame (Ok (RsWriteAckFrame ack))) h.connections block refl in
     let named = named-item h ack standing begun may in
@@ -260,7 +265,7 @@ account-clears h ack standing begun may accounted =
                 let sure : is_sure (with_frame (Ok (RsWriteAckFrame ack)) (primary_connection h)) touch.place touch.item ≡ true =
                 subst (λ (t : Touch). is_sure (with_frame (Ok (RsWriteAckFrame ack)) (primary_connection h)) t.place t.item ≡ true) (sym one)
                 (resynced-now h ack named.0 (open-plain h accounted.known.tracked.homes standing) named.2) in
-                sure-last later.connections block touch (with_frame (Ok (RsWriteAckFrame ack)) (primary_connection h)) is
+                sure-last later.faithful later.connections block touch (with_frame (Ok (RsWriteAckFrame ack)) (primary_connection h)) is
                 (subst (λ (t : Touch). slice_get later.connections t.connection ≡ Some (with_frame (Ok (RsWriteAckFrame ack)) (primary_connection h)))
                 (sym one) at)
                 sure)
@@ -285,7 +290,7 @@ accounted-kept = record {
   writes = account-writes;
   faults = account-faults;
   sends = λ h standing due a. account-change h (with_primary_connection pushing h) pushing a (known-kept.sends h standing due a.known) refl
-      (keeps-pushed (primary_connection h)) refl refl refl refl refl refl refl refl;
+      (keeps-pushed (primary_connection h)) refl refl refl refl refl refl refl refl (λ faithful. faithful);
   greets = λ h frame standing new met a. account-frame h frame standing (known-kept.greets h frame standing new met a.known) a;
   begins = λ h peer decided standing new late is fresh a. account-begins h peer decided standing new is a
       (known-kept.begins h peer decided standing new late is fresh a.known);
@@ -295,7 +300,7 @@ accounted-kept = record {
   confirms = λ h number size standing begun turn a. account-frame h (Ok (BarrierAckFrame number size)) standing
       (known-kept.confirms h number size standing begun turn a.known) a;
   refuses = λ h frame peer standing a. account-refuses h frame peer standing a (known-kept.refuses h frame peer standing a.known);
-  resyncs = account-resyncs;
+  resyncs = λ h block read may runs alone is a. account-resyncs h block read runs alone is a;
   closes = λ h standing a. account-closes h standing a (known-kept.closes h standing a.known);
   receipts = λ h number a. record {
     known = known-kept.receipts h number a.known;

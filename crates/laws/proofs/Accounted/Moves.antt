@@ -1,5 +1,5 @@
 -- What accounts for an unmarked block, carried over the moves of a primary that close nothing and clear nothing.
-use Rattle.std.proofs.Common.{ℕ, ◌≡◌, ◌⊎◌, inl, inr, true, false, List, ◌++◌, Option, Some, None, slice_get, Ok, refl, sym, ◌∙◌, subst, arith}
+use Rattle.std.proofs.Common.{ℕ, ◌≡◌, ◌⊎◌, inl, inr, true, false, List, ◌++◌, Option, Some, None, slice_get, Ok, refl, sym, ◌∙◌, subst, arith, IsTrue}
 use Rattle.std.proofs.lemmas.Bool.{cases_Bool, both_ways}
 use Rattle.std.proofs.lemmas.Option.{slice_get_within}
 use Rattle.blocks.specs.Positions.{StreamPosition}
@@ -25,10 +25,11 @@ IsThere connections block touch = (c : PrimaryConnection) × (slice_get connecti
     × (touches touch.item block ≡ true)
 
 -- what is sure stays so where connections grow
-pub sure-carries : (h later : PrimaryHistory) (block : ℕ) (touch : Touch) → AllGrow h.connections later.connections → IsThere h.connections block touch
-    → latest later.connections block ≡ Some touch → IsSure h.connections block touch
-    → IsSure later.connections block touch
-sure-carries h later block touch grow there last sure =
+pub sure-carries : (h later : PrimaryHistory) (block : ℕ) (touch : Touch) → AllGrow h.connections later.connections → (IsTrue later.faithful → IsTrue h.faithful)
+    → IsThere h.connections block touch
+    → latest later.connections block ≡ Some touch → IsSure h.faithful h.connections block touch
+    → IsSure later.faithful later.connections block touch
+sure-carries h later block touch grow falls there last sure =
     let new = grow touch.connection sure.end sure.at in
     let more : sure.end.stream ++ new.2.stream.0 ≡ new.0.stream = new.2.stream.1 in
     let end : there.0 ≡ sure.end = same-at h.connections touch.connection there.0 sure.end there.1 sure.at in
@@ -43,9 +44,9 @@ sure-carries h later block touch grow there last sure =
           (get-left sure.end.stream new.2.stream.0 sure.place sure.item sure.there);
       touched = sure.touched;
       sure = sure-grows sure.end new.0 sure.place sure.item new.2 sure.there sure.sure;
-      same = λ next i behind found touched. elim
+      same = λ faithful next i behind found touched. elim
           (get-split sure.end.stream new.2.stream.0 next i (subst (λ (l : List StreamItem). slice_get l next ≡ Some i) (sym more) found)) [
-            | inl old ↦ sure.same next i behind old touched
+            | inl old ↦ sure.same (falls faithful) next i behind old touched
             | inr added ↦ absurd (elim (latest-last later.connections block touch last touch.connection next new.0 i new.1 found touched) [
               | inl before ↦ omega arith
               | inr here ↦ let past = added.1 in let low = here.1 in omega arith
@@ -73,7 +74,7 @@ alone-before h later i a b homes carries at same alone = go a.home refl
 -- A write that is not released stays so, or its item is sure then; unless it waited without a connection.
 held-carries : (h later : PrimaryHistory) (block : ℕ) (touch : Touch) → HasHomes h → Carries h later → IsThere h.connections block touch
     → latest later.connections block ≡ Some touch → (held : IsHeld h touch)
-    → (is_alone h held.1 ≡ true → is_waiting held.1.outcome ≡ true → ⊥) → IsSure later.connections block touch ⊎ IsHeld later touch
+    → (is_alone h held.1 ≡ true → is_waiting held.1.outcome ≡ true → ⊥) → IsSure later.faithful later.connections block touch ⊎ IsHeld later touch
 held-carries h later block touch homes carries there last held free =
     let a : Accepted = held.1 in
     let new = carries.writes held.0 a held.2 in
@@ -90,7 +91,7 @@ held-carries h later block touch homes carries there last held free =
                 let item : WriteItem a.write ≡ touch.item = same-at was.0.stream touch.place (WriteItem a.write) touch.item was.2
                 (subst (λ (c : PrimaryConnection). slice_get c.stream touch.place ≡ Some touch.item) same there.2) in
                 let grown = carries.grow touch.connection was.0 was.1 in
-                inl (sure-last later.connections block touch grown.0 last grown.1
+                inl (sure-last later.faithful later.connections block touch grown.0 last grown.1
                 (subst (λ (x : StreamItem). is_sure grown.0 touch.place x ≡ true) item
                 (sym (confirmed-at later b (record { index = touch.connection; place = touch.place }) grown.0 home grown.1) ∙ confirmed)))
             | inr alone ↦ absurd (
@@ -107,11 +108,11 @@ held-carries h later block touch homes carries there last held free =
 -- on an unmarked block, so it is settled still
 pub settled-carries : (h later : PrimaryHistory) (block : ℕ) (touch : Touch) → IsAccounted h → Carries h later → IsThere h.connections block touch
     → h.marks block ≡ false
-    → latest h.connections block ≡ Some touch → latest later.connections block ≡ Some touch → IsSure later.connections block touch ⊎ IsHeld later touch
+    → latest h.connections block ≡ Some touch → latest later.connections block ≡ Some touch → IsSure later.faithful later.connections block touch ⊎ IsHeld later touch
 settled-carries h later block touch accounted carries there unmarked last still =
     let homes = accounted.known.tracked.homes in
     elim (accounted.settled block touch unmarked last) [
-      | inl sure ↦ inl (sure-carries h later block touch carries.grow there still sure)
+      | inl sure ↦ inl (sure-carries h later block touch carries.grow carries.faithful there still sure)
       | inr held ↦ held-carries h later block touch homes carries there still held (λ alone waits.
           let a : Accepted = held.1 in
           let was = homes.housed held.0 touch.connection touch.place a held.2 held.3 in

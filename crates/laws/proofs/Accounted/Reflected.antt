@@ -18,10 +18,11 @@ use Rattle.laws.proofs.Accounted.{IsAccounted, held-covers}
 use Rattle.laws.proofs.Accounted.Steps.{covered-inside}
 use Rattle.laws.proofs.Lists.Elements.{same-at}
 use Rattle.laws.proofs.Rules.Releases.{freed-alone, released-by, held-waiting}
+use Rattle.std.proofs.Common.{IsTrue}
 
 -- A block that is neither marked nor under an unreleased write.
-pub reflected : (h : PrimaryHistory) (block : ℕ) → IsAccounted h → is_covered h block ≡ false → FromItem h block ⊎ FromOpening h block
-reflected h block a clean = elim (cases_lt block h.settings.blocks) [
+pub reflected : (h : PrimaryHistory) (block : ℕ) → IsAccounted h → IsTrue h.faithful → is_covered h block ≡ false → FromItem h block ⊎ FromOpening h block
+reflected h block a faithful clean = elim (cases_lt block h.settings.blocks) [
   | inr past ↦
       let out = beyond-the-end h block a.known.tracked past in
       inr (record {
@@ -40,21 +41,21 @@ reflected h block a clean = elim (cases_lt block h.settings.blocks) [
         | inr not_so ↦ not_so
       ] in
       let same : sent_map h block ≡ local_map h block =
-      a.known.tracked.equal block inside unmarked
+      a.known.tracked.equal block inside unmarked faithful
       ∙ settled-is-local h block (λ i accepted at waits. free i accepted at (held-waiting h accepted waits)) in
-      by-last h block a inside unmarked free same (latest h.connections block) refl
+      by-last h block a faithful inside unmarked free same (latest h.connections block) refl
 ]
   where
-    by-last : (h : PrimaryHistory) (block : ℕ) → IsAccounted h → block < h.settings.blocks → h.marks block ≡ false
+    by-last : (h : PrimaryHistory) (block : ℕ) → IsAccounted h → IsTrue h.faithful → block < h.settings.blocks → h.marks block ≡ false
         → ((i : ℕ) (accepted : Accepted) → slice_get h.writes i ≡ Some accepted → is_released h accepted ≡ false → covers accepted.write block ≡ false)
         → sent_map h block ≡ local_map h block → (v : Option Touch) → latest h.connections block ≡ v → FromItem h block ⊎ FromOpening h block
-    by-last h block a inside unmarked free same None is = inr (record {
+    by-last h block a faithful inside unmarked free same None is = inr (record {
       content = sym (ap (content_of (h.opening_map block) block) is) ∙ same;
       unmarked = ap (λ b. b && h.opening_marks block) (lt-ltb block h.settings.blocks inside) ∙ a.untouched block inside unmarked is;
       items = λ k place c i at there touched. absurd (both_ways (touches i block) (latest-none h.connections block is k place c i at there) touched);
       began = elim a.began [ inl none ↦ inl none | inr first ↦ inr (first.0, first.1, λ within full. first.2 full block within unmarked is) ];
     })
-    by-last h block a inside unmarked free same (Some touch) is =
+    by-last h block a faithful inside unmarked free same (Some touch) is =
         let there = latest-at h.connections block touch is in
         elim (a.settled block touch unmarked is) [
           | inr held ↦ absurd (
@@ -75,7 +76,7 @@ reflected h block a clean = elim (cases_lt block h.settings.blocks) [
                 there = sure.there;
                 touched = sure.touched;
                 sure = sure.sure;
-                content = sure.same sure.place sure.item (omega arith) sure.there sure.touched ∙ last;
+                content = sure.same faithful sure.place sure.item (omega arith) sure.there sure.touched ∙ last;
                 later = λ other next c i at is_established touched after. elim after [
                   | inl beyond_it ↦ absurd (elim (latest-last h.connections block touch is other next c i at is_established touched)
                       [ inl before ↦ omega arith | inr here ↦ let e = here.0 in omega arith ])
@@ -83,7 +84,7 @@ reflected h block a clean = elim (cases_lt block h.settings.blocks) [
                       let less = behind.1 in
                       let end : c ≡ sure.end = same-at h.connections touch.connection c sure.end
                       (subst (λ (n : ℕ). slice_get h.connections n ≡ Some c) (sym behind.0) at) sure.at in
-                      sure.same next i (omega arith) (subst (λ (x : PrimaryConnection). slice_get x.stream next ≡ Some i) end is_established) touched ∙ last
+                      sure.same faithful next i (omega arith) (subst (λ (x : PrimaryConnection). slice_get x.stream next ≡ Some i) end is_established) touched ∙ last
                 ];
               })
         ]

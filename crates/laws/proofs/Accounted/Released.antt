@@ -44,7 +44,7 @@ done-with h block i b order c at covered waits = elim (cases_lt c.index i) [
 
 -- the last write on a block that is cleared is sure, and what is sent behind it is the same
 sure-cleared : (h : PrimaryHistory) (block : ℕ) (touch : Touch) → IsAccounted h → IsInOrder h → IsCleared h block → latest h.connections block ≡ Some touch
-    → IsSure h.connections block touch
+    → IsSure h.faithful h.connections block touch
 sure-cleared h block touch a order c is =
     let last = latest-since h block a.known.tracked order c touch is in
     record {
@@ -55,8 +55,8 @@ sure-cleared h block touch a order c is =
       there = c.there;
       touched = c.covered;
       sure = c.confirmed;
-      same = λ next i from found touched. sent-since h block a.known.tracked order c next i from found touched
-          ∙ sym (sent-since h block a.known.tracked order c touch.place touch.item last.1.0 last.1.1.0 last.1.1.1);
+      same = λ faithful next i from found touched. sent-since h block a.known.tracked order c next i from found touched faithful
+          ∙ sym (sent-since h block a.known.tracked order c touch.place touch.item last.1.0 last.1.1.0 last.1.1.1 faithful);
     }
 
 account-release : (h later : PrimaryHistory) → ((block : ℕ) → is_cleared h later block ≡ true → IsCleared later block) → IsInOrder later

@@ -24,6 +24,7 @@ use Rattle.laws.proofs.Accounted.{IsAccounted, Carries, KeepsBegun}
 use Rattle.laws.proofs.Accounted.Moves.{ComeFrom, settled-carries, waiting-carries, none-carries, first-carries}
 use Rattle.laws.proofs.Primary.Ends.{not-refused, frames-taking}
 use Rattle.laws.proofs.Primary.Writes.{KeepsWrites, keeps-writes}
+use Rattle.std.proofs.Common.{IsTrue}
 
 -- What a move has to keep of the connection that it changes.
 pub record KeepsEnd (c d : PrimaryConnection) : Type 0 where
@@ -49,8 +50,8 @@ grows-change h later f connections grows = subst (AllGrow h.connections) (sym co
 -- a change of the last connection that keeps its end carries what accounts for a block
 pub carries-change : (h later : PrimaryHistory) (f : PrimaryConnection → PrimaryConnection) → later.connections ≡ change_last f h.connections
     → StayThere h.writes later.writes
-    → KeepsEnd (primary_connection h) (f (primary_connection h)) → Carries h later
-carries-change h later f connections writes keeps = record {
+    → KeepsEnd (primary_connection h) (f (primary_connection h)) → (IsTrue later.faithful → IsTrue h.faithful) → Carries h later
+carries-change h later f connections writes keeps falls = record {
   grow = grows-change h later f connections keeps.grows;
   former = λ k d at. elim (get-change-back f (no_primary_connection h.tuple) h.connections k d
       (subst (λ (l : List PrimaryConnection). slice_get l k ≡ Some d) connections at)) [
@@ -63,6 +64,7 @@ carries-change h later f connections writes keeps = record {
         )
       ];
   writes = writes;
+  faithful = falls;
 }
 
 -- a change of the last connection that begins nothing
@@ -159,9 +161,9 @@ pub accounted-change : (h later : PrimaryHistory) (f : PrimaryConnection → Pri
     → (f (primary_connection h)).begun ≡ (primary_connection h).begun
     → (f (primary_connection h)).stream ≡ (primary_connection h).stream
     → later.settings ≡ h.settings → later.opening_marks ≡ h.opening_marks → later.opening_tuple ≡ h.opening_tuple → (NoneBegan h → later.tuple ≡ h.tuple)
-    → ((block : ℕ) → later.marks block ≡ false → h.marks block ≡ false) → IsAccounted later
-accounted-change h later f accounted known connections writes keeps begun stream settings opening_marks opening_tuple tuple marks =
-    accounted-carries h later accounted known (carries-change h later f connections writes.forward keeps) writes.back
+    → ((block : ℕ) → later.marks block ≡ false → h.marks block ≡ false) → (IsTrue later.faithful → IsTrue h.faithful) → IsAccounted later
+accounted-change h later f accounted known connections writes keeps begun stream settings opening_marks opening_tuple tuple marks falls =
+    accounted-carries h later accounted known (carries-change h later f connections writes.forward keeps falls) writes.back
     (begun-change h later f connections begun keeps.taken) settings opening_marks opening_tuple tuple marks
     (λ block unmarked. ap (λ (l : List PrimaryConnection). latest l block) connections
     ∙ latest-same-last (no_primary_connection h.tuple) f h.connections block stream)
@@ -174,10 +176,10 @@ keeps-end c = record { grows = grows-self c; closed = λ x. x; taken = begins-se
 pub accounted-still : (h later : PrimaryHistory) → IsAccounted h → IsKnown later → later.connections ≡ h.connections → KeepsWrites h.writes later.writes
     → later.settings ≡ h.settings
     → later.opening_marks ≡ h.opening_marks → later.opening_tuple ≡ h.opening_tuple
-    → (NoneBegan h → later.tuple ≡ h.tuple) → ((block : ℕ) → later.marks block ≡ false → h.marks block ≡ false) → IsAccounted later
-accounted-still h later accounted known connections writes settings opening_marks opening_tuple tuple marks =
+    → (NoneBegan h → later.tuple ≡ h.tuple) → ((block : ℕ) → later.marks block ≡ false → h.marks block ≡ false) → (IsTrue later.faithful → IsTrue h.faithful) → IsAccounted later
+accounted-still h later accounted known connections writes settings opening_marks opening_tuple tuple marks falls =
     accounted-change h later (λ c. c) accounted known (connections
-    ∙ sym (change-none h.connections)) writes (keeps-end (primary_connection h)) refl refl settings opening_marks opening_tuple tuple marks
+    ∙ sym (change-none h.connections)) writes (keeps-end (primary_connection h)) refl refl settings opening_marks opening_tuple tuple marks falls
 
 -- one more frame was pushed, or taken
 pub keeps-pushed : (c : PrimaryConnection) → KeepsEnd c (pushing c)
@@ -217,8 +219,8 @@ pub accounted-appending : (h later : PrimaryHistory) (item : StreamItem) → ((b
     → IsKnown later
     → (primary_connection h).begun ≡ true → later.connections ≡ change_last (λ c. record c { stream = c.stream ++ item ∷ [] }) h.connections
     → later.writes ≡ h.writes → later.settings ≡ h.settings → later.opening_marks ≡ h.opening_marks → later.opening_tuple ≡ h.opening_tuple
-    → later.marks ≡ h.marks → IsAccounted later
-accounted-appending h later item none accounted known begun connections writes settings opening_marks opening_tuple marks =
+    → later.marks ≡ h.marks → (IsTrue later.faithful → IsTrue h.faithful) → IsAccounted later
+accounted-appending h later item none accounted known begun connections writes settings opening_marks opening_tuple marks falls =
     let f : PrimaryConnection → PrimaryConnection = λ c. record c { stream = c.stream ++ item ∷ [] } in
     let keeps : KeepsEnd (primary_connection h) (f (primary_connection h)) =
     record {
@@ -227,7 +229,7 @@ accounted-appending h later item none accounted known begun connections writes s
       taken = begins-self (primary_connection h).taken;
     } in
     let kept : KeepsWrites h.writes later.writes = subst (KeepsWrites h.writes) (sym writes) (keeps-writes h.writes) in
-    accounted-carries h later accounted known (carries-change h later f connections kept.forward keeps) kept.back
+    accounted-carries h later accounted known (carries-change h later f connections kept.forward keeps falls) kept.back
     (begun-change h later f connections refl keeps.taken) settings opening_marks opening_tuple
     (λ began. absurd (both_ways (primary_connection h).begun (began.none (length h.connections - 1) (primary_connection h) (begun-at h begun)) begun))
     (λ block unmarked. ap (λ (m : ℕ → Bool). m block) (sym marks) ∙ unmarked)

@@ -141,7 +141,7 @@ unmarked-agree o here there sound joined grounded block clean began =
           let out : nat_lt block o.settings.blocks ≡ false =
           elim (cases_Bool (nat_lt block o.settings.blocks))
           [ inr outside ↦ outside | inl inside ↦ absurd (let less = ltb-true block o.settings.blocks inside in omega arith) ] in
-          elim grounded [
+          elim grounded.1 [
             | inr cover ↦ ap (λ (m : BlockMap). m block) (sym mine.disk)
                 ∙ (covered-same (opening_marked p) p.opening_map s.opening_map block cover clean ∙ ap (λ (m : BlockMap). m block) theirs.disk)
             | inl begun ↦ elim began [
@@ -159,7 +159,7 @@ unmarked-agree o here there sound joined grounded block clean began =
           let bare : p.opening_marks block ≡ false = sym (ap (λ b. b && p.opening_marks block) within) ∙ clean in
           let unmarked : o.marks block ≡ false = ap (λ (m : ℕ → Bool). m block) (sym mine.marks) ∙ bare in
           let marked_not : marks_at o block ≡ false = and_right (nat_lt block o.settings.blocks) (o.marks block) unmarked in
-          elim grounded [
+          elim grounded.1 [
             | inr cover ↦ ap (λ (m : BlockMap). m block) (sym mine.disk)
                 ∙ (covered-same (opening_marked p) p.opening_map s.opening_map block cover clean ∙ ap (λ (m : BlockMap). m block) theirs.disk)
             | inl begun ↦ elim began [

@@ -66,7 +66,7 @@ opening-kept o = record {
   clears = λ h ack standing begun may a. kept o h _ refl refl refl refl a;
   confirms = λ h number size standing begun turn a. kept o h _ refl refl refl refl a;
   refuses = λ h frame peer standing a. kept o h _ refl refl refl refl a;
-  resyncs = λ h block runs alone is a. kept o h _ refl refl refl refl a;
+  resyncs = λ h block read may runs alone is a. kept o h _ refl refl refl refl a;
   closes = λ h standing a. kept o h _ refl refl refl refl a;
   receipts = λ h number a. kept o h _ refl refl refl refl a;
 }

@@ -53,6 +53,7 @@ use Rattle.laws.proofs.Joining.Ends.{AreEnds, joined-out, joined-back}
 use Rattle.laws.proofs.Secondary.Numbers.{AreCounted, numbers-rise}
 use Rattle.laws.proofs.Rules.Memory.{ack-in-has, receive-has}
 use Rattle.laws.proofs.Rules.RefusedFrames.{frame-has, item-has}
+use Rattle.model.specs.PrimarySteps.{copying}
 
 -- Two nodes whose ends of each connection are honest ones of a link.
 record AreHonest (settings : Settings) (p : PrimaryHistory) (s : SecondaryHistory) : Type 0 where
@@ -205,17 +206,17 @@ honest-send : (room out_of_memory : Bool) (h : PrimaryHistory) → IsHonestReply
 honest-send room out_of_memory h = by-tests (send_tests h room out_of_memory) h (λ _. succeeding (sending h) (with_primary_connection pushing h)) refl
     (λ none. tt)
 
-honest-resync : (out_of_memory : Bool) (h : PrimaryHistory) → IsHonestReply (resync_next out_of_memory h).0
+honest-resync : (out_of_memory : Bool) (h : PrimaryHistory) → IsHonestReply (resync_next None out_of_memory h).0
 honest-resync out_of_memory h = by-tests (resync_tests h out_of_memory) h (λ _. elim (free_block h) as (λ _. Reply × PrimaryHistory) [
   | None ↦ (reply.Refused NothingToDo, h)
   | Some block ↦ succeeding (what.Block (record { 0 = block }) (length (primary_connection h).stream))
-      (appending (ResyncItem block (unwrap_or (local_map h block) [])) h)
+      (copying None block h)
 ]) refl (λ none. go (free_block h))
   where
     go : (v : Option ℕ) → IsHonestReply (elim v as (λ _. Reply × PrimaryHistory) [
       | None ↦ (reply.Refused NothingToDo, h)
       | Some block ↦ succeeding (what.Block (record { 0 = block }) (length (primary_connection h).stream))
-          (appending (ResyncItem block (unwrap_or (local_map h block) [])) h)
+          (copying None block h)
     ]).0
     go None = refl
     go (Some block) = tt

@@ -35,6 +35,7 @@ use Rattle.laws.proofs.Joining.Taking.{read}
 use Rattle.laws.proofs.Lists.Pairs.{Pairs, pairs-here}
 use Rattle.laws.proofs.Rules.Memory.{may-send, ack-in-has}
 use Rattle.laws.proofs.Rules.RefusedFrames.{refusing, frame-has}
+use Rattle.model.specs.PrimarySteps.{copying}
 
 -- The connections of a primary are linked to these ends.
 pub record HasEnds (here there : Settings) (ends : List SecondaryConnection) (h : PrimaryHistory) : Type 0 where
@@ -222,21 +223,21 @@ module _ (here there : Settings) (ends : List SecondaryConnection) (none : Secon
       (subst (λ (s : Settings). (primary_connection h).pushed < length (frames_due s (primary_connection h))) e.settings due))))
 
   -- a resync block is appended
-  pub ends-resync : (out_of_memory : Bool) (h : PrimaryHistory) → HasEnds here there ends h → HasEnds here there ends (resync_next out_of_memory h).1
+  pub ends-resync : (out_of_memory : Bool) (h : PrimaryHistory) → HasEnds here there ends h → HasEnds here there ends (resync_next None out_of_memory h).1
   ends-resync out_of_memory h e = tested-keeps (HasEnds here there ends) h (resync_tests h out_of_memory)
       (λ _. elim (free_block h) as (λ _. Reply × PrimaryHistory) [
         | None ↦ (reply.Refused NothingToDo, h)
         | Some block ↦ succeeding (what.Block (record { 0 = block }) (length (primary_connection h).stream))
-            (appending (ResyncItem block (unwrap_or (local_map h block) [])) h)
+            (copying None block h)
       ]) e (λ passed. go (free_block h))
     where
       go : (v : Option ℕ) → HasEnds here there ends (elim v as (λ _. Reply × PrimaryHistory) [
         | None ↦ (reply.Refused NothingToDo, h)
         | Some block ↦ succeeding (what.Block (record { 0 = block }) (length (primary_connection h).stream))
-            (appending (ResyncItem block (unwrap_or (local_map h block) [])) h)
+            (copying None block h)
       ]).1
       go None = e
-      go (Some block) = ends-following (appending (ResyncItem block (unwrap_or (local_map h block) [])) h) (ends-appending _ h _ e refl refl)
+      go (Some block) = ends-following (copying None block h) (ends-appending _ h _ e refl refl)
 
   -- the read of a resync block fails
   pub ends-resync-fault : (out_of_memory : Bool) (h : PrimaryHistory) → HasEnds here there ends h → HasEnds here there ends (resync_fault out_of_memory h).1

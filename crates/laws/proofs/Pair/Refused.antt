@@ -43,6 +43,7 @@ use Rattle.laws.proofs.Primary.StaysClosed.{open-established}
 use Rattle.laws.proofs.Rules.ResyncEnds.{over-established}
 use Rattle.laws.proofs.Rules.Memory.{ack-in-has, receive-has}
 use Rattle.laws.proofs.Rules.RefusedFrames.{refusing, refused_end, frame-has, item-has}
+use Rattle.model.specs.PrimarySteps.{copying}
 
 -- a step that leaves what it was given, where it is refused
 abbrev IsSpared : {X : Type 0} → X → Reply × X → Type 0
@@ -314,17 +315,17 @@ spared-send room out_of_memory h = spared-tests (send_tests h room out_of_memory
 spared-block : (h : PrimaryHistory) (v : Option ℕ) → IsSpared h (elim v as (λ _. Reply × PrimaryHistory) [
   | None ↦ (reply.Refused NothingToDo, h)
   | Some block ↦ succeeding (what.Block (record { 0 = block }) (length (primary_connection h).stream))
-      (appending (ResyncItem block (unwrap_or (local_map h block) [])) h)
+      (copying None block h)
 ])
 spared-block h None = spared-same h NothingToDo
 spared-block h (Some block) = spared-ok h _ _
 
 -- the primary copies the next block
-spared-resync : (out_of_memory : Bool) (h : PrimaryHistory) → IsSpared h (resync_next out_of_memory h)
+spared-resync : (out_of_memory : Bool) (h : PrimaryHistory) → IsSpared h (resync_next None out_of_memory h)
 spared-resync out_of_memory h = spared-tests (resync_tests h out_of_memory) h (λ _. elim (free_block h) as (λ _. Reply × PrimaryHistory) [
   | None ↦ (reply.Refused NothingToDo, h)
   | Some block ↦ succeeding (what.Block (record { 0 = block }) (length (primary_connection h).stream))
-      (appending (ResyncItem block (unwrap_or (local_map h block) [])) h)
+      (copying None block h)
 ]) (spared-block h (free_block h))
 
 -- the local disk fails to read it

@@ -23,7 +23,8 @@ use Rattle.model.specs.Headline.{IsJoined, pushed_by, pushed_back_by}
 use Rattle.model.specs.Pair.{Event, OpenEvent, SubmitEvent, LocalEvent, LocalFaultEvent, SendEvent, ReceiveEvent, PeerEvent, PeerFaultEvent, AckOutEvent}
 use Rattle.model.specs.Pair.{AckInEvent, ResyncEvent, ResyncFaultEvent, ClosePrimaryEvent, CloseSecondaryEvent, PairHistory, has_room, next_frame}
 use Rattle.model.specs.Pair.{answers_have_room, next_answer, keeps_too_many, local_fault_kept, peer_fault_kept, open_pair_tests, open_pair, step, run}
-use Rattle.laws.proofs.Primary.Moves.{keeps-after}
+use Rattle.laws.proofs.Primary.Moves.{keeps-after, Reads}
+use Rattle.laws.proofs.Primary.Faithful.{AreOwn, own_read, own-append}
 use Rattle.laws.proofs.Primary.Homes.{HasHomes}
 use Rattle.laws.proofs.Primary.HomesMoves.{homes-kept, homes-released, homes-opening}
 use Rattle.laws.proofs.Pair.Links.{AreLinked}
@@ -50,20 +51,22 @@ pub record AreRuns (h later : PairHistory) : Type 0 where
   pub there : List SecondaryEvent
   pub primary : later.primary ≡ primary_run here h.primary
   pub secondary : later.secondary ≡ secondary_run there h.secondary
+  -- the resyncs copy what the local disk has
+  pub own : AreOwn here
 
 -- it does, and the pair is linked then
 abbrev LeadsTo : PairHistory → PairHistory → Type 0
 LeadsTo h later = AreRuns h later × IsLinkedPair later
 
 leads-self : (h : PairHistory) → IsLinkedPair h → LeadsTo h h
-leads-self h linked = (record { here = []; there = []; primary = refl; secondary = refl }, linked)
+leads-self h linked = (record { here = []; there = []; primary = refl; secondary = refl; own = tt }, linked)
 
 -- an event of the primary
-leads-primary : (h : PairHistory) (event : PrimaryEvent) → IsLinkedPair h
+leads-primary : (h : PairHistory) (event : PrimaryEvent) → Reads own_read event → IsLinkedPair h
     → HasEnds h.primary.settings h.secondary.settings h.secondary.connections (primary_after event h.primary)
     → LeadsTo h (record h { primary = primary_after event h.primary })
-leads-primary h event linked ends = (
-  record { here = event ∷ []; there = []; primary = refl; secondary = refl },
+leads-primary h event own linked ends = (
+  record { here = event ∷ []; there = []; primary = refl; secondary = refl; own = (own, tt) },
   record {
     homes = keeps-after HasHomes HasHomes homes-kept homes-released event h.primary linked.homes;
     pairs = subst (λ (s : Settings). Pairs (AreLinked s h.secondary.settings) (primary_after event h.primary).connections h.secondary.connections)
@@ -77,7 +80,7 @@ leads-secondary : (h : PairHistory) (event : SecondaryEvent) → IsSeen event �
     → HasEndsToo h.primary.settings h.secondary.settings h.primary.connections (secondary_after event h.secondary)
     → LeadsTo h (record h { secondary = secondary_after event h.secondary })
 leads-secondary h event seen linked ends = (
-  record { here = []; there = event ∷ []; primary = refl; secondary = refl },
+  record { here = []; there = event ∷ []; primary = refl; secondary = refl; own = tt },
   record {
     homes = linked.homes;
     pairs = subst (λ (s : Settings). Pairs (AreLinked h.primary.settings s) h.primary.connections (secondary_after event h.secondary).connections)
@@ -142,7 +145,7 @@ leads-open sync loss out_of_memory h linked = go (first_refusal (open_pair_tests
         ap (λ (r : Reply × SecondaryHistory). r.1)
         (secondary-passed h.secondary (open_secondary_tests h.secondary) (λ _. succeeding_secondary what.Nothing (opened_secondary 0 h.secondary)) free) in
         let linked_too = opens-linked sync loss h linked in (
-          record { here = Opens sync loss out_of_memory ∷ []; there = OpensToo 0 ∷ []; primary = refl; secondary = refl },
+          record { here = Opens sync loss out_of_memory ∷ []; there = OpensToo 0 ∷ []; primary = refl; secondary = refl; own = (tt, tt) },
           record {
             homes = keeps-after HasHomes HasHomes homes-kept homes-released (Opens sync loss out_of_memory) h.primary linked.homes;
             pairs =
@@ -179,7 +182,7 @@ leads-local-fault number kept h linked =
         })
     go (Some refusal) = leads-self h linked
     go None =
-        leads-primary h (FailsLocally number (below kept)) linked
+        leads-primary h (FailsLocally number (below kept)) tt linked
         (ends-fault h.primary.settings h.secondary.settings h.secondary.connections (no_secondary_connection h.secondary) number (below kept) h.primary
         (record { settings = refl; pairs = linked.pairs }))
 
@@ -219,13 +222,13 @@ leads-step event out_of_memory h linked = go event
     go : (event : Event) → LeadsTo h (step event out_of_memory h).1
     go (OpenEvent sync loss) = leads-open sync loss out_of_memory h linked
     go (SubmitEvent first contents) =
-        leads-primary h (Submits first contents out_of_memory) linked
+        leads-primary h (Submits first contents out_of_memory) tt linked
         (ends-submit h.primary.settings h.secondary.settings h.secondary.connections (no_secondary_connection h.secondary) first contents out_of_memory
         h.primary here)
-    go (LocalEvent number) = leads-primary h (WritesLocally number) linked
+    go (LocalEvent number) = leads-primary h (WritesLocally number) tt linked
         (ends-local h.primary.settings h.secondary.settings h.secondary.connections (no_secondary_connection h.secondary) number h.primary here)
     go (LocalFaultEvent number kept) = leads-local-fault number kept h linked
-    go SendEvent = leads-primary h (Sends (has_room h) out_of_memory) linked
+    go SendEvent = leads-primary h (Sends (has_room h) out_of_memory) tt linked
         (ends-send h.primary.settings h.secondary.settings h.secondary.connections (no_secondary_connection h.secondary)
         (has_room h) out_of_memory h.primary here)
     go ReceiveEvent =
@@ -242,15 +245,15 @@ leads-step event out_of_memory h linked = go event
         (answers_have_room h) out_of_memory h.secondary
         there)
     go AckInEvent =
-        leads-primary h (Takes (next_answer h) out_of_memory) linked
+        leads-primary h (Takes (next_answer h) out_of_memory) tt linked
         (ends-ack-in h.primary.settings h.secondary.settings h.secondary.connections (no_secondary_connection h.secondary)
         (next_answer h) out_of_memory h.primary linked.homes
         here refl)
-    go ResyncEvent = leads-primary h (Resyncs out_of_memory) linked
+    go ResyncEvent = leads-primary h (Resyncs None out_of_memory) refl linked
         (ends-resync h.primary.settings h.secondary.settings h.secondary.connections (no_secondary_connection h.secondary) out_of_memory h.primary here)
-    go ResyncFaultEvent = leads-primary h (FailsResync out_of_memory) linked
+    go ResyncFaultEvent = leads-primary h (FailsResync out_of_memory) tt linked
         (ends-resync-fault h.primary.settings h.secondary.settings h.secondary.connections (no_secondary_connection h.secondary) out_of_memory h.primary here)
-    go ClosePrimaryEvent = leads-primary h Closes linked
+    go ClosePrimaryEvent = leads-primary h Closes tt linked
         (ends-close h.primary.settings h.secondary.settings h.secondary.connections (no_secondary_connection h.secondary) h.primary here)
     go CloseSecondaryEvent = leads-secondary h ClosesToo tt linked
         (ends-close-too h.primary.settings h.secondary.settings h.primary.connections (no_primary_connection h.primary.tuple) h.secondary there)
@@ -272,6 +275,7 @@ runs-trans h mid later a b = record {
   there = a.there ++ b.there;
   primary = b.primary ∙ (ap (primary_run b.here) a.primary ∙ sym (primary-run-append a.here b.here h.primary));
   secondary = b.secondary ∙ (ap (secondary_run b.there) a.secondary ∙ sym (secondary-run-append a.there b.there h.secondary));
+  own = own-append a.here b.here a.own b.own;
 }
 
 -- a run leads to two nodes that ran by themselves and are joined

@@ -18,7 +18,7 @@ use Rattle.model.specs.Primary.{primary_connection, last_index}
 use Rattle.model.specs.Primary.{change_last, with_primary_connection, is_established, local_map, accepted_frames, is_barrier_ack, barrier_acknowledged}
 use Rattle.model.specs.Primary.{is_waiting, is_confirmed}
 use Rattle.model.specs.Primary.{is_alone, is_released, unreleased, active_extents}
-use Rattle.model.specs.PrimarySteps.{follows, activity_is_full, submission, submitted, set_outcome, faulted, accepted_at, opened}
+use Rattle.model.specs.PrimarySteps.{follows, activity_is_full, submission, submitted, set_outcome, faulted, accepted_at, opened, given}
 use Rattle.model.specs.PrimarySteps.{submitted_with, faulted_by}
 use Rattle.model.specs.Acknowledgements.{begun_with}
 use Rattle.model.specs.LocalRuns.{PrimaryEvent, primary_run}
@@ -336,9 +336,9 @@ few-kept settings = record {
         (refused-last frame peer h) refl
         (λ k at. keeps-closed (primary_connection h) _ refl) p.0 p.1,
   );
-  resyncs = λ h block runs alone is p. (
-    homes-kept.resyncs h block runs alone is p.0,
-    few-appending settings h _ (ResyncItem block (unwrap_or (local_map h block) [])) refl refl refl p.0 p.1,
+  resyncs = λ h block read may runs alone is p. (
+    homes-kept.resyncs h block read may runs alone is p.0,
+    few-appending settings h _ (ResyncItem block (given read h block)) refl refl refl p.0 p.1,
   );
   closes = λ h standing p. (
     homes-kept.closes h standing p.0,

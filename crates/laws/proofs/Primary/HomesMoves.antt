@@ -1,4 +1,5 @@
 -- Every move of a primary keeps the homes of its writes and the journal's promises.
+use Rattle.std.specs.Prelude.{◌&&◌}
 use Rattle.std.proofs.Common.{ℕ, zero, suc, ◌≡◌, ◌-◌, ◌⊎◌, inl, inr, Bool, true, false, List, [], ◌∷◌, ◌++◌, length, take, map, Option, Some, None, slice_get}
 use Rattle.std.proofs.Common.{Ok, refl, sym, ◌∙◌, ap, subst, arith}
 use Rattle.std.specs.Prelude.{if◌then◌else◌, option_map}
@@ -10,13 +11,13 @@ use Rattle.blocks.specs.declared.tuple.Tuple.{Tuple}
 use Rattle.blocks.specs.declared.outcome.Decision.{Decision}
 use Rattle.blocks.specs.declared.outcome.Decision.TheVariants.{NoSync, BitmapSync, FullSync}
 use Rattle.model.specs.Contents.{BlockMap, Write}
-use Rattle.model.specs.Stream.{StreamItem, WriteItem, SyncUuidItem, IsBeginning, within}
+use Rattle.model.specs.Stream.{StreamItem, WriteItem, SyncUuidItem, IsBeginning, within, ResyncItem}
 use Rattle.model.specs.Frames.{Received, UuidsFrame, RsWriteAckFrame}
 use Rattle.model.specs.Marks.{Marks, marking, clearing}
 use Rattle.model.specs.Primary.{LocalOutcome, Waiting, OnDisk, Failed, Accepted, PrimaryConnection, PrimaryHistory, primary_opening, no_primary_connection}
 use Rattle.model.specs.Primary.{primary_connection, change_last}
 use Rattle.model.specs.Primary.{last_index, with_primary_connection, is_established, in_resync, accepted_frames, new_primary_connection}
-use Rattle.model.specs.PrimarySteps.{opened, submission, submitted, set_outcome, with_outcome, faulted, accepted_at, closing, faulted_by}
+use Rattle.model.specs.PrimarySteps.{opened, submission, submitted, set_outcome, with_outcome, faulted, accepted_at, closing, faulted_by, given}
 use Rattle.model.specs.PrimarySteps.{submitted_with}
 use Rattle.model.specs.Acknowledgements.{begun_with}
 use Rattle.laws.proofs.Lists.Beginnings.{begins-self}
@@ -29,6 +30,7 @@ use Rattle.laws.proofs.Primary.Ends.{no-more, established-parts, not-refused, fr
 use Rattle.laws.proofs.Primary.Ends.{keeps-closing}
 use Rattle.laws.proofs.Primary.HomesFollowing.{homes-appending, homes-following}
 use Rattle.laws.proofs.Rules.RefusedFrames.{refused_out, refused_by, refused-last}
+use Rattle.std.proofs.Common.{is_none}
 
 -- Effects.
 
@@ -281,6 +283,17 @@ homes-begins h peer decided standing new homes = go decided
         (no-sync (primary_connection taken).sync)
 
 -- Every move keeps the homes and the journal's promises.
+-- nor whether all is faithful
+pub homes-faithful : (h : PrimaryHistory) (faithful : Bool) → HasHomes h → HasHomes (record h { faithful = faithful })
+homes-faithful h faithful homes = record {
+  numbered = homes.numbered;
+  housed = homes.housed;
+  homed = homes.homed;
+  empty = homes.empty;
+  refused = homes.refused;
+  journal = homes.journal;
+}
+
 pub homes-kept : IsKeptByMoves HasHomes HasHomes
 homes-kept = record {
   following = homes-following;
@@ -303,8 +316,8 @@ homes-kept = record {
       (refused_out frame) homes refl
       (refused-last frame peer h) refl refl
       (keeps-refusing h frame homes standing);
-  resyncs = λ h block runs alone is homes. homes-appending h _ (λ write e. cc)
-      (established-parts (primary_connection h) (and_parts (is_established (primary_connection h)) (in_resync (primary_connection h).stream) runs).0).1 homes;
+  resyncs = λ h block read may runs alone is homes. homes-faithful _ (is_none read && h.faithful) (homes-appending h (ResyncItem block (given read h block)) (λ write e. cc)
+      (established-parts (primary_connection h) (and_parts (is_established (primary_connection h)) (in_resync (primary_connection h).stream) runs).0).1 homes);
   closes = λ h standing homes. homes-with h (closing h) (λ c. record c { closed = true }) homes refl refl refl refl (keeps-closing h homes);
   receipts = λ h number homes. record {
     numbered = homes.numbered;

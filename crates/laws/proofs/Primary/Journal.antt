@@ -105,7 +105,7 @@ journal-kept = record {
   clears = λ h ack standing begun may all. all;
   confirms = λ h number size standing begun turn all. all;
   refuses = λ h frame peer standing all. all;
-  resyncs = λ h block runs alone is all. all;
+  resyncs = λ h block read may runs alone is all. all;
   closes = λ h standing all. all;
   receipts = λ h number all. all;
 }

@@ -134,7 +134,7 @@ last-open-kept = record {
   clears = λ h ack standing begun may all. changes h.connections _ all;
   confirms = λ h number size standing begun turn all. changes h.connections _ all;
   refuses = λ h frame peer standing all. changes _ _ (changes _ _ (changes h.connections _ all));
-  resyncs = λ h block runs alone is all. changes h.connections _ all;
+  resyncs = λ h block read may runs alone is all. changes h.connections _ all;
   closes = λ h standing all. changes h.connections _ all;
   receipts = λ h number all. all;
 }

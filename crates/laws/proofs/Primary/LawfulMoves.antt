@@ -15,7 +15,7 @@ use Rattle.model.specs.Identifiers.{sync_end}
 use Rattle.model.specs.Marks.{Marks}
 use Rattle.model.specs.Primary.{Accepted, PrimaryConnection, PrimaryHistory, primary_opening, no_primary_connection, primary_connection, last_of, change_last}
 use Rattle.model.specs.Primary.{with_primary_connection, is_established, in_resync, local_map, under_way, free_block, new_primary_connection}
-use Rattle.model.specs.PrimarySteps.{epoch_is_over, appending, resync_is_over, ending_resync, follows, submission, submitted, faulted}
+use Rattle.model.specs.PrimarySteps.{epoch_is_over, appending, resync_is_over, ending_resync, follows, submission, submitted, faulted, copying, given}
 use Rattle.model.specs.PrimarySteps.{accepted_at, opened, submitted_with, faulted_by}
 use Rattle.model.specs.Acknowledgements.{begun_with}
 use Rattle.model.specs.LocalRuns.{PrimaryEvent, primary_run}
@@ -158,17 +158,17 @@ lawful-submits settings h first contents may homes between = go (is_established 
         (write-follows h k first contents homes at is between.on may.free))) between.streams
     go false is = lawful-same settings h _ refl refl between.streams
 
-lawful-resyncs : (settings : Settings) (h : PrimaryHistory) (block : ℕ) → is_established (primary_connection h) ≡ true
+lawful-resyncs : (settings : Settings) (h : PrimaryHistory) (block : ℕ) (read : Option (List ℕ)) → is_established (primary_connection h) ≡ true
     → nat_lt 0 (length (under_way (primary_connection h))) ≡ false
     → free_block h ≡ Some block
     → HasHomes h → IsLawfulBetween settings h
-    → HasLawfulStreams settings (appending (ResyncItem block (unwrap_or (local_map h block) [])) h)
-lawful-resyncs settings h block standing alone free homes between =
-    lawful-change settings h _ (λ c. record c { stream = c.stream ++ ResyncItem block (unwrap_or (local_map h block) []) ∷ [] }) refl refl
-    (λ k at lawful. lawful-append (most_writes settings) (primary_connection h).stream (ResyncItem block (unwrap_or (local_map h block) [])) lawful
-    (subst (λ (s : Settings). MayFollow (most_writes s) (primary_connection h).stream (ResyncItem block (unwrap_or (local_map h block) [])))
+    → HasLawfulStreams settings (copying read block h)
+lawful-resyncs settings h block read standing alone free homes between =
+    lawful-change settings h _ (λ c. record c { stream = c.stream ++ ResyncItem block (given read h block) ∷ [] }) refl refl
+    (λ k at lawful. lawful-append (most_writes settings) (primary_connection h).stream (ResyncItem block (given read h block)) lawful
+    (subst (λ (s : Settings). MayFollow (most_writes s) (primary_connection h).stream (ResyncItem block (given read h block)))
     between.streams.setting
-    (resync-follows h k block (unwrap_or (local_map h block) []) homes at standing between.on alone free))) between.streams
+    (resync-follows h k block (given read h block) homes at standing between.on alone free))) between.streams
 
 lawful-faults : (settings : Settings) (h : PrimaryHistory) (number : ℕ) (offsets : List ℕ) → HasLawfulStreams settings h
     → HasLawfulStreams settings (faulted number offsets h)
@@ -266,9 +266,9 @@ lawful-kept settings bound = record {
     lawful-change settings h _ (refused_out frame) refl
         (refused-last frame peer h) (λ k at lawful. lawful) p.1.streams,
   );
-  resyncs = λ h block runs alone is p. (
-    homes-kept.resyncs h block runs alone is p.0,
-    lawful-resyncs settings h block (and_parts (is_established (primary_connection h)) (in_resync (primary_connection h).stream) runs).0 alone is p.0 p.1,
+  resyncs = λ h block read may runs alone is p. (
+    homes-kept.resyncs h block read may runs alone is p.0,
+    lawful-resyncs settings h block read (and_parts (is_established (primary_connection h)) (in_resync (primary_connection h).stream) runs).0 alone is p.0 p.1,
   );
   closes = λ h standing p. (
     homes-kept.closes h standing p.0,

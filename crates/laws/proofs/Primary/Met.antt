@@ -13,7 +13,7 @@ use Rattle.model.specs.Identifiers.{sync_end}
 use Rattle.model.specs.Primary.{Accepted, PrimaryConnection, PrimaryHistory, no_primary_connection, primary_connection, change_last, with_primary_connection}
 use Rattle.model.specs.Primary.{is_established}
 use Rattle.model.specs.Primary.{local_map, primary_opening}
-use Rattle.model.specs.PrimarySteps.{submission, submitted, faulted, accepted_at, closing, submitted_with, faulted_by}
+use Rattle.model.specs.PrimarySteps.{submission, submitted, faulted, accepted_at, closing, submitted_with, faulted_by, given}
 use Rattle.model.specs.Acknowledgements.{begun_with}
 use Rattle.model.specs.LocalRuns.{PrimaryEvent, primary_run}
 use Rattle.laws.proofs.Lists.Each.{Each, each-append, each-change}
@@ -195,9 +195,9 @@ module _ (settings : Settings) where
       met-closing h _ frame refl
           (refused-last frame peer h) p.1,
     );
-    resyncs = λ h block runs alone is p. (
-      homes-kept.resyncs h block runs alone is p.0,
-      met-appending (ResyncItem block (unwrap_or (local_map h block) [])) h _ p.1 refl refl,
+    resyncs = λ h block read may runs alone is p. (
+      homes-kept.resyncs h block read may runs alone is p.0,
+      met-appending (ResyncItem block (given read h block)) h _ p.1 refl refl,
     );
     closes = λ h standing p. (
       homes-kept.closes h standing p.0,

@@ -40,6 +40,7 @@ use Rattle.laws.proofs.Lists.Tests.{test-passed}
 use Rattle.blocks.specs.declared.settings.Protocol.{Protocol}
 use Rattle.laws.proofs.Rules.Memory.{may-open, may-send, may-copy-open, ack-in-has}
 use Rattle.laws.proofs.Rules.RefusedFrames.{refusing, refused_by, frame-has}
+use Rattle.model.specs.PrimarySteps.{copying}
 
 -- a frame is taken
 abbrev pub with_frame : Received → PrimaryConnection → PrimaryConnection
@@ -69,8 +70,8 @@ IsGreeting h frame =
     ⊎ ((length (primary_connection h).taken ≡ 1) × (frame ≡ Ok (SizesFrame h.settings.blocks)))
 
 -- `P` holds between steps, and `Q` after a step's effect, before what follows from it. A property is kept by every step if
--- each effect leads from `P` to `Q`, and what follows leads back.
-pub record IsKeptByMoves (P Q : PrimaryHistory → Type 0) : Type 0 where
+-- each effect leads from `P` to `Q`, and what follows leads back. `O` says which reads a resync may be given.
+pub record IsKeptByMovesOf (O : Option (List ℕ) → Type 0) (P Q : PrimaryHistory → Type 0) : Type 0 where
   pub following : (h : PrimaryHistory) → Q h → P (follows h).history
   pub opens : (h : PrimaryHistory) (sync loss : ℕ) → (primary_connection h).closed ≡ true → are_fresh sync loss (known_tuples h) ≡ true → P h
       → Q (opened h sync loss)
@@ -105,11 +106,23 @@ pub record IsKeptByMoves (P Q : PrimaryHistory → Type 0) : Type 0 where
   -- a protocol error: the frame is taken and refused, the peer's tuple may have been seen, and the end closes
   pub refuses : (h : PrimaryHistory) (frame : Received) (peer : Option Tuple) → (primary_connection h).closed ≡ false → P h
       → Q (closing (refused_by frame peer h))
-  pub resyncs : (h : PrimaryHistory) (block : ℕ) → resync_runs (primary_connection h) ≡ true → nat_lt 0 (length (under_way (primary_connection h))) ≡ false
+  pub resyncs : (h : PrimaryHistory) (block : ℕ) (read : Option (List ℕ)) → O read → resync_runs (primary_connection h) ≡ true → nat_lt 0 (length (under_way (primary_connection h))) ≡ false
       → free_block h ≡ Some block → P h
-      → Q (appending (ResyncItem block (unwrap_or (local_map h block) [])) h)
+      → Q (copying read block h)
   pub closes : (h : PrimaryHistory) → (primary_connection h).closed ≡ false → P h → Q (closing h)
   pub receipts : (h : PrimaryHistory) (number : ℕ) → P h → P (receipted number h)
+
+-- whatever bytes a resync is given
+abbrev pub any_read : Option (List ℕ) → Type 0
+any_read read = Unit {0}
+
+abbrev pub IsKeptByMoves : (P Q : PrimaryHistory → Type 0) → Type 0
+IsKeptByMoves P Q = IsKeptByMovesOf any_read P Q
+
+-- such reads only
+abbrev pub Reads : (Option (List ℕ) → Type 0) → PrimaryEvent → Type 0
+Reads O (Resyncs read out_of_memory) = O read
+Reads O _ = Unit {0}
 
 -- The two steps that may release a write: its effect stands, and then the marks are cleared of what it released.
 pub record IsKeptByReleases (P Q : PrimaryHistory → Type 0) : Type 0 where
@@ -146,7 +159,7 @@ both-kept P Q P' Q' one two = record {
   clears = λ h ack standing begun may p. (one.clears h ack standing begun may p.0, two.clears h ack standing begun may p.1);
   confirms = λ h number size standing begun turn p. (one.confirms h number size standing begun turn p.0, two.confirms h number size standing begun turn p.1);
   refuses = λ h frame peer standing p. (one.refuses h frame peer standing p.0, two.refuses h frame peer standing p.1);
-  resyncs = λ h block runs alone is p. (one.resyncs h block runs alone is p.0, two.resyncs h block runs alone is p.1);
+  resyncs = λ h block read may runs alone is p. (one.resyncs h block read may runs alone is p.0, two.resyncs h block read may runs alone is p.1);
   closes = λ h standing p. (one.closes h standing p.0, two.closes h standing p.1);
   receipts = λ h number p. (one.receipts h number p.0, two.receipts h number p.1);
 }
@@ -207,7 +220,7 @@ fine-if : (Q : PrimaryHistory → Type 0) (taken done : PrimaryHistory) (good : 
 fine-if Q taken done true name refusal q = q refl
 fine-if Q taken done false name refusal q = (taken.peer, refl)
 
-module _ (P Q : PrimaryHistory → Type 0) (K : IsKeptByMoves P Q) (R : IsKeptByReleases P Q) where
+module _ (O : Option (List ℕ) → Type 0) (P Q : PrimaryHistory → Type 0) (K : IsKeptByMovesOf O P Q) (R : IsKeptByReleases P Q) where
   keeps-open : (sync loss : ℕ) (out_of_memory : Bool) (h : PrimaryHistory) → P h → P (open_primary sync loss out_of_memory h).1
   keeps-open sync loss out_of_memory h p = tested-keeps P h (open_tests h sync loss out_of_memory) (λ _. succeeding what.Nothing (opened h sync loss)) p
       (λ none.
@@ -243,11 +256,11 @@ module _ (P Q : PrimaryHistory → Type 0) (K : IsKeptByMoves P Q) (R : IsKeptBy
       (λ _. let after = follows (closing h) in (reply.Closed (length after.completed), after.history)) p (λ none.
       K.following (closing h) (K.closes h (test-passed (primary_connection h).closed NotConnected [] none).0 p))
 
-  keeps-resync : (out_of_memory : Bool) (h : PrimaryHistory) → P h → P (resync_next out_of_memory h).1
-  keeps-resync out_of_memory h p = tested-keeps P h (resync_tests h out_of_memory) (λ _. elim (free_block h) as (λ _. Reply × PrimaryHistory) [
+  keeps-resync : (read : Option (List ℕ)) → O read → (out_of_memory : Bool) (h : PrimaryHistory) → P h → P (resync_next read out_of_memory h).1
+  keeps-resync read fits out_of_memory h p = tested-keeps P h (resync_tests h out_of_memory) (λ _. elim (free_block h) as (λ _. Reply × PrimaryHistory) [
     | None ↦ (reply.Refused NothingToDo, h)
     | Some block ↦ succeeding (what.Block (record { 0 = block }) (length (primary_connection h).stream))
-        (appending (ResyncItem block (unwrap_or (local_map h block) [])) h)
+        (copying read block h)
   ]) p (λ none.
       let may = (may-copy-open h out_of_memory none).1 in
       go (free_block h) refl may.runs may.alone)
@@ -256,10 +269,10 @@ module _ (P Q : PrimaryHistory → Type 0) (K : IsKeptByMoves P Q) (R : IsKeptBy
           → P (elim v as (λ _. Reply × PrimaryHistory) [
             | None ↦ (reply.Refused NothingToDo, h)
             | Some block ↦ succeeding (what.Block (record { 0 = block }) (length (primary_connection h).stream))
-                (appending (ResyncItem block (unwrap_or (local_map h block) [])) h)
+                (copying read block h)
           ]).1
       go None is runs alone = p
-      go (Some block) is runs alone = K.following (appending (ResyncItem block (unwrap_or (local_map h block) [])) h) (K.resyncs h block runs alone is p)
+      go (Some block) is runs alone = K.following (copying read block h) (K.resyncs h block read fits runs alone is p)
 
   keeps-resync-fault : (out_of_memory : Bool) (h : PrimaryHistory) → P h → P (resync_fault out_of_memory h).1
   keeps-resync-fault out_of_memory h p = tested-keeps P h (resync_tests h out_of_memory) (λ _. (reply.Refused ReadFault, h)) p (λ none. p)
@@ -387,18 +400,35 @@ module _ (P Q : PrimaryHistory → Type 0) (K : IsKeptByMoves P Q) (R : IsKeptBy
   keeps-receipt : (number : ℕ) (h : PrimaryHistory) → P h → P (take_completed number h).1
   keeps-receipt number h p = receipt-has (λ r. P r.1) number h (λ refusal. p) (K.receipts h number p) (λ entry. K.receipts h number p)
 
-  -- every step keeps it, and so does every run
+  -- every step keeps it
+  pub keeps-after-of : (event : PrimaryEvent) → Reads O event → (h : PrimaryHistory) → P h → P (primary_after event h)
+  keeps-after-of (Opens sync loss out_of_memory) fits h p = keeps-open sync loss out_of_memory h p
+  keeps-after-of (Submits first contents out_of_memory) fits h p = keeps-submit first contents out_of_memory h p
+  keeps-after-of (WritesLocally number) fits h p = keeps-local number h p
+  keeps-after-of (FailsLocally number offsets) fits h p = keeps-fault number offsets h p
+  keeps-after-of (Sends room out_of_memory) fits h p = keeps-send room out_of_memory h p
+  keeps-after-of (Takes frame out_of_memory) fits h p = keeps-ack-in frame out_of_memory h p
+  keeps-after-of (Resyncs read out_of_memory) fits h p = keeps-resync read fits out_of_memory h p
+  keeps-after-of (FailsResync out_of_memory) fits h p = keeps-resync-fault out_of_memory h p
+  keeps-after-of Closes fits h p = keeps-close h p
+  keeps-after-of (Receipts number) fits h p = keeps-receipt number h p
+
+any-reads : (event : PrimaryEvent) → Reads any_read event
+any-reads (Opens sync loss out_of_memory) = tt
+any-reads (Submits first contents out_of_memory) = tt
+any-reads (WritesLocally number) = tt
+any-reads (FailsLocally number offsets) = tt
+any-reads (Sends room out_of_memory) = tt
+any-reads (Takes frame out_of_memory) = tt
+any-reads (Resyncs read out_of_memory) = tt
+any-reads (FailsResync out_of_memory) = tt
+any-reads Closes = tt
+any-reads (Receipts number) = tt
+
+module _ (P Q : PrimaryHistory → Type 0) (K : IsKeptByMoves P Q) (R : IsKeptByReleases P Q) where
+  -- whatever the resyncs were given, and so does every run
   pub keeps-after : (event : PrimaryEvent) (h : PrimaryHistory) → P h → P (primary_after event h)
-  keeps-after (Opens sync loss out_of_memory) h p = keeps-open sync loss out_of_memory h p
-  keeps-after (Submits first contents out_of_memory) h p = keeps-submit first contents out_of_memory h p
-  keeps-after (WritesLocally number) h p = keeps-local number h p
-  keeps-after (FailsLocally number offsets) h p = keeps-fault number offsets h p
-  keeps-after (Sends room out_of_memory) h p = keeps-send room out_of_memory h p
-  keeps-after (Takes frame out_of_memory) h p = keeps-ack-in frame out_of_memory h p
-  keeps-after (Resyncs out_of_memory) h p = keeps-resync out_of_memory h p
-  keeps-after (FailsResync out_of_memory) h p = keeps-resync-fault out_of_memory h p
-  keeps-after Closes h p = keeps-close h p
-  keeps-after (Receipts number) h p = keeps-receipt number h p
+  keeps-after event h p = keeps-after-of any_read P Q K R event (any-reads event) h p
 
   pub keeps-run : (events : List PrimaryEvent) (h : PrimaryHistory) → P h → P (primary_run events h)
   keeps-run [] h p = p

@@ -21,7 +21,7 @@ use Rattle.model.specs.Identifiers.{decision, stands_in, sync_end}
 use Rattle.model.specs.Marks.{releasing}
 use Rattle.model.specs.Primary.{Accepted, OnDisk, PrimaryConnection, PrimaryHistory, primary_opening, no_primary_connection, primary_connection, change_last}
 use Rattle.model.specs.Primary.{with_primary_connection, is_established, local_map, in_resync, resync_runs, free_block}
-use Rattle.model.specs.PrimarySteps.{follows, appending, succeeding, epoch_is_over, open_tests, opened, open_primary, submission, submit_tests}
+use Rattle.model.specs.PrimarySteps.{follows, appending, succeeding, epoch_is_over, open_tests, opened, open_primary, submission, submit_tests, copying}
 use Rattle.model.specs.PrimarySteps.{submitted, submit, is_unfinished, with_outcome, local_done, accepted_at, faulted, local_fault, send_tests, sending, send}
 use Rattle.model.specs.PrimarySteps.{resync_tests, resync_next, resync_fault, closing, close_primary, take_completed, submitted_with, faulted_by}
 use Rattle.model.specs.Acknowledgements.{Taken, begun_with, meeting, taking_hello, taking_ack, taking, take_frame, ack_in}
@@ -40,6 +40,7 @@ use Rattle.laws.proofs.Primary.LawfulMoves.{last-changed}
 use Rattle.laws.proofs.Streams.Sendable.{IsSendable, is_work, is_busy, sendable-work, sendable-barrier, sendable-end, sendable-empty, sendable-start}
 use Rattle.laws.proofs.Rules.Memory.{may-open, may-copy-open, ack-in-has}
 use Rattle.laws.proofs.Rules.RefusedFrames.{refusing, refused_out, refused-last, frame-has}
+use Rattle.model.specs.PrimarySteps.{given}
 
 -- A connection whose stream can be sent and whose sync word is not zero; while it is open, its stream begins with the third
 -- frame that it takes.
@@ -161,12 +162,12 @@ module _ (settings : Settings) (bound : TakesWrites settings) where
       let index : extent_of block ≡ extent_of (block + 1 - 1) = ap extent_of (omega arith) in
       and_from _ _ (and_from _ _ refl (le-leb (block + 1) s.blocks end)) (eq-eqb (extent_of block) (extent_of (block + 1 - 1)) index)
 
-  fit-resync : (out_of_memory : Bool) (h : PrimaryHistory) → HasFitEnds settings h → HasFitEnds settings (resync_next out_of_memory h).1
-  fit-resync out_of_memory h a = tested-keeps (HasFitEnds settings) h (resync_tests h out_of_memory)
+  fit-resync : (read : Option (List ℕ)) (out_of_memory : Bool) (h : PrimaryHistory) → HasFitEnds settings h → HasFitEnds settings (resync_next read out_of_memory h).1
+  fit-resync read out_of_memory h a = tested-keeps (HasFitEnds settings) h (resync_tests h out_of_memory)
       (λ _. elim (free_block h) as (λ _. Reply × PrimaryHistory) [
         | None ↦ (reply.Refused NothingToDo, h)
         | Some block ↦ succeeding (what.Block (record { 0 = block }) (length (primary_connection h).stream))
-            (appending (ResyncItem block (unwrap_or (local_map h block) [])) h)
+            (copying read block h)
       ]) a (λ none.
       let may = (may-copy-open h out_of_memory none).1 in
       go (free_block h) refl may.runs may.places)
@@ -175,11 +176,11 @@ module _ (settings : Settings) (bound : TakesWrites settings) where
           → HasFitEnds settings (elim v as (λ _. Reply × PrimaryHistory) [
             | None ↦ (reply.Refused NothingToDo, h)
             | Some block ↦ succeeding (what.Block (record { 0 = block }) (length (primary_connection h).stream))
-                (appending (ResyncItem block (unwrap_or (local_map h block) [])) h)
+                (copying read block h)
           ]).1
       go None is runs few = a
-      go (Some block) is runs few = fit-following (appending (ResyncItem block (unwrap_or (local_map h block) [])) h) (fit-appending _ h _ refl refl (λ s.
-          sendable-work settings (primary_connection h).stream (ResyncItem block (unwrap_or (local_map h block) [])) s (
+      go (Some block) is runs few = fit-following (copying read block h) (fit-appending _ h _ refl refl (λ s.
+          sendable-work settings (primary_connection h).stream (ResyncItem block (given read h block)) s (
             one-block h.settings.blocks block settings (ap (λ (x : Settings). x.blocks) (sym a.setting)) (free-found h block is).within,
             (and_parts (is_established (primary_connection h)) (in_resync (primary_connection h).stream) runs).1,
           ) refl few) a)
@@ -349,7 +350,7 @@ module _ (settings : Settings) (bound : TakesWrites settings) where
   fit-after (FailsLocally number offsets) h a = fit-fault number offsets h a
   fit-after (Sends room out_of_memory) h a = fit-send room out_of_memory h a
   fit-after (Takes frame out_of_memory) h a = fit-ack-in frame out_of_memory h a
-  fit-after (Resyncs out_of_memory) h a = fit-resync out_of_memory h a
+  fit-after (Resyncs read out_of_memory) h a = fit-resync read out_of_memory h a
   fit-after (FailsResync out_of_memory) h a = fit-resync-fault out_of_memory h a
   fit-after Closes h a = fit-close h a
   fit-after (Receipts number) h a = fit-receipt number h a

@@ -94,7 +94,7 @@ stays-kept p = record {
   confirms = λ h number size standing begun turn stays. stays-change p h _ (with_frame _) refl standing stays;
   refuses = λ h frame peer standing stays. stays-change p h _ (refused_out frame)
       (refused-last frame peer h) standing stays;
-  resyncs = λ h block runs alone is stays. stays-change p h _ _ refl
+  resyncs = λ h block read may runs alone is stays. stays-change p h _ _ refl
       (open-established (primary_connection h) (and_parts (is_established (primary_connection h)) (in_resync (primary_connection h).stream) runs).0) stays;
   closes = λ h standing stays. stays-change p h _ (λ c. record c { closed = true }) refl standing stays;
   receipts = λ h number stays. stays-same p h _ refl stays;

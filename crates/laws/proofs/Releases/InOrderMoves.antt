@@ -15,7 +15,7 @@ use Rattle.model.specs.Frames.{BarrierAckFrame, UuidsFrame, Received, RecvAckFra
 use Rattle.model.specs.Primary.{OnDisk, Failed, Accepted, PrimaryConnection, PrimaryHistory, primary_connection, last_index, with_primary_connection}
 use Rattle.model.specs.Primary.{is_established, change_last}
 use Rattle.model.specs.Primary.{barrier_acknowledged, is_waiting, is_open, accepted_frames, is_barrier_ack, local_map, new_primary_connection}
-use Rattle.model.specs.PrimarySteps.{conflict, submission, submitted, opened, with_outcome, accepted_at, faulted, with_completions, ending_resync}
+use Rattle.model.specs.PrimarySteps.{conflict, submission, submitted, opened, with_outcome, accepted_at, faulted, with_completions, ending_resync, given}
 use Rattle.model.specs.PrimarySteps.{follows, closing, submitted_with, faulted_by}
 use Rattle.model.specs.Acknowledgements.{begun_with, is_in_turn}
 use Rattle.laws.proofs.Rules.AckTurns.{turn-has}
@@ -352,13 +352,13 @@ in-order-kept settings bound = record {
       ),
     ),
   );
-  resyncs = λ h block runs alone is p. (
-    known-kept.resyncs h block runs alone is p.0,
+  resyncs = λ h block read may runs alone is p. (
+    known-kept.resyncs h block read may runs alone is p.0,
     (
-      last-open-kept.resyncs h block runs alone is p.1.0,
+      last-open-kept.resyncs h block read may runs alone is p.1.0,
       (
-        (lawful-kept settings bound).resyncs h block runs alone is p.1.1.0,
-        order-appends h _ (ResyncItem block (unwrap_or (local_map h block) [])) refl refl p.1.1.1,
+        (lawful-kept settings bound).resyncs h block read may runs alone is p.1.1.0,
+        order-appends h _ (ResyncItem block (given read h block)) refl refl p.1.1.1,
       ),
     ),
   );

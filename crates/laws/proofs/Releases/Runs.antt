@@ -1,6 +1,6 @@
 -- A block that a step clears as it releases writes: what was sent on it from the last write on is what the local disk comes to hold.
 -- So what is known of a primary's blocks, and the order of its writes, are kept by such steps, and by every run.
-use Rattle.std.proofs.Common.{ℕ, ◌≡◌, ◌<◌, ◌≤◌, inl, inr, Bool, true, false, not, List, Some, slice_get, refl, sym, ◌∙◌, ap, subst, arith}
+use Rattle.std.proofs.Common.{ℕ, ◌≡◌, ◌<◌, ◌≤◌, inl, inr, Bool, true, false, not, List, Some, slice_get, refl, sym, ◌∙◌, ap, subst, arith, IsTrue}
 use Rattle.std.specs.Prelude.{is_some}
 use Rattle.std.proofs.lemmas.Bool.{both_ways, and_cases, cases_lt, not-false}
 use Rattle.std.proofs.lemmas.Option.{slice_get_within}
@@ -61,8 +61,8 @@ module _ (h : PrimaryHistory) (block : ℕ) (t : IsTracked h) (order : IsInOrder
 
   -- what a block of a resync has that stands behind it
   copied-behind : (next other : ℕ) (contents : List ℕ) → c.place ≤ next → slice_get (primary_connection h).stream next ≡ Some (ResyncItem other contents)
-      → touches (ResyncItem other contents) block ≡ true → content_at (ResyncItem other contents) block ≡ settling_map h block
-  copied-behind next other contents from at touched =
+      → touches (ResyncItem other contents) block ≡ true → IsTrue h.faithful → content_at (ResyncItem other contents) block ≡ settling_map h block
+  copied-behind next other contents from at touched faithful =
       let ends = between-parts other 1 block touched in
       let low = ends.0 in
       let high = ends.1 in
@@ -72,12 +72,12 @@ module _ (h : PrimaryHistory) (block : ℕ) (t : IsTracked h) (order : IsInOrder
         there = subst (λ (n : ℕ). slice_get (primary_connection h).stream next ≡ Some (ResyncItem n contents)) is at;
         last = λ later write after there. behind later write (omega arith) there;
       } in
-      ap (λ (n : ℕ). content_at (ResyncItem n contents) block) is ∙ (copy-content block contents ∙ sym (t.copied next block contents copy).0)
+      ap (λ (n : ℕ). content_at (ResyncItem n contents) block) is ∙ (copy-content block contents ∙ sym ((t.copied next block contents copy).0 faithful))
 
   -- what is sent on the block from there on has what the local disk comes to hold
   pub sent-since : (next : ℕ) (item : StreamItem) → c.place ≤ next → slice_get (primary_connection h).stream next ≡ Some item → touches item block ≡ true
-      → content_at item block ≡ settling_map h block
-  sent-since next (WriteItem write) from at touched = elim (cases_lt c.place next) [
+      → IsTrue h.faithful → content_at item block ≡ settling_map h block
+  sent-since next (WriteItem write) from at touched faithful = elim (cases_lt c.place next) [
     | inl after ↦ absurd (both_ways (covers write block) (behind next write after at) touched)
     | inr here ↦
         let place : next ≡ c.place = omega arith in
@@ -85,10 +85,10 @@ module _ (h : PrimaryHistory) (block : ℕ) (t : IsTracked h) (order : IsInOrder
         (subst (λ (n : ℕ). slice_get (primary_connection h).stream n ≡ Some (WriteItem write)) place at) c.there in
         ap (λ (i : StreamItem). content_at i block) one ∙ sym (settling-last h c.index block c.accepted c.at c.covered c.done c.last)
   ]
-  sent-since next (ResyncItem other contents) from at touched = copied-behind next other contents from at touched
-  sent-since next (BarrierItem epoch) from at touched = absurd (both_ways (touches (BarrierItem epoch) block) (touches-nothing 0 block) touched)
-  sent-since next (SyncUuidItem word) from at touched = absurd (both_ways (touches (SyncUuidItem word) block) (touches-nothing 0 block) touched)
-  sent-since next (UuidsItem tuple) from at touched = absurd (both_ways (touches (UuidsItem tuple) block) (touches-nothing 0 block) touched)
+  sent-since next (ResyncItem other contents) from at touched faithful = copied-behind next other contents from at touched faithful
+  sent-since next (BarrierItem epoch) from at touched faithful = absurd (both_ways (touches (BarrierItem epoch) block) (touches-nothing 0 block) touched)
+  sent-since next (SyncUuidItem word) from at touched faithful = absurd (both_ways (touches (SyncUuidItem word) block) (touches-nothing 0 block) touched)
+  sent-since next (UuidsItem tuple) from at touched faithful = absurd (both_ways (touches (UuidsItem tuple) block) (touches-nothing 0 block) touched)
 
   -- the last item on the block stands on that stream, there or behind it
   pub latest-since : (touch : Touch) → latest h.connections block ≡ Some touch
@@ -106,12 +106,12 @@ module _ (h : PrimaryHistory) (block : ℕ) (t : IsTracked h) (order : IsInOrder
             (here.0, (here.1, (subst (λ e. slice_get e.stream touch.place ≡ Some touch.item) end there.2, there.3)))
       ]
 
-  cleared-equal : sent_map h block ≡ settling_map h block
-  cleared-equal =
+  cleared-equal : IsTrue h.faithful → sent_map h block ≡ settling_map h block
+  cleared-equal faithful =
       let some = latest-some h.connections block (last_index h.connections) c.place (primary_connection h) (WriteItem c.accepted.write) c.connected c.there
       c.covered in
       let last = latest-since some.0 some.1 in
-      ap (content_of (h.opening_map block) block) some.1 ∙ sent-since some.0.place some.0.item last.1.0 last.1.1.0 last.1.1.1
+      ap (content_of (h.opening_map block) block) some.1 ∙ sent-since some.0.place some.0.item last.1.0 last.1.1.0 last.1.1.1 faithful
 
 -- Marks are cleared of blocks that are cleared so.
 pub tracked-released : (h later : PrimaryHistory) → ((block : ℕ) → is_cleared h later block ≡ true → IsCleared later block) → IsInOrder later → IsTracked later

@@ -39,7 +39,7 @@ joined_covers o here there sound joined =
       covered = λ grounded block differs. elim (cases_Bool (is_covered p block)) [
         | inl is ↦ is
         | inr clean ↦ absurd (both_ways (same_block (local_map p block) (secondary_map s block)) differs
-            (joined-agrees o here there sound joined grounded block (reflects o here sound.ranges sound.local block clean)))
+            (joined-agrees o here there sound joined grounded block (reflects o here sound.ranges sound.local grounded.0 block clean)))
       ];
       active = subst (λ (x : Settings). length (active_extents p) ≤ x.slots) (sym (kept-opening-primary o here).settings) (extents_are_few o here);
     }

@@ -76,7 +76,7 @@ one_write_is_met = record {
 
 pub cover_is_met : CoverIsMet
 cover_is_met = record {
-  grounded = inl refl;
+  grounded = (refl, inl refl);
   standing = refl;
   differs = refl;
   unmarked = refl;
@@ -95,7 +95,7 @@ rest_is_met = record { rest = refl; numbers = refl }
 
 pub order_is_met : OrderIsMet
 order_is_met = record {
-  unharmed = record { local = refl; opening = λ same. refl };
+  unharmed = record { faithful = refl; local = refl; opening = λ same. refl };
   consistent = refl;
   adopted = refl;
   earlier = refl;
@@ -109,7 +109,7 @@ order_is_met = record {
 
 pub whole_epoch_is_met : WholeEpochIsMet
 whole_epoch_is_met = record {
-  unharmed = record { local = refl; opening = λ same. refl };
+  unharmed = record { faithful = refl; local = refl; opening = λ same. refl };
   consistent = refl;
   write = refl;
   connection = refl;

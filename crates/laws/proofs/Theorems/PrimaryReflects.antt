@@ -18,7 +18,7 @@ accounted o events ranges sized = accounted-run o.settings o.local o.own o.marks
 
 -- a block that is neither marked nor under an unreleased write stands as an item that is surely applied has it, or as at the opening
 pub reflects : PrimaryReflects
-reflects o events ranges sized block clean = reflected (primary_run events (primary_at o)) block (accounted o events ranges sized).1 clean
+reflects o events ranges sized faithful block clean = reflected (primary_run events (primary_at o)) block (accounted o events ranges sized).1 faithful clean
 
 -- while no stream stands, every block under an unreleased write is marked
 pub marks_at_rest : PrimaryMarksAtRest

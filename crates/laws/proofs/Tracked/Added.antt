@@ -1,5 +1,5 @@
 -- What a primary's history keeps of its blocks is kept as a write is accepted, and as a block of a resync is appended.
-use Rattle.std.proofs.Common.{ℕ, suc, ◌≡◌, ◌+◌, ◌-◌, ◌≤◌, ◌<◌, ◌⊎◌, inl, inr, Bool, true, false, not, ◌&&◌, List, [], ◌∷◌, ◌++◌, length, map, Option}
+use Rattle.std.proofs.Common.{ℕ, suc, ◌≡◌, ◌+◌, ◌-◌, ◌≤◌, ◌<◌, ◌⊎◌, inl, inr, Bool, true, false, not, ◌&&◌, List, [], ◌∷◌, ◌++◌, length, map, Option, is_none}
 use Rattle.std.proofs.Common.{Some, None, slice_get, refl, sym, ◌∙◌, ap, subst, arith, ◌==◌, nat_lt, nat_le}
 use Rattle.std.specs.Prelude.{if◌then◌else◌, is_some, unwrap_or}
 use Rattle.std.proofs.lemmas.Bool.{cases_Bool, both_ways, and_parts, and_from, not_from_false, leb-true, lt-ltb, le-leb}
@@ -12,7 +12,7 @@ use Rattle.model.specs.Primary.{Waiting, Accepted, PrimaryConnection, PrimaryHis
 use Rattle.model.specs.Primary.{is_established, is_completed}
 use Rattle.model.specs.Primary.{is_on_disk, local_layer, local_map, is_resync, was_resynced, under_way, resync_runs, in_resync}
 use Rattle.model.specs.Primary.{free_block}
-use Rattle.model.specs.PrimarySteps.{appending, conflict, submission, submitted, submitted_with}
+use Rattle.model.specs.PrimarySteps.{appending, conflict, submission, submitted, submitted_with, copying, given}
 use Rattle.laws.proofs.Rules.Conflicts.{has_block_of, way-apart}
 use Rattle.laws.proofs.Rules.FreeBlocks.{IsFree, free-found}
 use Rattle.laws.proofs.Rules.Marking.{unmarked-by}
@@ -22,7 +22,7 @@ use Rattle.laws.proofs.Primary.Moves.{MaySubmit}
 use Rattle.laws.proofs.Primary.Homes.{HasHomes}
 use Rattle.laws.proofs.Blocks.Latest.{latest, content_of, settling_layer, settling_map}
 use Rattle.laws.proofs.Blocks.LatestMoves.{latest-appended}
-use Rattle.laws.proofs.Tracked.{IsUnderWay, IsCopy, IsTracked}
+use Rattle.laws.proofs.Tracked.{IsUnderWay, IsCopy, IsTracked, IsTrue}
 use Rattle.laws.proofs.Lists.Picks.{pick-none, filtered-pick}
 use Rattle.laws.proofs.Blocks.Overlays.{overlay-append, overlay-some, under-outside, under-inside, settled-is-local}
 use Rattle.laws.proofs.Tracked.Moves.{some-connection, primary-connection-change}
@@ -153,9 +153,9 @@ tracked-submits h first contents may fresh t = go (is_established (primary_conne
           on_disk = done None;
           under_way = λ place block contents way. absurd (both_ways (is_established (primary_connection h)) is way.standing);
           copied = λ place block contents copy. absurd (both_ways (is_established (primary_connection h)) is copy.standing);
-          equal = λ block within unmarked.
+          equal = λ block within unmarked faithful.
               let parts = unmarked-by write h.marks block unmarked in
-              t.equal block within parts.0 ∙ sym (settling-apart h added block parts.1);
+              t.equal block within parts.0 faithful ∙ sym (settling-apart h added block parts.1);
         }
     go true is homes =
         let c : PrimaryConnection = primary_connection h in
@@ -190,19 +190,19 @@ tracked-submits h first contents may fresh t = go (is_established (primary_conne
                 | inl old ↦
                     let was = t.copied place block inner old.0 in
                     let apart : covers write block ≡ false = old.1 write refl in (
-                      settling-apart h added block apart ∙ was.0,
+                      λ faithful. settling-apart h added block apart ∙ was.0 faithful,
                       λ i accepted at waits. elim (get-more h.writes added i accepted at) [
                         | inl before ↦ was.1 i accepted before waits
                         | inr new ↦ subst (λ (a : Accepted). covers a.write block ≡ false) (sym new.1) apart
                       ],
                     )
               ];
-          equal = λ block within unmarked. elim (cases_Bool (touches item block)) [
+          equal = λ block within unmarked faithful. elim (cases_Bool (touches item block)) [
             | inl touched ↦
                 ap (content_of (h.opening_map block) block) (appended-touching h item block standing touched)
                 ∙ sym (settling-more h added block ∙ under-inside (settling_layer added) block (settling_map h block) touched refl)
             | inr apart ↦ ap (content_of (h.opening_map block) block) (appended-apart h item block standing apart)
-                ∙ (t.equal block within unmarked ∙ sym (settling-apart h added block apart))
+                ∙ (t.equal block within unmarked faithful ∙ sym (settling-apart h added block apart))
           ];
         }
 
@@ -224,24 +224,30 @@ none-under-way h place block contents none way =
     let within = slice_get_within (under_way c) there.0 (place, item) there.1 in
     both_ways (nat_lt 0 (length (under_way c))) none (lt-ltb 0 (length (under_way c)) (omega arith))
 
--- The block is appended with what the local disk has, which no waiting write will change.
-pub tracked-resyncs : (h : PrimaryHistory) (block : ℕ) → resync_runs (primary_connection h) ≡ true
+-- nothing else was read
+pub none-read : (read : Option (List ℕ)) → is_none read ≡ true → read ≡ None
+none-read None is = refl
+none-read (Some bytes) is = absurd (cc)
+
+-- The block is appended with what the local disk has, which no waiting write will change, or with what was read in its place.
+pub tracked-resyncs : (h : PrimaryHistory) (block : ℕ) (read : Option (List ℕ)) → resync_runs (primary_connection h) ≡ true
     → nat_lt 0 (length (under_way (primary_connection h))) ≡ false
     → free_block h ≡ Some block → IsTracked h
-    → HasHomes (appending (ResyncItem block (unwrap_or (local_map h block) [])) h)
-    → IsTracked (appending (ResyncItem block (unwrap_or (local_map h block) [])) h)
-tracked-resyncs h block runs none is t homes =
+    → HasHomes (copying read block h)
+    → IsTracked (copying read block h)
+tracked-resyncs h block read runs none is t homes =
     let c : PrimaryConnection = primary_connection h in
     let standing : c.closed ≡ false = (established-parts c (and_parts (is_established c) (in_resync c.stream) runs).0).0 in
-    let contents : List ℕ = unwrap_or (local_map h block) [] in
+    let contents : List ℕ = given read h block in
     let item : StreamItem = ResyncItem block contents in
     let f : PrimaryConnection → PrimaryConnection = λ x. record x { stream = x.stream ++ item ∷ [] } in
-    let later : PrimaryHistory = appending item h in
+    let later : PrimaryHistory = copying read block h in
     let next : IsFree h block = free-found h block is in
-    let local : local_map h block ≡ Some contents =
+    let local : local_map h block ≡ Some (unwrap_or (local_map h block) []) =
     some-unwrap (local_map h block) (overlay-some h.opening_map (map local_layer h.writes) block (t.sized block next.within)) in
-    let settled : settling_map h block ≡ Some contents =
-    settled-is-local h block (λ i accepted at waits. next.free i accepted at (waiting-open h i accepted t at waits)) ∙ local in
+    let settled : IsTrue (is_none read && h.faithful) → settling_map h block ≡ Some contents = λ faithful.
+    settled-is-local h block (λ i accepted at waits. next.free i accepted at (waiting-open h i accepted t at waits)) ∙ (local
+    ∙ ap (λ (v : Option (List ℕ)). Some (unwrap_or v (unwrap_or (local_map h block) []))) (sym (none-read read (and_parts (is_none read) h.faithful faithful).0))) in
     let only : (other : ℕ) → touches item other ≡ true
     → other ≡ block = λ other touched. let ends = between-parts block 1 other touched in let low = ends.0 in let high = ends.1 in omega arith in
     let touched : touches item block ≡ true = and_from (nat_le block block) (nat_lt block (block + 1)) (le-leb block block (omega arith))
@@ -272,17 +278,19 @@ tracked-resyncs h block runs none is t homes =
           ];
       copied = λ place other inner copy. elim (copy-appended c item place other inner
           (subst (λ (x : PrimaryConnection). IsCopy x place other inner) end copy)) [
-            | inl old ↦ t.copied place other inner old.0
+            | inl old ↦ let was = t.copied place other inner old.0 in
+                (λ faithful. was.0 (and_parts (is_none read) h.faithful faithful).1, was.1)
             | inr new ↦
                 let same : other ≡ block = cc in
                 let bytes : inner ≡ contents = cc in (
-                  ap (settling_map h) same ∙ (settled ∙ ap (λ (l : List ℕ). Some l) (sym bytes)),
+                  λ faithful. ap (settling_map h) same ∙ (settled faithful ∙ ap (λ (l : List ℕ). Some l) (sym bytes)),
                   λ i accepted at waits. subst (λ (n : ℕ). covers accepted.write n ≡ false) (sym same)
                       (next.free i accepted at (waiting-open h i accepted t at waits)),
                 )
           ];
-      equal = λ other within unmarked. elim (cases_Bool (touches item other)) [
+      equal = λ other within unmarked faithful. elim (cases_Bool (touches item other)) [
         | inl here ↦ absurd (both_ways (h.marks block) (subst (λ (n : ℕ). h.marks n ≡ false) (only other here) unmarked) next.marked)
-        | inr apart ↦ ap (content_of (h.opening_map other) other) (appended-apart h item other standing apart) ∙ t.equal other within unmarked
+        | inr apart ↦ ap (content_of (h.opening_map other) other) (appended-apart h item other standing apart)
+            ∙ t.equal other within unmarked (and_parts (is_none read) h.faithful faithful).1
       ];
     }

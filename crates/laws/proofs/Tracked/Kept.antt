@@ -205,9 +205,9 @@ known-kept = record {
         numbers = known.numbers;
       };
   refuses = λ h frame peer standing known. record { tracked = tracked-refuses h frame peer standing known.tracked; numbers = known.numbers };
-  resyncs = λ h block runs alone is known. record {
-    tracked = tracked-resyncs h block runs alone is known.tracked
-        (homes-kept.resyncs h block runs alone is known.tracked.homes);
+  resyncs = λ h block read may runs alone is known. record {
+    tracked = tracked-resyncs h block read runs alone is known.tracked
+        (homes-kept.resyncs h block read may runs alone is known.tracked.homes);
     numbers = known.numbers;
   };
   closes = λ h standing known. record { tracked = tracked-closes h standing known.tracked; numbers = known.numbers };

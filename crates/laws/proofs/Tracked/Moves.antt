@@ -24,6 +24,7 @@ use Rattle.laws.proofs.Tracked.{IsUnderWay, IsCopy, IsTracked}
 use Rattle.laws.proofs.Blocks.Overlays.{overlay-none, under-outside}
 use Rattle.laws.proofs.Lists.Elements.{get-left, get-more}
 use Rattle.laws.proofs.Blocks.Ranges.{outside-range}
+use Rattle.std.proofs.Common.{IsTrue}
 
 -- At the opening nothing was written or sent.
 pub tracked-opening : (settings : Settings) (disk : BlockMap) (tuple : Tuple) (marks : ℕ → Bool)
@@ -37,7 +38,7 @@ tracked-opening settings disk tuple marks sized = record {
   on_disk = λ i accepted at completed. absurd (cc);
   under_way = λ place block contents way. absurd (let s = way.standing in cc);
   copied = λ place block contents copy. absurd (let s = copy.standing in cc);
-  equal = λ block within unmarked. refl;
+  equal = λ block within unmarked faithful. refl;
 }
 
 -- No item touches a block past the end of the device, and no write reaches it.
@@ -120,7 +121,7 @@ pub tracked-quiet : (h : PrimaryHistory) (connections : List PrimaryConnection) 
     → ((block : ℕ) → latest connections block ≡ latest h.connections block)
     → (is_established (primary_connection (changed h connections marks tuple peer receipts)) ≡ true → last_index connections ≡ last_index h.connections)
     → KeepsBlocks (primary_connection h) (primary_connection (changed h connections marks tuple peer receipts))
-    → ((block : ℕ) → block < h.settings.blocks → marks block ≡ false → sent_map h block ≡ settling_map h block)
+    → ((block : ℕ) → block < h.settings.blocks → marks block ≡ false → IsTrue h.faithful → sent_map h block ≡ settling_map h block)
     → IsTracked (changed h connections marks tuple peer receipts)
 tracked-quiet h connections marks tuple peer receipts t homes same index keeps equal = record {
   homes = homes;
@@ -133,7 +134,7 @@ tracked-quiet h connections marks tuple peer receipts t homes same index keeps e
       same block ∙ (was ∙ ap (λ (n : ℕ). Some (record { connection = n; place = place; item = ResyncItem block contents })) (sym (index way.standing)));
   copied = λ place block contents copy. t.copied place block contents
       (copy-before (primary_connection h) (primary_connection later) place block contents keeps copy);
-  equal = λ block within unmarked. ap (content_of (h.opening_map block) block) (same block) ∙ equal block within unmarked;
+  equal = λ block within unmarked faithful. ap (content_of (h.opening_map block) block) (same block) ∙ equal block within unmarked faithful;
 }
   where
     later : PrimaryHistory
@@ -145,7 +146,7 @@ pub tracked-turn : (h : PrimaryHistory) (f : PrimaryConnection → PrimaryConnec
     → HasHomes (changed h (change_last f h.connections) marks tuple peer receipts)
     → ((block : ℕ) → latest (change_last f h.connections) block ≡ latest h.connections block)
     → KeepsBlocks (primary_connection h) (f (primary_connection h))
-    → ((block : ℕ) → block < h.settings.blocks → marks block ≡ false → sent_map h block ≡ settling_map h block)
+    → ((block : ℕ) → block < h.settings.blocks → marks block ≡ false → IsTrue h.faithful → sent_map h block ≡ settling_map h block)
     → IsTracked (changed h (change_last f h.connections) marks tuple peer receipts)
 tracked-turn h f marks tuple peer receipts standing t homes same keeps equal =
     tracked-quiet h (change_last f h.connections) marks tuple peer receipts t homes same (λ stood. ap (λ (n : ℕ). n - 1) (length-change f h.connections))

@@ -55,7 +55,7 @@ numbered-kept = record {
     numbers = known.numbers;
   };
   refuses = λ h frame peer standing known. record { homes = homes-kept.refuses h frame peer standing known.homes; numbers = known.numbers };
-  resyncs = λ h block runs alone is known. record { homes = homes-kept.resyncs h block runs alone is known.homes; numbers = known.numbers };
+  resyncs = λ h block read may runs alone is known. record { homes = homes-kept.resyncs h block read may runs alone is known.homes; numbers = known.numbers };
   closes = λ h standing known. record { homes = homes-kept.closes h standing known.homes; numbers = known.numbers };
   receipts = λ h number known. record { homes = homes-kept.receipts h number known.homes; numbers = known.numbers };
 }

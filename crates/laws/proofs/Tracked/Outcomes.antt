@@ -99,7 +99,7 @@ tracked-outcome h number outcome marks unfinished t homes done copied equal = re
   under_way = t.under_way;
   copied = λ place block contents copy.
       let was = t.copied place block contents copy in (
-        copied place block contents copy ∙ was.0,
+        λ faithful. copied place block contents copy ∙ was.0 faithful,
         λ i b at waits.
             let a = before i b at in
             elim a.3 [
@@ -108,7 +108,7 @@ tracked-outcome h number outcome marks unfinished t homes done copied equal = re
                   (was.1 i a.0 a.1 (subst (λ (x : Accepted). is_waiting x.outcome ≡ true) kept waits))
             ],
       );
-  equal = λ block within unmarked. t.equal block within (equal block unmarked).0 ∙ sym (equal block unmarked).1;
+  equal = λ block within unmarked faithful. t.equal block within (equal block unmarked).0 faithful ∙ sym (equal block unmarked).1;
 }
   where
     before : (i : ℕ) (b : Accepted) → slice_get (map (set_outcome number outcome) h.writes) i ≡ Some b

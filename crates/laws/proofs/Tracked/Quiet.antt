@@ -38,6 +38,7 @@ use Rattle.laws.proofs.Tracked.Moves.{some-connection, unanswered-before, untouc
 use Rattle.laws.proofs.Primary.Ends.{established-parts, not-refused, frames-taking}
 use Rattle.laws.proofs.Primary.HomesFollowing.{homes-completions, homes-ending, homes-parting}
 use Rattle.laws.proofs.Rules.RefusedFrames.{refusing, refused_by}
+use Rattle.std.proofs.Common.{IsTrue}
 
 -- What follows a step.
 
@@ -135,7 +136,7 @@ tracked-begins h peer decided standing new t = go decided
         → ((place block : ℕ) (contents : List ℕ)
         → slice_get (g (with_frame (Ok (UuidsFrame peer)) (primary_connection h))).stream place ≡ Some (ResyncItem block contents)
         → ⊥)
-        → ((block : ℕ) → block < h.settings.blocks → marks block ≡ false → sent_map h block ≡ settling_map h block)
+        → ((block : ℕ) → block < h.settings.blocks → marks block ≡ false → IsTrue h.faithful → sent_map h block ≡ settling_map h block)
         → IsTracked (changed h (change_last g (change_last (with_frame (Ok (UuidsFrame peer))) h.connections)) marks tuple (Some peer) h.receipts)
     beginning g marks tuple homes same none equal =
         let f : PrimaryConnection → PrimaryConnection = λ c. g (with_frame (Ok (UuidsFrame peer)) c) in
@@ -234,7 +235,7 @@ tracked-sends h standing t homes = tracked-turn h pushing h.marks h.tuple h.peer
 -- A frame is taken, and marks may change where what was sent is the same.
 tracked-taking : (h : PrimaryHistory) (frame : Received) (marks : Marks) → (primary_connection h).closed ≡ false → IsTracked h
     → HasHomes (changed h (change_last (with_frame frame) h.connections) marks h.tuple h.peer h.receipts)
-    → ((block : ℕ) → block < h.settings.blocks → marks block ≡ false → sent_map h block ≡ settling_map h block)
+    → ((block : ℕ) → block < h.settings.blocks → marks block ≡ false → IsTrue h.faithful → sent_map h block ≡ settling_map h block)
     → IsTracked (changed h (change_last (with_frame frame) h.connections) marks h.tuple h.peer h.receipts)
 tracked-taking h frame marks standing t homes equal = tracked-turn h (with_frame frame) marks h.tuple h.peer h.receipts standing t homes
     (λ block. latest-same (with_frame frame) h.connections block (λ c. refl))
@@ -282,10 +283,10 @@ copy-content block contents = let none : block - block ≡ 0 = omega arith in ap
 
 -- on a block that is under way what was sent is what the local disk comes to hold
 under-way-equal : (h : PrimaryHistory) (place block : ℕ) (contents : List ℕ) → IsTracked h → IsUnderWay (primary_connection h) place block contents
-    → sent_map h block ≡ settling_map h block
-under-way-equal h place block contents t way =
+    → IsTrue h.faithful → sent_map h block ≡ settling_map h block
+under-way-equal h place block contents t way faithful =
     ap (content_of (h.opening_map block) block) (t.under_way place block contents way)
-    ∙ (copy-content block contents ∙ sym (t.copied place block contents (under-way-copied h place block contents t way)).0)
+    ∙ (copy-content block contents ∙ sym ((t.copied place block contents (under-way-copied h place block contents t way)).0 faithful))
 
 -- A block's acknowledgement clears its mark: it was under way.
 pub tracked-clears : (h : PrimaryHistory) (ack : Acknowledged) → (primary_connection h).closed ≡ false → (primary_connection h).begun ≡ true
@@ -296,7 +297,7 @@ tracked-clears h ack standing begun may t =
     (λ block within unmarked. elim (and_cases (h.marks block) (not (block == ack.first)) unmarked) [
       | inl before ↦ t.equal block within before
       | inr cleared ↦ let is : block ≡ ack.first = eqb-true block ack.first (not-false (block == ack.first) cleared) in subst
-          (λ (b : ℕ). sent_map h b ≡ settling_map h b) (sym is) (there (slice_get (primary_connection h).stream ack.place) refl may.names may.first)
+          (λ (b : ℕ). IsTrue h.faithful → sent_map h b ≡ settling_map h b) (sym is) (there (slice_get (primary_connection h).stream ack.place) refl may.names may.first)
     ])
   where
     stood : is_established (primary_connection h) ≡ true
@@ -304,12 +305,12 @@ tracked-clears h ack standing begun may t =
 
     block-of : (item : StreamItem) → slice_get (primary_connection h).stream ack.place ≡ Some item → is_resync item ≡ true
         → same_naming (naming ack.place item) ack ≡ true
-        → was_resynced (primary_connection h) ack.place item ≡ false → sent_map h ack.first ≡ settling_map h ack.first
+        → was_resynced (primary_connection h) ack.place item ≡ false → IsTrue h.faithful → sent_map h ack.first ≡ settling_map h ack.first
     block-of (WriteItem write) is resync same open_yet = absurd (cc)
     block-of (ResyncItem block contents) is resync same open_yet =
         let parts = and_parts ((block == ack.first) && (0 == ack.number)) ((1 == ack.count) && (ack.place == ack.place)) same in
         let first : block ≡ ack.first = eqb-true block ack.first (and_parts (block == ack.first) (0 == ack.number) parts.0).0 in
-        subst (λ (b : ℕ). sent_map h b ≡ settling_map h b) first
+        subst (λ (b : ℕ). IsTrue h.faithful → sent_map h b ≡ settling_map h b) first
         (under-way-equal h ack.place block contents t (record { standing = stood; there = is; unanswered = open_yet }))
     block-of (BarrierItem epoch) is resync same open_yet = absurd (cc)
     block-of (SyncUuidItem word) is resync same open_yet = absurd (cc)
@@ -322,7 +323,7 @@ tracked-clears h ack standing begun may t =
               && nat_lt ack.place (items_sent (primary_connection h))
         ] ≡ true
         → elim v as (λ _. Bool) [ None ↦ false | Some item ↦ was_resynced (primary_connection h) ack.place item ] ≡ false
-        → sent_map h ack.first ≡ settling_map h ack.first
+        → IsTrue h.faithful → sent_map h ack.first ≡ settling_map h ack.first
     there None is names first = absurd (cc)
     there (Some item) is names first =
         let parts = and_parts (is_resync item) (same_naming (naming ack.place item) ack)

@@ -152,7 +152,7 @@ module _ (o : Opening) (here : List PrimaryEvent) (there : List SecondaryEvent) 
   span = spans.spans k c adopted-on.2.primary_connection begun-there
 
   grounded : IsGrounded p s
-  grounded = inl (any-pick (λ (x : PrimaryConnection). x.begun) p.connections k c adopted-on.2.primary_connection begun-there)
+  grounded = (unharmed.faithful, inl (any-pick (λ (x : PrimaryConnection). x.begun) p.connections k c adopted-on.2.primary_connection begun-there))
 
   -- nothing of the connection is applied on a block
   abbrev IsBare : ℕ → Type 0
@@ -216,7 +216,7 @@ module _ (o : Opening) (here : List PrimaryEvent) (there : List SecondaryEvent) 
       let stood = pick-filtered (λ (w : Accepted). not (is_released p w)) p.writes found.0 found.1 found.2 in
       both_ways (covers found.1.write block) (free stood.0 found.1 stood.1) found.3) in
       let same = same-equal (local_map p block) (secondary_map s block)
-      (joined-agrees o here there sound joined grounded block (reflected p block accounted (or_from (is_marked p block) _ unmarked unheld))) in
+      (joined-agrees o here there sound joined grounded block (reflected p block accounted unharmed.faithful (or_from (is_marked p block) _ unmarked unheld))) in
       let here_map : local_map p block ≡ p.opening_map block = overlay-none local_layer p.opening_map p.writes block
       (λ i w at v. under-outside (local_layer w) block v (free i w at)) in
       let there_map : secondary_map s block ≡ map_of d block = reaches-disk s epochs block (map_of d block) j d a.at refl

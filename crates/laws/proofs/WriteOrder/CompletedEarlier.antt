@@ -45,6 +45,7 @@ use Rattle.std.specs.Prelude.{is_some, if◌then◌else◌}
 use Rattle.blocks.specs.Positions.{StreamPosition}
 use Rattle.laws.proofs.WriteOrder.Sets.{AreInTurn}
 use Rattle.laws.proofs.Rules.RefusedFrames.{refused_out, refused-last}
+use Rattle.model.specs.PrimarySteps.{given}
 
 -- In turn; and what that is seen by: no write was accepted with a longer journal, and each home is a place of its stream.
 pub record HasTurns (h : PrimaryHistory) : Type 0 where
@@ -385,10 +386,10 @@ turns-kept settings bound =
             (refused-last frame peer h) (begins-self (primary_connection h).stream) refl refl
             p.1,
       );
-      resyncs = λ h block runs alone is p. (
-        order.resyncs h block runs alone is p.0,
-        turns-change h _ (λ c. record c { stream = c.stream ++ ResyncItem block (unwrap_or (local_map h block) []) ∷ [] }) refl
-            (ResyncItem block (unwrap_or (local_map h block) []) ∷ [], refl) refl refl p.1,
+      resyncs = λ h block read may runs alone is p. (
+        order.resyncs h block read may runs alone is p.0,
+        turns-change h _ (λ c. record c { stream = c.stream ++ ResyncItem block (given read h block) ∷ [] }) refl
+            (ResyncItem block (given read h block) ∷ [], refl) refl refl p.1,
       );
       closes = λ h standing p. (
         order.closes h standing p.0,

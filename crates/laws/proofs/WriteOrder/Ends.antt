@@ -166,4 +166,4 @@ module _ (o : Opening) (here : List PrimaryEvent) (there : List SecondaryEvent)
 
   -- no write failed
   pub none-failed : IsUnharmed p s → NoneFailed p
-  none-failed unharmed n a at = pick-none (λ (x : Accepted). is_failed x.outcome) p.writes n a unharmed.local at
+  none-failed unharmed = (λ n a at. pick-none (λ (x : Accepted). is_failed x.outcome) p.writes n a unharmed.local at, unharmed.faithful)

@@ -15,7 +15,7 @@ use Rattle.model.specs.Identifiers.{stands_in, decision, lost}
 use Rattle.model.specs.Primary.{OnDisk, Accepted, PrimaryConnection, PrimaryHistory, no_primary_connection, primary_connection, last_of, change_last}
 use Rattle.model.specs.Primary.{with_primary_connection}
 use Rattle.model.specs.Primary.{is_established, local_map, primary_opening}
-use Rattle.model.specs.PrimarySteps.{submission, submitted, with_outcome, accepted_at, faulted, closing, receipted, submitted_with}
+use Rattle.model.specs.PrimarySteps.{submission, submitted, with_outcome, accepted_at, faulted, closing, receipted, submitted_with, given}
 use Rattle.model.specs.PrimarySteps.{faulted_by}
 use Rattle.model.specs.Acknowledgements.{begun_with}
 use Rattle.model.specs.LocalRuns.{PrimaryEvent, primary_run}
@@ -171,9 +171,9 @@ left-kept settings bound =
       );
       confirms = λ h number size standing begun turn p. (base.confirms h number size standing begun turn p.0, takes h _ p.1);
       refuses = λ h frame peer standing p. (base.refuses h frame peer standing p.0, left-refuses h frame peer standing p.1);
-      resyncs = λ h block runs alone is p. (
-        base.resyncs h block runs alone is p.0,
-        left-appends h _ (ResyncItem block (unwrap_or (local_map h block) [])) refl refl refl (λ tuple same. cc) p.1,
+      resyncs = λ h block read may runs alone is p. (
+        base.resyncs h block read may runs alone is p.0,
+        left-appends h _ (ResyncItem block (given read h block)) refl refl refl (λ tuple same. cc) p.1,
       );
       closes = λ h standing p. (
         base.closes h standing p.0,

@@ -15,7 +15,8 @@ use Rattle.model.specs.Primary.{LocalOutcome, Waiting, OnDisk, Failed, Accepted,
 use Rattle.model.specs.Primary.{is_established, new_primary_connection}
 use Rattle.model.specs.Primary.{local_layer, local_map, offset_reached, is_waiting, is_failed, is_resync, was_resynced, resync_runs}
 use Rattle.model.specs.Primary.{in_resync, free_block, accepted_frames}
-use Rattle.model.specs.PrimarySteps.{epoch_is_over, appending, opened, closing}
+use Rattle.model.specs.PrimarySteps.{epoch_is_over, appending, opened, closing, copying, given}
+use Rattle.laws.proofs.Tracked.Added.{none-read}
 use Rattle.laws.proofs.Rules.FreeBlocks.{IsFree, free-found}
 use Rattle.laws.proofs.Rules.EpochEnds.{goes-on}
 use Rattle.laws.proofs.Lists.Beginnings.{begins-self}
@@ -38,6 +39,7 @@ use Rattle.laws.proofs.WriteOrder.Spans.{NoneFailed, IsAcknowledged, left_by, Pa
 use Rattle.laws.proofs.WriteOrder.SpanMoves.{HasSpans, span-shut, keeps-quiet}
 use Rattle.laws.proofs.WriteOrder.SpanKept.{grows-with, grows-item, spans-end, spans-takes}
 use Rattle.laws.proofs.Rules.RefusedFrames.{refused_out, refused_by, refused-last}
+use Rattle.std.proofs.Common.{is_none}
 
 -- An acknowledged block of a resync.
 pub spans-clears : (h : PrimaryHistory) (ack : Acknowledged) → HasHomes h → IsLastOpen h → (primary_connection h).closed ≡ false
@@ -47,7 +49,7 @@ pub spans-clears : (h : PrimaryHistory) (ack : Acknowledged) → HasHomes h → 
 spans-clears h ack homes last standing begun may t =
     spans-takes h _ (Ok (RsWriteAckFrame ack)) homes last standing refl refl (
       refl,
-      (refl, (refl, refl)),
+      (refl, (refl, (refl, λ faithful. faithful))),
     ) (λ block unmarked. elim (and_cases (h.marks block) (not (block == ack.first)) unmarked) [
       | inl clean ↦ inl clean
       | inr cleared ↦
@@ -66,7 +68,7 @@ spans-clears h ack homes last standing begun may t =
 pub spans-closes : (h : PrimaryHistory) → IsLastOpen h → HasSpans h → HasSpans (closing h)
 spans-closes h last t =
     let f : PrimaryConnection → PrimaryConnection = λ c. record c { closed = true } in
-    spans-end h (closing h) f last refl refl (refl, (refl, (refl, refl))) refl (begins-self (primary_connection h).taken)
+    spans-end h (closing h) f last refl refl (refl, (refl, (refl, (refl, λ faithful. faithful)))) refl (begins-self (primary_connection h).taken)
     (keeps-quiet h (closing h) (f (primary_connection h)) refl
     (λ k at. grows-with (primary_connection h) (f (primary_connection h)) refl (omega arith) (begins-self (accepted_frames (primary_connection h))))
     (λ is. absurd (cc)) refl
@@ -80,7 +82,7 @@ spans-refuses h frame peer homes last standing t =
     let f : PrimaryConnection → PrimaryConnection = refused_out frame in
     let later : PrimaryHistory = closing (refused_by frame peer h) in
     spans-end h later f last (refused-last frame peer h) refl
-    (refl, (refl, (refl, refl))) refl (frame ∷ [], refl)
+    (refl, (refl, (refl, (refl, λ faithful. faithful)))) refl (frame ∷ [], refl)
     (keeps-quiet h later (f (primary_connection h)) refl
     (λ k at. grows-with (primary_connection h) (f (primary_connection h)) refl (omega arith)
     (subst (λ (l : List Received). IsBeginning (accepted_frames (primary_connection h)) l)
@@ -145,7 +147,7 @@ local-full h block fine free =
     overlay-agrees local_layer full_layer h.opening_map h.writes block (λ i a at v. elim (cases_Bool (covers a.write block)) [
       | inr outside ↦ under-outside (local_layer a) block v outside ∙ sym (under-outside (full_layer a) block v outside)
       | inl inside ↦ under-alike a.write.first a.write.contents (offset_reached a.outcome) (λ offset. true) block v
-          (reached a.outcome (fine i a at) (λ waits. both_ways (covers a.write block) (free i a at waits) inside) (block - a.write.first))
+          (reached a.outcome (fine.0 i a at) (λ waits. both_ways (covers a.write block) (free i a at waits) inside) (block - a.write.first))
     ])
     ∙ ap (λ (l : List Accepted). overlay h.opening_map (map full_layer l) block) (sym (take-all h.writes))
   where
@@ -155,12 +157,13 @@ local-full h block fine free =
     reached (Failed offsets) fails waits offset = absurd (cc)
 
 -- A block of a resync is read: no open write has it.
-pub spans-resyncs : (h : PrimaryHistory) (block : ℕ) → IsKnown h → HasHomes h → IsLastOpen h → epoch_is_over h ≡ false
+pub spans-resyncs : (h : PrimaryHistory) (block : ℕ) (read : Option (List ℕ)) → IsKnown h → HasHomes h → IsLastOpen h → epoch_is_over h ≡ false
     → resync_runs (primary_connection h) ≡ true
     → free_block h ≡ Some block → HasSpans h
-    → HasSpans (appending (ResyncItem block (unwrap_or (local_map h block) [])) h)
-spans-resyncs h block known homes last on runs free t =
-    spans-end h later f last refl refl (refl, (refl, (refl, refl))) refl (begins-self (primary_connection h).taken) (record {
+    → HasSpans (copying read block h)
+spans-resyncs h block read known homes last on runs free t =
+    spans-end h later f last refl refl (refl, (refl, (refl, (refl, λ faithful. (and_parts (is_none read) h.faithful faithful).1)))) refl
+    (begins-self (primary_connection h).taken) (record {
       grows = λ k at. grows-item (primary_connection h) item;
       unshut = λ is. is;
       begun = refl;
@@ -170,7 +173,9 @@ spans-resyncs h block known homes last on runs free t =
         | inr new ↦ inr (
             let same : ResyncItem other contents ≡ item = new.1 in
             let one : other ≡ block = ap first_block same in
-            let two : contents ≡ unwrap_or (local_map h block) [] = ap contents_block same in
+            let held = and_parts (is_none read) h.faithful fine.1 in
+            let two : contents ≡ unwrap_or (local_map h block) [] = ap contents_block same
+            ∙ ap (λ (v : Option (List ℕ)). unwrap_or v (unwrap_or (local_map h block) [])) (none-read read held.0) in
             let size = new.0 in
             let short = s.rising in
             let still = s.still standing in
@@ -178,7 +183,7 @@ spans-resyncs h block known homes last on runs free t =
               count = length h.writes;
               more = omega arith;
               bound = omega arith;
-              content = sym (local-full h block fine (λ i a ata waits. next.free i a ata (waits-open h known i a ata waits)))
+              content = sym (local-full h block (fine.0, held.1) (λ i a ata waits. next.free i a ata (waits-open h known i a ata waits)))
                   ∙ (some-of (local_map h block) (overlay-some h.opening_map (map local_layer h.writes) block (known.tracked.sized block next.within))
                   ∙ ap (λ (l : List ℕ). Some l) (sym two));
               before = λ n a from less ata covered.
@@ -214,13 +219,13 @@ spans-resyncs h block known homes last on runs free t =
     }) t
   where
     item : StreamItem
-    item = ResyncItem block (unwrap_or (local_map h block) [])
+    item = ResyncItem block (given read h block)
 
     f : PrimaryConnection → PrimaryConnection
-    f c = record c { stream = c.stream ++ ResyncItem block (unwrap_or (local_map h block) []) ∷ [] }
+    f c = record c { stream = c.stream ++ ResyncItem block (given read h block) ∷ [] }
 
     later : PrimaryHistory
-    later = appending (ResyncItem block (unwrap_or (local_map h block) [])) h
+    later = copying read block h
 
     stood : is_established (primary_connection h) ≡ true
     stood = (and_parts (is_established (primary_connection h)) (in_resync (primary_connection h).stream) runs).0

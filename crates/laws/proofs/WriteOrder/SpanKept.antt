@@ -99,19 +99,19 @@ Follows h = IsLastOpen h × HasSpans h
 -- what follows an effect keeps both
 pub spans-following : (h : PrimaryHistory) → Follows h → Follows (follows h).history
 spans-following = following-from Follows Follows Follows
-    (λ h t. (t.0, spans-still h (with_completions h) t.0 refl refl (refl, (refl, (refl, refl))) (λ block is. is) t.1))
+    (λ h t. (t.0, spans-still h (with_completions h) t.0 refl refl (refl, (refl, (refl, (refl, λ faithful. faithful)))) (λ block is. is) t.1))
     (λ g over t. (
       changes g.connections _ t.0,
       spans-appends g _ (BarrierItem (last_epoch (primary_connection g).stream)) t.0 refl refl (
         refl,
-        (refl, (refl, refl)),
+        (refl, (refl, (refl, λ faithful. faithful))),
       ) (λ block is. is) (λ block contents is. cc) (λ tuple is. absurd (cc)) t.1,
     )) (λ g on t. t)
     (λ g over t. (
       changes g.connections _ t.0,
       spans-appends g (ending_resync g) (UuidsItem (sync_end g.tuple)) t.0 refl refl (
         refl,
-        (refl, (refl, refl)),
+        (refl, (refl, (refl, λ faithful. faithful))),
       ) (λ block is. is) (λ block contents is. cc) (λ tuple is. (open-established (primary_connection g) (over-established g over), over-unmarked g over))
           t.1,
     )) (λ g t. t)

@@ -14,6 +14,7 @@ use Rattle.laws.proofs.Primary.LastOpen.{IsLastOpen}
 use Rattle.laws.proofs.WriteOrder.Layers.{writes_over}
 use Rattle.laws.proofs.WriteOrder.Sets.{IsRead}
 use Rattle.laws.proofs.WriteOrder.Spans.{NoneFailed, IsAcknowledged, IsSpan, Passes, span-passes}
+use Rattle.std.proofs.Common.{IsTrue}
 
 -- Each connection that began has its span; and as long as none began, no write was accepted where there was nothing to resync.
 pub record HasSpans (h : PrimaryHistory) : Type 0 where
@@ -23,7 +24,7 @@ pub record HasSpans (h : PrimaryHistory) : Type 0 where
 -- the opening stays
 abbrev pub SameOpening : PrimaryHistory → PrimaryHistory → Type 0
 SameOpening h later = (later.opening_map ≡ h.opening_map)
-    × ((later.opening_tuple ≡ h.opening_tuple) × ((later.opening_marks ≡ h.opening_marks) × (later.settings ≡ h.settings)))
+    × ((later.opening_tuple ≡ h.opening_tuple) × ((later.opening_marks ≡ h.opening_marks) × ((later.settings ≡ h.settings) × (IsTrue later.faithful → IsTrue h.faithful))))
 
 -- the first stream that began stays so
 abbrev pub KeepsFirst : PrimaryHistory → PrimaryHistory → Type 0
@@ -37,11 +38,11 @@ passes-change h later f connections writes opening first = record {
   map = opening.0;
   tuple = opening.1.0;
   marks = opening.1.1.0;
-  settings = opening.1.1.1;
+  settings = opening.1.1.1.0;
   over = λ count block within. ap (λ (l : List Accepted). writes_over h.opening_map count l block) writes;
   writes = λ i b less at. (b, subst (λ (l : List Accepted). slice_get l i ≡ Some b) writes at, refl, refl);
   count = let same = ap length writes in omega arith;
-  fine = λ fine n a at. fine n a (subst (λ (l : List Accepted). slice_get l n ≡ Some a) (sym writes) at);
+  fine = λ fine. (λ n a at. fine.0 n a (subst (λ (l : List Accepted). slice_get l n ≡ Some a) (sym writes) at), opening.1.1.1.1 fine.1);
   front = λ j c less at. subst (λ (l : List PrimaryConnection). slice_get l j ≡ Some c) (sym connections)
       (elim (get-change f (no_primary_connection h.tuple) h.connections j c at)
       [ inl same ↦ same | inr changed ↦ absurd (let end = changed.2 in omega arith) ]);

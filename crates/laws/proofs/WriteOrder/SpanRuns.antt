@@ -100,7 +100,7 @@ module _ (h later : PrimaryHistory) (peer : Tuple) (decided : Decision) (f : Pri
       let same = holds (begins-passes.fine fine) block clean in
       let within = slice_get_within h.connections k (primary_connection h) at in
       let none = empty k at in
-      elim (reflected h block accounted (uncovered block clean)) [
+      elim (reflected h block accounted (begins-passes.fine fine).1 (uncovered block clean)) [
         | inl from ↦ below-passes h later k (length h.writes) block begins-passes within (omega arith) (inl (record {
           connection = from.connection;
           place = from.place;
@@ -162,7 +162,7 @@ module _ (h later : PrimaryHistory) (peer : Tuple) (decided : Decision) (f : Pri
               ∙ fresh
         ]) (sym (ap (λ (x : Tuple). x.bitmap) b.opening.1.0) ∙ bitmap);
         clean = λ fine unshut block inside unmarked. inr
-            (begins-below fine k block at late (subst (λ (x : Settings). block < x.blocks) b.opening.1.1.1 inside) unmarked);
+            (begins-below fine k block at late (subst (λ (x : Settings). block < x.blocks) b.opening.1.1.1.0 inside) unmarked);
         synced = λ fine n tuple there. absurd (b.no_end n tuple there);
       }
 
@@ -210,7 +210,7 @@ spans-begins h peer decided homes last accounted standing fresh is t = go decide
         last accounted standing fresh is (record {
           connections = change-twice (with_frame frame) (λ c. record c { begun = true }) h.connections;
           writes = refl;
-          opening = (refl, (refl, (refl, refl)));
+          opening = (refl, (refl, (refl, (refl, λ faithful. faithful))));
           begun = refl;
           taken = refl;
           no_block = λ n block contents at. no-item h homes standing fresh n (ResyncItem block contents) at;
@@ -225,7 +225,7 @@ spans-begins h peer decided homes last accounted standing fresh is t = go decide
         is (record {
           connections = change-twice (with_frame frame) (λ c. record c { begun = true; stream = SyncUuidItem word ∷ [] }) h.connections;
           writes = refl;
-          opening = (refl, (refl, (refl, refl)));
+          opening = (refl, (refl, (refl, (refl, λ faithful. faithful))));
           begun = refl;
           taken = refl;
           no_block = start-block word;
@@ -242,7 +242,7 @@ spans-begins h peer decided homes last accounted standing fresh is t = go decide
         is (record {
           connections = change-twice (with_frame frame) (λ c. record c { begun = true; stream = SyncUuidItem word ∷ [] }) h.connections;
           writes = refl;
-          opening = (refl, (refl, (refl, refl)));
+          opening = (refl, (refl, (refl, (refl, λ faithful. faithful))));
           begun = refl;
           taken = refl;
           no_block = start-block word;
@@ -268,7 +268,7 @@ spans-kept settings bound =
     → HasSpans (with_primary_connection (with_frame frame) h) = λ h frame standing p.
     spans-takes h (with_primary_connection (with_frame frame) h) frame p.0.0.1.1.0.0 p.0.0.1.0 standing refl refl (
       refl,
-      (refl, (refl, refl)),
+      (refl, (refl, (refl, λ faithful. faithful))),
     ) (λ block unmarked. inl unmarked) p.1 in
     record {
       following = λ h p. (base.following h p.0, (spans-following h (p.0.0.1.0, p.1)).1);
@@ -278,7 +278,7 @@ spans-kept settings bound =
       faults = λ h number offsets waiting p. (base.faults h number offsets waiting p.0, spans-faults h number offsets p.0.0.1.0 p.1);
       sends = λ h standing due p. (
         base.sends h standing due p.0,
-        spans-end h (with_primary_connection pushing h) pushing p.0.0.1.0 refl refl (refl, (refl, (refl, refl))) refl (begins-self (primary_connection h).taken)
+        spans-end h (with_primary_connection pushing h) pushing p.0.0.1.0 refl refl (refl, (refl, (refl, (refl, λ faithful. faithful)))) refl (begins-self (primary_connection h).taken)
             (keeps-quiet h (with_primary_connection pushing h) (pushing (primary_connection h)) refl
             (λ k at. grows-with (primary_connection h) (pushing (primary_connection h)) refl (omega arith)
             (begins-self (accepted_frames (primary_connection h)))) (λ u. u) refl
@@ -294,14 +294,14 @@ spans-kept settings bound =
       clears = λ h ack standing begun may p. (base.clears h ack standing begun may p.0, spans-clears h ack p.0.0.1.1.0.0 p.0.0.1.0 standing begun may p.1);
       confirms = λ h number size standing begun turn p. (base.confirms h number size standing begun turn p.0, takes h _ standing p);
       refuses = λ h frame peer standing p. (base.refuses h frame peer standing p.0, spans-refuses h frame peer p.0.0.1.1.0.0 p.0.0.1.0 standing p.1);
-      resyncs = λ h block runs alone is p. (
-        base.resyncs h block runs alone is p.0,
-        spans-resyncs h block p.0.0.0 p.0.0.1.1.0.0 p.0.0.1.0 p.0.0.1.1.0.1.on runs is p.1,
+      resyncs = λ h block read may runs alone is p. (
+        base.resyncs h block read may runs alone is p.0,
+        spans-resyncs h block read p.0.0.0 p.0.0.1.1.0.0 p.0.0.1.0 p.0.0.1.1.0.1.on runs is p.1,
       );
       closes = λ h standing p. (base.closes h standing p.0, spans-closes h p.0.0.1.0 p.1);
       receipts = λ h number p. (
         base.receipts h number p.0,
-        spans-still h (receipted number h) p.0.0.1.0 refl refl (refl, (refl, (refl, refl))) (λ block unmarked. unmarked) p.1,
+        spans-still h (receipted number h) p.0.0.1.0 refl refl (refl, (refl, (refl, (refl, λ faithful. faithful)))) (λ block unmarked. unmarked) p.1,
       );
     }
 

@@ -55,7 +55,7 @@ passes-outcome h later number outcome connections writes opening fine = record {
   map = opening.0;
   tuple = opening.1.0;
   marks = opening.1.1.0;
-  settings = opening.1.1.1;
+  settings = opening.1.1.1.0;
   over = λ count block within. ap (λ (l : List Accepted). writes_over h.opening_map count l block) writes
       ∙ over-outcome number outcome h.opening_map count block h.writes;
   writes = λ i b less at.
@@ -88,36 +88,39 @@ spans-outcome h later number outcome last connections writes opening fine marks 
 
 -- a write that is done had not failed, since it waited
 none-failed-done : (h : PrimaryHistory) (number : ℕ) → HasHomes h → is_unfinished h number ≡ true → NoneFailed (with_outcome number OnDisk h) → NoneFailed h
-none-failed-done h number homes waiting fine n a at = go (a.write.number == number) refl
+none-failed-done h number homes waiting fine = (done, fine.1)
   where
-    there : slice_get (map (set_outcome number OnDisk) h.writes) n ≡ Some (set_outcome number OnDisk a)
-    there = slice_get-map (set_outcome number OnDisk) h.writes n
-        ∙ ap (λ (v : Option Accepted). elim v as (λ _. Option Accepted) [ None ↦ None | Some x ↦ Some (set_outcome number OnDisk x) ]) at
+    done : (n : ℕ) (a : Accepted) → slice_get h.writes n ≡ Some a → is_failed a.outcome ≡ false
+    done n a at = go (a.write.number == number) refl
+      where
+        there : slice_get (map (set_outcome number OnDisk) h.writes) n ≡ Some (set_outcome number OnDisk a)
+        there = slice_get-map (set_outcome number OnDisk) h.writes n
+            ∙ ap (λ (v : Option Accepted). elim v as (λ _. Option Accepted) [ None ↦ None | Some x ↦ Some (set_outcome number OnDisk x) ]) at
 
-    waits-not-failed : (o : LocalOutcome) → is_waiting o ≡ true → is_failed o ≡ false
-    waits-not-failed Waiting is = refl
-    waits-not-failed OnDisk is = refl
-    waits-not-failed (Failed offsets) is = absurd (cc)
+        waits-not-failed : (o : LocalOutcome) → is_waiting o ≡ true → is_failed o ≡ false
+        waits-not-failed Waiting is = refl
+        waits-not-failed OnDisk is = refl
+        waits-not-failed (Failed offsets) is = absurd (cc)
 
-    go : (b : Bool) → (a.write.number == number) ≡ b → is_failed a.outcome ≡ false
-    go false is = ap (λ b. is_failed (if b then record a { outcome = OnDisk } else a).outcome) (sym is) ∙ fine n (set_outcome number OnDisk a) there
-    go true is =
-        let found = pick-any (λ (x : Accepted). (x.write.number == number) && is_waiting x.outcome) h.writes waiting in
-        let parts = and_parts (found.1.write.number == number) (is_waiting found.1.outcome) found.3 in
-        let one = homes.numbered n a at in
-        let two = homes.numbered found.0 found.1 found.2 in
-        let na = eqb-true a.write.number number is in
-        let nb = eqb-true found.1.write.number number parts.0 in
-        let index : found.0 ≡ n = omega arith in
-        let same : found.1 ≡ a = same-at h.writes n found.1 a (subst (λ (m : ℕ). slice_get h.writes m ≡ Some found.1) index found.2) at in
-        waits-not-failed a.outcome (subst (λ (x : Accepted). is_waiting x.outcome ≡ true) same parts.1)
+        go : (b : Bool) → (a.write.number == number) ≡ b → is_failed a.outcome ≡ false
+        go false is = ap (λ b. is_failed (if b then record a { outcome = OnDisk } else a).outcome) (sym is) ∙ fine.0 n (set_outcome number OnDisk a) there
+        go true is =
+            let found = pick-any (λ (x : Accepted). (x.write.number == number) && is_waiting x.outcome) h.writes waiting in
+            let parts = and_parts (found.1.write.number == number) (is_waiting found.1.outcome) found.3 in
+            let one = homes.numbered n a at in
+            let two = homes.numbered found.0 found.1 found.2 in
+            let na = eqb-true a.write.number number is in
+            let nb = eqb-true found.1.write.number number parts.0 in
+            let index : found.0 ≡ n = omega arith in
+            let same : found.1 ≡ a = same-at h.writes n found.1 a (subst (λ (m : ℕ). slice_get h.writes m ≡ Some found.1) index found.2) at in
+            waits-not-failed a.outcome (subst (λ (x : Accepted). is_waiting x.outcome ≡ true) same parts.1)
 
 -- The local disk does a write.
 pub spans-done : (h : PrimaryHistory) (number : ℕ) → HasHomes h → IsLastOpen h → is_unfinished h number ≡ true → HasSpans h
     → HasSpans (with_outcome number OnDisk h)
 spans-done h number homes last waiting t = spans-outcome h (with_outcome number OnDisk h) number OnDisk last refl refl (
   refl,
-  (refl, (refl, refl)),
+  (refl, (refl, (refl, λ faithful. faithful))),
 ) (none-failed-done h number homes waiting) (λ block unmarked. unmarked) t
 
 -- It fails one: that is no history without a failed write.
@@ -130,12 +133,12 @@ spans-faults h number offsets last t = go (accepted_at h number) refl
     go (Some accepted) is =
         let failed : LocalOutcome = Failed (within (length accepted.write.contents) offsets) in
         let later : PrimaryHistory = with_outcome number failed (record h { marks = marking accepted.write h.marks }) in
-        spans-outcome h later number failed last refl refl (refl, (refl, (refl, refl))) (λ fine.
+        spans-outcome h later number failed last refl refl (refl, (refl, (refl, (refl, λ faithful. faithful)))) (λ fine.
         let found = pick-found (λ (x : Accepted). x.write.number == number) h.writes accepted is in
         let there : slice_get (map (set_outcome number failed) h.writes) found.0 ≡ Some (set_outcome number failed accepted) =
         slice_get-map (set_outcome number failed) h.writes found.0
         ∙ ap (λ (v : Option Accepted). elim v as (λ _. Option Accepted) [ None ↦ None | Some x ↦ Some (set_outcome number failed x) ]) found.1 in
-        let not_so = fine found.0 (set_outcome number failed accepted) there in
+        let not_so = fine.0 found.0 (set_outcome number failed accepted) there in
         let so : is_failed (set_outcome number failed accepted).outcome ≡ true =
         ap (λ b. is_failed (if b then record accepted { outcome = failed } else accepted).outcome) found.2 in
         absurd (both_ways (is_failed (set_outcome number failed accepted).outcome) not_so so))
@@ -146,7 +149,7 @@ pub spans-releasing : (settings : Settings) (h later : PrimaryHistory) → IsRel
     → HasSpans (releasing h later)
 spans-releasing settings h later release p q t =
     let same : (releasing h later).connections ≡ change_last (λ (c : PrimaryConnection). c) later.connections = sym (change-none later.connections) in
-    spans-end later (releasing h later) (λ c. c) q.1.0 same refl (refl, (refl, (refl, refl))) refl (begins-self (primary_connection later).taken) (record {
+    spans-end later (releasing h later) (λ c. c) q.1.0 same refl (refl, (refl, (refl, (refl, λ faithful. faithful)))) refl (begins-self (primary_connection later).taken) (record {
       grows = λ k at. grows-self (primary_connection later);
       unshut = λ is. is;
       begun = refl;

@@ -81,7 +81,7 @@ submits-connected h write homes last stood t = record {
     front : Passes h (appending (WriteItem write) h)
     front = passes-change h (appending (WriteItem write) h) f refl refl (
       refl,
-      (refl, (refl, refl)),
+      (refl, (refl, (refl, λ faithful. faithful))),
     ) (λ decided. first-carries h (appending (WriteItem write) h) decided
         (begun-change h (appending (WriteItem write) h) f refl refl (begins-self (primary_connection h).taken)) refl)
 
@@ -95,7 +95,7 @@ submits-connected h write homes last stood t = record {
           (sym (take-begins count h.writes (h.writes ++ new ∷ []) within (new ∷ [], refl)));
       writes = λ i b less at. elim (get-more h.writes new i b at) [ inl old ↦ (b, old, refl, refl) | inr added ↦ absurd (let end = added.0 in omega arith) ];
       count = let size = length-append h.writes (new ∷ []) in omega arith;
-      fine = λ fine n a at. fine n a (get-left h.writes (new ∷ []) n a at);
+      fine = λ fine. (λ n a at. fine.0 n a (get-left h.writes (new ∷ []) n a at), fine.1);
       front = front.front;
       back = front.back;
       first = λ decided. first-carries h later decided (begun-change h later f refl refl (begins-self (primary_connection h).taken)) refl;
@@ -180,7 +180,7 @@ submits-alone h write last accounted rests connected t = record {
           (sym (take-begins count h.writes (h.writes ++ new ∷ []) within (new ∷ [], refl)));
       writes = λ i b less at. elim (get-more h.writes new i b at) [ inl old ↦ (b, old, refl, refl) | inr added ↦ absurd (let end = added.0 in omega arith) ];
       count = let size = length-append h.writes (new ∷ []) in omega arith;
-      fine = λ fine n a at. fine n a (get-left h.writes (new ∷ []) n a at);
+      fine = λ fine. (λ n a at. fine.0 n a (get-left h.writes (new ∷ []) n a at), fine.1);
       front = λ j c less at. at;
       back = λ j c less at. at;
       first = λ decided. first-carries h later decided

@@ -18,10 +18,11 @@ use Rattle.laws.proofs.Primary.Homes.{Grows}
 use Rattle.laws.proofs.Accounted.{sure-grows, epoch-same}
 use Rattle.laws.proofs.WriteOrder.Layers.{writes_over}
 use Rattle.laws.proofs.WriteOrder.Sets.{IsRead}
+use Rattle.std.proofs.Common.{IsTrue}
 
--- no write failed on the local disk
+-- no write failed on the local disk, and it was faithful
 abbrev pub NoneFailed : PrimaryHistory → Type 0
-NoneFailed h = (n : ℕ) (a : Accepted) → slice_get h.writes n ≡ Some a → is_failed a.outcome ≡ false
+NoneFailed h = ((n : ℕ) (a : Accepted) → slice_get h.writes n ≡ Some a → is_failed a.outcome ≡ false) × IsTrue h.faithful
 
 -- the peer has said that it has an item of this end on the block
 pub record IsAcknowledged (c : PrimaryConnection) (block : ℕ) : Type 0 where

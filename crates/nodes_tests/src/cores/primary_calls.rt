@@ -4,7 +4,8 @@ use crate::cores::cases::{Core, Scene, Stepped, holds, run};
 use crate::cores::primary_tables::{
     Answer, Fact, Frame, Outcome, PROTOCOL_WENT, Part, SIZES_WENT, Start, Step, UUIDS_WENT,
 };
-use blocks::{Block, Decision, Done, Refusal, Tuple, What};
+use bitmap::Bitmap;
+use blocks::{Block, Decision, Done, MAX_DEVICE_BLOCKS, Refusal, Tuple, What};
 use bytes::Bytes;
 use packets::{Acknowledgement, Packet};
 use primary_core::{Fate, PrimaryCore};
@@ -216,14 +217,17 @@ fn greet(
     decides(rt, core, scene, peer, Ok(decided));
 }
 
-fn marks_of(alloc: Global, start: &Start) -> Result<Vec<bool>, Refusal> {
+fn marks_of(alloc: Global, start: &Start) -> Result<Bitmap, Refusal> {
     let mut marks = Vec::from_elem(alloc, false, start.settings.blocks as usize)?;
     for block in start.marked {
         if let Some(mark) = marks.get_mut(*block) {
             *mark = true;
         }
     }
-    Ok(marks)
+    if marks.len() > MAX_DEVICE_BLOCKS as usize {
+        return Err(Refusal::BadSetting);
+    }
+    Bitmap::from_marks(alloc, &marks)
 }
 
 impl Core for PrimaryCore {
@@ -235,7 +239,7 @@ impl Core for PrimaryCore {
 
     fn fresh(alloc: Global, start: &Start) -> Result<PrimaryCore, Refusal> {
         let marks = marks_of(alloc, start)?;
-        PrimaryCore::new(alloc, start.settings, start.own, &marks)
+        PrimaryCore::new(alloc, start.settings, start.own, marks)
     }
 
     fn refused(frame: Frame, refusal: Refusal) -> Part {

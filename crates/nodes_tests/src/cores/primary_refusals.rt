@@ -5,7 +5,8 @@ use crate::cores::primary_tables::{
     START, Start, Step,
 };
 use crate::tuples::{OWN, PARTED, RESYNCING};
-use blocks::{Block, Command, Decision, Refusal, Settings, What};
+use bitmap::Bitmap;
+use blocks::{Block, Command, Decision, MAX_DEVICE_BLOCKS, Refusal, Settings, What};
 use primary_core::PrimaryCore;
 use std::alloc::Global;
 
@@ -224,6 +225,10 @@ fn steps_that_are_refused(rt: HostRuntime) {
 
 // Returns why there is no primary of 8 blocks with these marks.
 fn refused(alloc: Global, marks: &[bool]) -> Option<Refusal> {
+    if marks.len() > MAX_DEVICE_BLOCKS as usize {
+        return None;
+    }
+    let marks = Bitmap::from_marks(alloc, marks).ok()?;
     PrimaryCore::new(alloc, SETTINGS, OWN, marks).err()
 }
 

@@ -8,8 +8,7 @@ use std::process::Abort;
 
 /// A bitmap of the largest device, in which no block is marked.
 fn largest(alloc: Global) -> Result<Bitmap, Refusal> {
-    let marks = Vec::from_elem(alloc, false, 262_144)?;
-    Bitmap::from_marks(alloc, &marks)
+    Bitmap::unmarked(alloc, 262_144)
 }
 
 /// Marks the last 32 blocks of the largest device.

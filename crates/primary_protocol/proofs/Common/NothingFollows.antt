@@ -68,7 +68,7 @@ resting-kept = record {
   clears = λ h ack standing begun may p. tt;
   confirms = λ h number size standing begun turn p. tt;
   refuses = λ h frame peer standing p. tt;
-  resyncs = λ h block runs alone is p. tt;
+  resyncs = λ h block read may runs alone is p. tt;
   closes = λ h standing p. tt;
   receipts = λ h number p. p;
 }

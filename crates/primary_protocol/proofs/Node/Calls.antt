@@ -53,15 +53,16 @@ marks-are marks =
 -- A new node has the opening over what its disk holds.
 pub opening-has : (settings : Settings) (disk : List (List ℕ)) (tuple : Tuple) (marks : List Bool) → IsInRange settings
     → IsDisk settings.blocks (slice_get disk) → length marks ≡ settings.blocks
-    → NodeHas (record { core = fresh settings tuple marks; disk = disk; pushed = []; taken = [] })
+    → (faithful : Bool) → NodeHas (record { core = fresh settings tuple marks; disk = disk; pushed = []; taken = []; faithful = faithful })
     (primary_opening settings (slice_get disk) tuple (λ block. unwrap_or (slice_get marks block) false))
-opening-has settings disk tuple marks ranges sized size = record {
+opening-has settings disk tuple marks ranges sized size faithful = record {
   leaves = record {
     core = subst (λ (l : List Bool). Leaves (fresh settings tuple l) (primary_opening settings (slice_get disk) tuple (marked marks)))
         (ap (λ n. marks_in n (marked marks)) (sym size) ∙ marks-are marks) (fresh-is settings (slice_get disk) tuple (marked marks));
     disk = λ block. refl;
     pushed = refl;
     taken = refl;
+    faithful = λ _. refl;
   };
   reached = record { settings = settings; disk = slice_get disk; tuple = tuple; marks = marked marks; events = []; ranges = ranges; sized = sized; is = refl };
 }
@@ -81,7 +82,7 @@ node-plain event n as_reply result core plain agrees = node-steps event n (repli
     record {
       reply = same.reply;
       leaves = kept-leaves n core n.disk n.taken h (primary_step event h).1 (unchanged h) has.leaves same.leaves
-          (plain h) has.leaves.disk has.leaves.taken;
+          (plain h) has.leaves.disk has.leaves.taken n.faithful has.leaves.faithful;
     })
 
 -- what was due is due still, and no stream has begun
@@ -177,9 +178,9 @@ opened-keeps sync loss h said =
 
 -- the end is opened over new ends of a link
 pub node-opened : (n : NodeState) (sync loss : ℕ) (core : PrimaryState) → (Ok tt, core) ≡ open_end sync loss false n.core
-    → NodeSteps (Opens sync loss false) n (replied plainly (Ok tt)) (record { core = core; disk = n.disk; pushed = []; taken = [] })
+    → NodeSteps (Opens sync loss false) n (replied plainly (Ok tt)) (record { core = core; disk = n.disk; pushed = []; taken = []; faithful = n.faithful })
 node-opened n sync loss core is = node-steps (Opens sync loss false) n (replied plainly (Ok tt))
-    (record { core = core; disk = n.disk; pushed = []; taken = [] }) (λ h has.
+    (record { core = core; disk = n.disk; pushed = []; taken = []; faithful = n.faithful }) (λ h has.
     let agrees = subst (λ (p : Result (Unit {0}) Refusal × PrimaryState). Agrees plainly p (step.open_primary sync loss false h)) (sym is)
     (opens-agree sync loss false n.core h has.reached has.leaves.core) in
     let later : PrimaryHistory = (step.open_primary sync loss false h).1 in
@@ -192,6 +193,7 @@ node-opened n sync loss core is = node-steps (Opens sync loss false) n (replied 
         disk = λ block. has.leaves.disk block ∙ sym (k.disk block);
         pushed = sym (ap (λ n. take n (frames_due later.settings (primary_connection later))) (k.pushed ∙ ap (λ (c : PrimaryConnection). c.pushed) last));
         taken = sym (k.taken ∙ ap (λ (c : PrimaryConnection). c.taken) last);
+        faithful = λ is. k.faithful ∙ has.leaves.faithful is;
       };
     })
 

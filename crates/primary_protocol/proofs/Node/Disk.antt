@@ -16,7 +16,7 @@ use Rattle.model.specs.PrimarySteps.{set_outcome, with_outcome}
 use Rattle.model.specs.Theorems.{Opening}
 use Rattle.laws.proofs.Blocks.Overlays.{overlay-agrees, overlay-last, overlay-some, under-outside, under-inside}
 use Rattle.laws.proofs.Blocks.Ranges.{between-parts}
-use Rattle.laws.proofs.Blocks.Written.{written-inside, written-before, written-after}
+use Rattle.blocks.proofs.Written.{written-inside, written-before, written-after}
 use Rattle.laws.proofs.Joining.Openings.{HasOpening, kept-opening-primary}
 use Rattle.laws.proofs.Primary.Homes.{HasHomes, outcome-write}
 use Rattle.laws.proofs.Releases.InOrder.{IsInOrder}

@@ -1,6 +1,7 @@
 -- A node's calls that write the disk or read it are steps.
 use Rattle.std.proofs.Common.{ℕ, ◌≡◌, ◌+◌, ◌≤◌, Bool, true, false, List, [], length, Option, Some, None, Result, Err, slice_get, refl, sym, ◌∙◌, ap, subst}
 use Rattle.std.proofs.Common.{arith, ◌==◌}
+use Rattle.std.proofs.lemmas.Bool.{and_from}
 use Rattle.std.specs.Prelude.{find, unwrap_or}
 use Rattle.blocks.specs.Contents.{overwritten}
 use Rattle.blocks.specs.declared.refusal.Refusal.{Refusal}
@@ -27,9 +28,12 @@ use Rattle.primary_protocol.proofs.Resync.Resyncs.{resyncs-agree, resync-faults-
 use Rattle.primary_protocol.proofs.Node.Due.{IsStill, is-still, kept-leaves, stood}
 use Rattle.primary_protocol.proofs.Node.Keeps.{Change, Keeps, keeps-self, unchanged, resyncs-keeps}
 use Rattle.primary_protocol.proofs.Node.Runs.{node-had, node-refused, node-steps, reached-step}
+use Rattle.std.proofs.Common.{IsTrue}
+use Rattle.std.proofs.Common.{is_none}
 
 -- What a call that neither pushes nor takes comes to, on a history that the node has: the step's answer, and what it keeps.
-pub record Comes (event : PrimaryEvent) (n : NodeState) (said : Reply) (core : PrimaryState) (disk : List (List ℕ)) (h : PrimaryHistory) : Type 0 where
+pub record Comes (event : PrimaryEvent) (n : NodeState) (said : Reply) (core : PrimaryState) (disk : List (List ℕ)) (faithful : Bool)
+    (h : PrimaryHistory) : Type 0 where
   pub change : Change
   pub reply : said ≡ (primary_step event h).0
   pub leaves : Leaves core (primary_step event h).1
@@ -37,6 +41,7 @@ pub record Comes (event : PrimaryEvent) (n : NodeState) (said : Reply) (core : P
   pub taken : change.taken ≡ (primary_connection h).taken
   pub begun : change.begun ≡ (primary_connection h).begun
   pub holds : (block : ℕ) → slice_get disk block ≡ change.disk block
+  pub falls : IsTrue faithful → IsTrue change.faithful
 
 -- What such a call keeps of a node.
 pub record KeepsNode (n next : NodeState) : Type 0 where
@@ -44,22 +49,22 @@ pub record KeepsNode (n next : NodeState) : Type 0 where
   pub still : IsStill n.core next.core
   pub stood : is_established next.core ≡ true → is_established n.core ≡ true
 
-module _ (event : PrimaryEvent) (n : NodeState) (said : Reply) (core : PrimaryState) (disk : List (List ℕ)) (comes : (h : PrimaryHistory) → NodeHas n h
-    → Comes event n said core disk h) where
+module _ (event : PrimaryEvent) (n : NodeState) (said : Reply) (core : PrimaryState) (disk : List (List ℕ)) (faithful : Bool)
+    (comes : (h : PrimaryHistory) → NodeHas n h → Comes event n said core disk faithful h) where
   -- it is the step
-  pub comes-steps : NodeSteps event n said (record n { core = core; disk = disk })
-  comes-steps = node-steps event n said (record n { core = core; disk = disk }) (λ h has. let to = comes h has in record {
+  pub comes-steps : NodeSteps event n said (record n { core = core; disk = disk; faithful = faithful })
+  comes-steps = node-steps event n said (record n { core = core; disk = disk; faithful = faithful }) (λ h has. let to = comes h has in record {
     reply = to.reply;
-    leaves = kept-leaves n core disk n.taken h (primary_step event h).1 to.change has.leaves to.leaves to.keeps to.holds (has.leaves.taken ∙ sym to.taken);
+    leaves = kept-leaves n core disk n.taken h (primary_step event h).1 to.change has.leaves to.leaves to.keeps to.holds (has.leaves.taken ∙ sym to.taken) faithful to.falls;
   })
 
   -- and keeps the node
-  pub comes-kept : NodeIsHad n → KeepsNode n (record n { core = core; disk = disk })
+  pub comes-kept : NodeIsHad n → KeepsNode n (record n { core = core; disk = disk; faithful = faithful })
   comes-kept had =
       let h = had.history in
       let has = had.has in
       let to = comes h has in record {
-        had = node-had event n said (record n { core = core; disk = disk }) had comes-steps;
+        had = node-had event n said (record n { core = core; disk = disk; faithful = faithful }) had comes-steps;
         still = is-still n.core core h (primary_step event h).1 to.change has.leaves.core has.reached to.leaves (reached-step event h has.reached) to.keeps;
         stood = stood n.core core h (primary_step event h).1 to.change has.leaves.core to.leaves to.keeps to.begun;
       }
@@ -80,38 +85,46 @@ stays-kept n had =
 abbrev pub held_in : List (List ℕ) → ℕ → List ℕ
 held_in disk block = unwrap_or (slice_get disk block) []
 
-copies-come : (out_of_memory : Bool) (n : NodeState) (result : Result Done Refusal) (core : PrimaryState)
-    → (result, core) ≡ resync_next (held_in n.disk) out_of_memory n.core
-    → (h : PrimaryHistory) → NodeHas n h → Comes (Resyncs out_of_memory) n (replied reply.Ok result) core n.disk h
-copies-come out_of_memory n result core is h has =
-    let agrees = subst (λ (p : Result Done Refusal × PrimaryState). Agrees reply.Ok p (step.resync_next out_of_memory h)) (sym is)
-    (resyncs-agree (held_in n.disk) out_of_memory n.core h has.reached has.leaves.core
-    (λ block. ap (λ (v : Option (List ℕ)). unwrap_or v []) (has.leaves.disk block))) in record {
-      change = unchanged h;
+-- what a read gave, or what the disk has in the block
+abbrev pub given_by : Option (List ℕ) → List (List ℕ) → ℕ → List ℕ
+given_by read disk block = unwrap_or read (held_in disk block)
+
+copies-come : (read : Option (List ℕ)) (out_of_memory : Bool) (n : NodeState) (faithful : Bool) (result : Result Done Refusal) (core : PrimaryState)
+    → (IsTrue faithful → IsTrue n.faithful × (read ≡ None)) → (result, core) ≡ resync_next (given_by read n.disk) out_of_memory n.core
+    → (h : PrimaryHistory) → NodeHas n h → Comes (Resyncs read out_of_memory) n (replied reply.Ok result) core n.disk faithful h
+copies-come read out_of_memory n faithful result core falls is h has =
+    let agrees = subst (λ (p : Result Done Refusal × PrimaryState). Agrees reply.Ok p (step.resync_next read out_of_memory h)) (sym is)
+    (resyncs-agree (given_by read n.disk) read out_of_memory n.core h has.reached has.leaves.core
+    (λ block. ap (λ (v : Option (List ℕ)). unwrap_or read (unwrap_or v [])) (has.leaves.disk block))) in
+    let k = resyncs-keeps read out_of_memory h in record {
+      change = record (unchanged h) { faithful = k.0 };
       reply = agrees.reply;
       leaves = agrees.leaves;
-      keeps = resyncs-keeps out_of_memory h;
+      keeps = k.2;
       taken = refl;
       begun = refl;
       holds = has.leaves.disk;
+      falls = λ now. let was = falls now in
+          k.1 (and_from (is_none read) h.faithful (ap (λ (v : Option (List ℕ)). is_none v) was.1) (has.leaves.faithful was.0));
     }
 
--- a block is copied as the disk has it
-pub node-copies : (out_of_memory : Bool) (n : NodeState) (result : Result Done Refusal) (core : PrimaryState)
-    → (result, core) ≡ resync_next (held_in n.disk) out_of_memory n.core
-    → NodeSteps (Resyncs out_of_memory) n (replied reply.Ok result) (record n { core = core })
-node-copies out_of_memory n result core is = comes-steps (Resyncs out_of_memory) n (replied reply.Ok result) core n.disk
-    (copies-come out_of_memory n result core is)
+-- a block is copied as it was read
+pub node-copies : (read : Option (List ℕ)) (out_of_memory : Bool) (n : NodeState) (faithful : Bool) (result : Result Done Refusal) (core : PrimaryState)
+    → (IsTrue faithful → IsTrue n.faithful × (read ≡ None)) → (result, core) ≡ resync_next (given_by read n.disk) out_of_memory n.core
+    → NodeSteps (Resyncs read out_of_memory) n (replied reply.Ok result) (record n { core = core; faithful = faithful })
+node-copies read out_of_memory n faithful result core falls is = comes-steps (Resyncs read out_of_memory) n (replied reply.Ok result) core n.disk faithful
+    (copies-come read out_of_memory n faithful result core falls is)
 
-pub copies-kept : (out_of_memory : Bool) (n : NodeState) (result : Result Done Refusal) (core : PrimaryState) → NodeIsHad n
-    → (result, core) ≡ resync_next (held_in n.disk) out_of_memory n.core → KeepsNode n (record n { core = core })
-copies-kept out_of_memory n result core had is = comes-kept (Resyncs out_of_memory) n (replied reply.Ok result) core n.disk
-    (copies-come out_of_memory n result core is) had
+pub copies-kept : (read : Option (List ℕ)) (out_of_memory : Bool) (n : NodeState) (faithful : Bool) (result : Result Done Refusal) (core : PrimaryState)
+    → NodeIsHad n → (IsTrue faithful → IsTrue n.faithful × (read ≡ None)) → (result, core) ≡ resync_next (given_by read n.disk) out_of_memory n.core
+    → KeepsNode n (record n { core = core; faithful = faithful })
+copies-kept read out_of_memory n faithful result core had falls is = comes-kept (Resyncs read out_of_memory) n (replied reply.Ok result) core n.disk faithful
+    (copies-come read out_of_memory n faithful result core falls is) had
 
 -- a block that is not copied
 pub node-not-copied : (out_of_memory : Bool) (n : NodeState) (e : Refusal) → (Err e, n.core) ≡ resync_next (held_in n.disk) out_of_memory n.core
-    → NodeSteps (Resyncs out_of_memory) n (reply.Refused e) n
-node-not-copied out_of_memory n e is = node-copies out_of_memory n (Err e) n.core is
+    → NodeSteps (Resyncs None out_of_memory) n (reply.Refused e) n
+node-not-copied out_of_memory n e is = node-copies None out_of_memory n n.faithful (Err e) n.core (λ faithful. (faithful, refl)) is
 
 -- the disk fails the read
 pub node-copy-fails : (out_of_memory : Bool) (n : NodeState) (e : Refusal) → (Err e, n.core) ≡ resync_fault out_of_memory n.core

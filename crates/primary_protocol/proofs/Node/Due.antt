@@ -18,6 +18,8 @@ use Rattle.primary_protocol.specs.Steps.{IsReached}
 use Rattle.primary_protocol.proofs.Common.Reached.{end-open, reached-ordered, established-same}
 use Rattle.primary_protocol.proofs.Send.Due.{owed-is}
 use Rattle.primary_protocol.proofs.Node.Keeps.{Change, Keeps, due-begins, pushed-stays}
+use Rattle.std.proofs.Common.{Bool}
+use Rattle.std.proofs.Common.{IsTrue}
 
 -- what an open end owes is due
 abbrev due_at : Option EndState → PrimaryState → Result Packet Refusal
@@ -74,12 +76,14 @@ pushed-within s h left unshut = go s.end left.rest.end
 pub kept-leaves : (n : NodeState) (core : PrimaryState) (disk : List (List ℕ)) (taken : List Received) (h later : PrimaryHistory) (change : Change)
     → NodeLeaves n h → Leaves core later → Keeps h change later
     → ((block : ℕ) → slice_get disk block ≡ change.disk block) → taken ≡ change.taken
-    → NodeLeaves (record { core = core; disk = disk; pushed = n.pushed; taken = taken }) later
-kept-leaves n core disk taken h later change was left k holds took = record {
+    → (faithful : Bool) → (IsTrue faithful → IsTrue change.faithful)
+    → NodeLeaves (record { core = core; disk = disk; pushed = n.pushed; taken = taken; faithful = faithful }) later
+kept-leaves n core disk taken h later change was left k holds took faithful falls = record {
   core = left;
   disk = λ block. holds block ∙ sym (k.disk block);
   pushed = was.pushed ∙ sym (pushed-stays h later change k (pushed-within n.core h was.core));
   taken = took ∙ sym k.taken;
+  faithful = λ is. k.faithful ∙ falls is;
 }
 
 -- A core after a step that opens no end and pushes nothing: what was due is due while the end is open.

@@ -1,8 +1,8 @@
 -- What the steps that push no frame keep: what was pushed, and the frames that were due; and what the local disk holds.
-use Rattle.std.proofs.Common.{ℕ, suc, ◌≡◌, ◌-◌, ◌≤◌, Bool, true, false, ◌&&◌, List, [], ◌∷◌, ◌++◌, length, map, take, Option, Some, None}
+use Rattle.std.proofs.Common.{ℕ, suc, ◌≡◌, ◌-◌, ◌≤◌, Bool, true, false, ◌&&◌, List, [], ◌∷◌, ◌++◌, length, map, take, Option, Some, None, IsTrue, is_none}
 use Rattle.std.proofs.Common.{slice_get, refl, sym, ◌∙◌, ap, subst}
 use Rattle.std.specs.Prelude.{unwrap_or, if◌then◌else◌}
-use Rattle.std.proofs.lemmas.Bool.{both_ways}
+use Rattle.std.proofs.lemmas.Bool.{both_ways, and_parts}
 use Rattle.std.proofs.lemmas.List.{map-append}
 use Rattle.blocks.specs.declared.settings.Settings.{Settings}
 use Rattle.blocks.specs.declared.refusal.Refusal.TheVariants.{NotConnected, NothingToDo}
@@ -17,7 +17,7 @@ use Rattle.model.specs.Primary.{Waiting, OnDisk, Failed, Accepted, PrimaryConnec
 use Rattle.model.specs.Primary.{is_established}
 use Rattle.model.specs.Primary.{frames_due, local_map, local_layer}
 use Rattle.model.specs.PrimarySteps as step
-use Rattle.model.specs.PrimarySteps.{follows, appending, succeeding, submission, submitted_with}
+use Rattle.model.specs.PrimarySteps.{follows, appending, succeeding, submission, submitted_with, copying, given}
 use Rattle.laws.proofs.Rules.FramesDue as rule
 use Rattle.laws.proofs.Rules.EpochEnds.{over-standing}
 use Rattle.laws.proofs.Blocks.Overlays.{overlay-append}
@@ -36,10 +36,11 @@ pub record Change : Type 0 where
   pub taken : List Received
   pub begun : Bool
   pub disk : BlockMap
+  pub faithful : Bool
 
 -- no change of a history
 abbrev pub unchanged : PrimaryHistory → Change
-unchanged h = record { taken = (primary_connection h).taken; begun = (primary_connection h).begun; disk = local_map h }
+unchanged h = record { taken = (primary_connection h).taken; begun = (primary_connection h).begun; disk = local_map h; faithful = h.faithful }
 
 -- After a step without a push that opens no end: this has changed, and what is due at an open end only grows.
 pub record Keeps (h : PrimaryHistory) (change : Change) (later : PrimaryHistory) : Type 0 where
@@ -53,6 +54,7 @@ pub record Keeps (h : PrimaryHistory) (change : Change) (later : PrimaryHistory)
   pub taken : (primary_connection later).taken ≡ change.taken
   pub begun : (primary_connection later).begun ≡ change.begun
   pub disk : (block : ℕ) → local_map later block ≡ change.disk block
+  pub faithful : later.faithful ≡ change.faithful
 
 -- a history keeps its own
 pub keeps-self : (h : PrimaryHistory) → Keeps h (unchanged h) h
@@ -67,6 +69,7 @@ keeps-self h = record {
   taken = refl;
   begun = refl;
   disk = λ block. refl;
+  faithful = refl;
 }
 
 -- The open end changes, with more in its stream.
@@ -76,8 +79,8 @@ pub keeps-change : (h g later : PrimaryHistory) (before after : Change) (f : Pri
     → (f (primary_connection g)).pushed ≡ (primary_connection g).pushed
     → (f (primary_connection g)).stream ≡ (primary_connection g).stream ++ more
     → (f (primary_connection g)).taken ≡ after.taken → (f (primary_connection g)).begun ≡ after.begun → ((block : ℕ) → local_map later block ≡ after.disk block)
-    → Keeps h after later
-keeps-change h g later before after f more k unshut settings connections hello pushed stream taken begun disk = record {
+    → later.faithful ≡ after.faithful → Keeps h after later
+keeps-change h g later before after f more k unshut settings connections hello pushed stream taken begun disk faithful = record {
   settings = settings ∙ k.settings;
   hello = ap (λ (c : PrimaryConnection). c.hello) out ∙ (hello ∙ k.hello);
   pushed = ap (λ (c : PrimaryConnection). c.pushed) out ∙ (pushed ∙ k.pushed);
@@ -91,6 +94,7 @@ keeps-change h g later before after f more k unshut settings connections hello p
   taken = ap (λ (c : PrimaryConnection). c.taken) out ∙ taken;
   begun = ap (λ (c : PrimaryConnection). c.begun) out ∙ begun;
   disk = disk;
+  faithful = faithful;
 }
   where
     out : primary_connection later ≡ f (primary_connection g)
@@ -100,14 +104,14 @@ keeps-change h g later before after f more k unshut settings connections hello p
 keeps-appending : (h g : PrimaryHistory) (change : Change) (item : StreamItem) → (primary_connection g).closed ≡ false → Keeps h change g
     → Keeps h change (appending item g)
 keeps-appending h g change item unshut k = keeps-change h g (appending item g) change change (λ c. record c { stream = c.stream ++ item ∷ [] })
-    (item ∷ []) k unshut refl refl refl refl refl k.taken k.begun k.disk
+    (item ∷ []) k unshut refl refl refl refl refl k.taken k.begun k.disk k.faithful
 
 -- what no connection sees
 pub keeps-rest : (h g later : PrimaryHistory) (before after : Change) → Keeps h before g → later.settings ≡ g.settings
     → primary_connection later ≡ primary_connection g
     → length later.connections ≡ length g.connections → before.taken ≡ after.taken → before.begun ≡ after.begun
-    → ((block : ℕ) → local_map later block ≡ after.disk block) → Keeps h after later
-keeps-rest h g later before after k settings out connections taken begun disk = record {
+    → ((block : ℕ) → local_map later block ≡ after.disk block) → later.faithful ≡ after.faithful → Keeps h after later
+keeps-rest h g later before after k settings out connections taken begun disk faithful = record {
   settings = settings ∙ k.settings;
   hello = ap (λ (c : PrimaryConnection). c.hello) out ∙ k.hello;
   pushed = ap (λ (c : PrimaryConnection). c.pushed) out ∙ k.pushed;
@@ -118,17 +122,18 @@ keeps-rest h g later before after k settings out connections taken begun disk = 
   taken = ap (λ (c : PrimaryConnection). c.taken) out ∙ (k.taken ∙ taken);
   begun = ap (λ (c : PrimaryConnection). c.begun) out ∙ (k.begun ∙ begun);
   disk = disk;
+  faithful = faithful;
 }
 
 -- What follows an effect.
 pub keeps-following : (h g : PrimaryHistory) (change : Change) → Keeps h change g → Keeps h change (follows g).history
 keeps-following h g change = following-from (Keeps h change) (Keeps h change) (Keeps h change)
-    (λ x k. keeps-rest h x (step.with_completions x) change change k refl refl refl refl refl k.disk)
+    (λ x k. keeps-rest h x (step.with_completions x) change change k refl refl refl refl refl k.disk k.faithful)
     (λ x over k. keeps-appending h x change (BarrierItem (last_epoch (primary_connection x).stream))
     (open-established (primary_connection x) (over-standing x over)) k)
     (λ x on k. k)
     (λ x over k. keeps-change h x (step.ending_resync x) change change (λ c. record c { stream = c.stream ++ UuidsItem _ ∷ [] }) (UuidsItem _ ∷ []) k
-    (open-established (primary_connection x) (over-established x over)) refl refl refl refl refl k.taken k.begun k.disk)
+    (open-established (primary_connection x) (over-established x over)) refl refl refl refl refl k.taken k.begun k.disk k.faithful)
     (λ x k. k) g
 
 -- what is due only grows at its end
@@ -187,10 +192,10 @@ submits-keeps first contents out_of_memory h =
           journal_length = length h.journal;
           home = Some (record { index = last_index h.connections; place = length (primary_connection h).stream });
           outcome = Waiting;
-        }) block refl)
+        }) block refl) refl
     go false is =
         keeps-rest h h _ (unchanged h) (unchanged h) (keeps-self h) refl refl refl refl refl
-        (λ block. disk-submits h (record { write = submission h first contents; journal_length = length h.journal; home = None; outcome = Waiting }) block refl)
+        (λ block. disk-submits h (record { write = submission h first contents; journal_length = length h.journal; home = None; outcome = Waiting }) block refl) refl
 
 -- the disk holds something else
 abbrev pub written : PrimaryHistory → BlockMap → Change
@@ -202,7 +207,7 @@ pub writes-keeps : (number : ℕ) (h : PrimaryHistory)
 writes-keeps number h =
     let later : PrimaryHistory = releasing h (step.with_outcome number OnDisk h) in
     keeps-following h later (written h (local_map (step.with_outcome number OnDisk h)))
-    (keeps-rest h h later (unchanged h) (written h (local_map (step.with_outcome number OnDisk h))) (keeps-self h) refl refl refl refl refl (λ block. refl))
+    (keeps-rest h h later (unchanged h) (written h (local_map (step.with_outcome number OnDisk h))) (keeps-self h) refl refl refl refl refl (λ block. refl) refl)
 
 -- the local disk fails a write
 pub fails-keeps : (number : ℕ) (offsets : List ℕ) (h : PrimaryHistory)
@@ -220,24 +225,37 @@ fails-keeps number offsets h = keeps-following h (step.faulted number offsets h)
     go : (v : Option Accepted) → Keeps h (written h (local_map (after v))) (after v)
     go None = keeps-self h
     go (Some accepted) = keeps-rest h h (after (Some accepted)) (unchanged h) (written h (local_map (after (Some accepted))))
-        (keeps-self h) refl refl refl refl refl (λ block. refl)
+        (keeps-self h) refl refl refl refl refl (λ block. refl) refl
+
+-- All but whether the history is faithful is kept, and that too where the block was read as the disk has it.
+abbrev pub KeepsRead : Option (List ℕ) → PrimaryHistory → PrimaryHistory → Type 0
+KeepsRead read h later = (faithful : Bool) × (IsTrue (is_none read && h.faithful) → IsTrue faithful)
+    × Keeps h (record (unchanged h) { faithful = faithful }) later
 
 -- a block is copied
-pub resyncs-keeps : (out_of_memory : Bool) (h : PrimaryHistory) → Keeps h (unchanged h) (step.resync_next out_of_memory h).1
-resyncs-keeps out_of_memory h = tested-keeps (Keeps h (unchanged h)) h (step.resync_tests h out_of_memory) (λ _. after (free_block h)) (keeps-self h)
+pub resyncs-keeps : (read : Option (List ℕ)) (out_of_memory : Bool) (h : PrimaryHistory) → KeepsRead read h (step.resync_next read out_of_memory h).1
+resyncs-keeps read out_of_memory h = tested-keeps (KeepsRead read h) h (step.resync_tests h out_of_memory) (λ _. after (free_block h)) same
     (λ passed. go (free_block h) (may-copy-open h out_of_memory passed).0)
   where
     after : Option ℕ → Reply × PrimaryHistory
     after v = elim v as (λ _. Reply × PrimaryHistory) [
       | None ↦ (reply.Refused NothingToDo, h)
-      | Some block ↦ succeeding (what.Block (record { 0 = block }) (length (primary_connection h).stream))
-          (appending (ResyncItem block (unwrap_or (local_map h block) [])) h)
+      | Some block ↦ succeeding (what.Block (record { 0 = block }) (length (primary_connection h).stream)) (copying read block h)
     ]
 
-    go : (v : Option ℕ) → (primary_connection h).closed ≡ false → Keeps h (unchanged h) (after v).1
-    go None unshut = keeps-self h
-    go (Some block) unshut = keeps-following h (appending (ResyncItem block (unwrap_or (local_map h block) [])) h) (unchanged h)
-        (keeps-appending h h (unchanged h) (ResyncItem block (unwrap_or (local_map h block) [])) unshut (keeps-self h))
+    same : KeepsRead read h h
+    same = (h.faithful, (λ faithful. (and_parts (is_none read) h.faithful faithful).1), keeps-self h)
+
+    go : (v : Option ℕ) → (primary_connection h).closed ≡ false → KeepsRead read h (after v).1
+    go None unshut = same
+    go (Some block) unshut = (
+      is_none read && h.faithful,
+      (λ faithful. faithful),
+      keeps-following h (copying read block h) (record (unchanged h) { faithful = is_none read && h.faithful })
+          (keeps-change h h (copying read block h) (unchanged h) (record (unchanged h) { faithful = is_none read && h.faithful })
+          (λ c. record c { stream = c.stream ++ ResyncItem block (given read h block) ∷ [] })
+          (ResyncItem block (given read h block) ∷ []) (keeps-self h) unshut refl refl refl refl refl refl refl (λ other. refl) refl),
+    )
 
 -- the end closes
 pub closing-keeps : (h g : PrimaryHistory) (change : Change) → (primary_connection g).closed ≡ false → Keeps h change g → Keeps h change (step.closing g)
@@ -252,6 +270,7 @@ closing-keeps h g change unshut k = record {
   taken = ap (λ (c : PrimaryConnection). c.taken) out ∙ k.taken;
   begun = ap (λ (c : PrimaryConnection). c.begun) out ∙ k.begun;
   disk = k.disk;
+  faithful = k.faithful;
 }
   where
     out : primary_connection (step.closing g) ≡ record (primary_connection g) { closed = true }
@@ -269,4 +288,4 @@ pub receipts-keeps : (number : ℕ) (h : PrimaryHistory) → Keeps h (unchanged 
 receipts-keeps number h = receipt-has (λ r. Keeps h (unchanged h) r.1) number h (λ refusal. keeps-self h) given (λ entry. given)
   where
     given : Keeps h (unchanged h) (step.receipted number h)
-    given = keeps-rest h h (step.receipted number h) (unchanged h) (unchanged h) (keeps-self h) refl refl refl refl refl (λ block. refl)
+    given = keeps-rest h h (step.receipted number h) (unchanged h) (unchanged h) (keeps-self h) refl refl refl refl refl (λ block. refl) refl

@@ -123,7 +123,7 @@ pushed-kept = record {
   confirms = λ h number size standing begun turn all. takes h _ (with_frame _) refl refl refl refl all;
   refuses = λ h frame peer standing all. takes h _ (refused_out frame)
       (refused-last frame peer h) refl refl refl all;
-  resyncs = λ h block runs alone is all. appends h _ _ refl (and_parts (is_established (primary_connection h)) (in_resync (primary_connection h).stream) runs).0
+  resyncs = λ h block read may runs alone is all. appends h _ _ refl (and_parts (is_established (primary_connection h)) (in_resync (primary_connection h).stream) runs).0
       refl refl
       (longer-by (primary_connection h).stream _) all;
   closes = λ h standing all. takes h _ (λ c. record c { closed = true }) refl refl refl refl all;

@@ -45,7 +45,7 @@ module _ (n : NodeState) (number : ℕ) (got : Result JournalEntry Refusal) (cor
     leaves = kept-leaves n core n.disk n.taken h (step.take_completed number h).1 (unchanged h) has.leaves
         (subst (λ (s : PrimaryState). Leaves s (step.take_completed number h).1) (sym (ap (λ (p : Result JournalEntry Refusal × PrimaryState). p.1) is))
         (tells h has).leaves)
-        (receipts-keeps number h) has.leaves.disk has.leaves.taken;
+        (receipts-keeps number h) has.leaves.disk has.leaves.taken n.faithful has.leaves.faithful;
   })
 
   -- the call answers what the step answers

@@ -28,7 +28,7 @@ after-step (WritesLocally number) h = refl
 after-step (FailsLocally number offsets) h = refl
 after-step (Sends room out_of_memory) h = refl
 after-step (Takes frame out_of_memory) h = refl
-after-step (Resyncs out_of_memory) h = refl
+after-step (Resyncs read out_of_memory) h = refl
 after-step (FailsResync out_of_memory) h = refl
 after-step Closes h = refl
 after-step (Receipts number) h = refl
@@ -88,11 +88,11 @@ did-not h tests done e other is = go (first_refusal tests) is
     go None is = other is
 
 -- a block is copied, where there is a free one
-abbrev copies : PrimaryHistory → Option ℕ → Reply × PrimaryHistory
-copies h v = elim v as (λ _. Reply × PrimaryHistory) [
+abbrev copies : Option (List ℕ) → PrimaryHistory → Option ℕ → Reply × PrimaryHistory
+copies read h v = elim v as (λ _. Reply × PrimaryHistory) [
   | None ↦ (reply.Refused NothingToDo, h)
   | Some block ↦ succeeding (what.Block (record { 0 = block }) (length (primary_connection h).stream))
-      (appending (ResyncItem block (unwrap_or (local_map h block) [])) h)
+      (step.copying read block h)
 ]
 
 -- any event but a frame that is taken
@@ -118,9 +118,9 @@ refused-same (Sends room out_of_memory) still h e is = did-not h (step.send_test
 refused-same (Takes (Some frame) out_of_memory) still h e is = absurd still
 refused-same (Takes None out_of_memory) still h e is =
     did-not h (ack_in_tests h None out_of_memory) (λ _. (reply.Refused NothingThere, h)) e (λ same. refl) is
-refused-same (Resyncs out_of_memory) still h e is = did-not h (step.resync_tests h out_of_memory) (λ _. copies h (free_block h)) e (go (free_block h)) is
+refused-same (Resyncs read out_of_memory) still h e is = did-not h (step.resync_tests h out_of_memory) (λ _. copies read h (free_block h)) e (go (free_block h)) is
   where
-    go : (v : Option ℕ) → reply.Refused e ≡ (copies h v).0 → (copies h v).1 ≡ h
+    go : (v : Option ℕ) → reply.Refused e ≡ (copies read h v).0 → (copies read h v).1 ≡ h
     go None same = refl
     go (Some block) same = absurd (cc)
 refused-same (FailsResync out_of_memory) still h e is = did-not h (step.resync_tests h out_of_memory) (λ _. (reply.Refused ReadFault, h)) e (λ same. refl) is

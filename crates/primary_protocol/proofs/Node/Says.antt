@@ -99,6 +99,10 @@ count-map marks (block ∷ blocks) =
 pub says-marks : (s : PrimaryState) (h : PrimaryHistory) → Leaves s h → bits.count s.marks ≡ length (marked_blocks h)
 says-marks s h left = ap bits.count left.rest.marks ∙ count-map h.marks (below h.settings.blocks)
 
+-- one mark for each block of the device
+pub says-size : (s : PrimaryState) (h : PrimaryHistory) → Leaves s h → length s.marks ≡ h.settings.blocks
+says-size s h left = ap (λ (l : List Bool). length l) left.rest.marks ∙ length-marks h.settings.blocks h.marks
+
 pub says-marked : (s : PrimaryState) (h : PrimaryHistory) (block : ℕ) → Leaves s h → bits.marked s.marks block ≡ is_marked h block
 says-marked s h block left = ap (λ (l : List Bool). bits.marked l block) left.rest.marks ∙ elim (cases_lt block h.settings.blocks) [
   | inl within ↦ marked-in h.settings.blocks h.marks block within ∙ ap (λ b. b && h.marks block) (sym (lt-ltb block h.settings.blocks within))

@@ -148,6 +148,7 @@ module _ (n : NodeState) (packet : Packet) (done : Done) (core : PrimaryState) (
             disk = λ block. has.leaves.disk block ∙ sym (k.disk block);
             pushed = pushed-more h has (step.send true false h).1 k;
             taken = has.leaves.taken ∙ sym (k.taken ∙ ap (λ (c : PrimaryConnection). c.taken) (out h has));
+            faithful = λ is. k.faithful ∙ has.leaves.faithful is;
           };
         })
 

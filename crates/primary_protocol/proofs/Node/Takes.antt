@@ -54,15 +54,16 @@ module _ (h : PrimaryHistory) (frame : Received) (unshut : (primary_connection h
   -- before what it says is looked at
   keeps-taken : Keeps h (took h frame (primary_connection h).begun) (with_primary_connection (with_frame frame) h)
   keeps-taken = keeps-change h h (with_primary_connection (with_frame frame) h) (unchanged h) (took h frame (primary_connection h).begun) (with_frame frame) []
-      (keeps-self h) unshut refl refl refl refl (sym (append-nil (primary_connection h).stream)) refl refl (λ block. refl)
+      (keeps-self h) unshut refl refl refl refl (sym (append-nil (primary_connection h).stream)) refl refl (λ block. refl) refl
 
   -- what does not touch the end's stream
   keeps-marked : (later : PrimaryHistory) → later.settings ≡ h.settings → later.connections ≡ (with_primary_connection (with_frame frame) h).connections
       → primary_connection later ≡ primary_connection (with_primary_connection (with_frame frame) h)
-      → ((block : ℕ) → local_map later block ≡ local_map h block) → Keeps h (took h frame (primary_connection h).begun) later
-  keeps-marked later settings connections same disk = keeps-rest h (with_primary_connection (with_frame frame) h) later
+      → ((block : ℕ) → local_map later block ≡ local_map h block) → later.faithful ≡ h.faithful
+      → Keeps h (took h frame (primary_connection h).begun) later
+  keeps-marked later settings connections same disk faithful = keeps-rest h (with_primary_connection (with_frame frame) h) later
       (took h frame (primary_connection h).begun)
-      (took h frame (primary_connection h).begun) keeps-taken settings same (ap length connections) refl refl disk
+      (took h frame (primary_connection h).begun) keeps-taken settings same (ap length connections) refl refl disk faithful
 
   -- What comes of it: the frame is accepted, or only the peer's tuple may have changed.
   abbrev Comes : model.Taken → Type 0
@@ -78,9 +79,9 @@ module _ (h : PrimaryHistory) (frame : Received) (unshut : (primary_connection h
   comes-ack (RecvAckFrame ack) = comes-if _ _ _ _ keeps-taken
   comes-ack (WriteAckFrame ack) = comes-if _ _ _ _ keeps-taken
   comes-ack (RsWriteAckFrame ack) = comes-if _ _ _ (record (with_primary_connection (with_frame frame) h) { marks = clearing ack.first h.marks })
-      (keeps-marked _ refl refl refl (λ block. refl))
+      (keeps-marked _ refl refl refl (λ block. refl) refl)
   comes-ack (BarrierAckFrame number size) = comes-if _ _ _ (releasing h (with_primary_connection (with_frame frame) h))
-      (keeps-marked _ refl refl refl (λ block. refl))
+      (keeps-marked _ refl refl refl (λ block. refl) refl)
   comes-ack packet = (h.peer, refl)
 
   -- a stream that begins was empty
@@ -92,7 +93,7 @@ module _ (h : PrimaryHistory) (frame : Received) (unshut : (primary_connection h
       g = record (with_primary_connection (with_frame frame) h) { peer = Some peer }
 
       seen : Keeps h (took h frame (primary_connection h).begun) g
-      seen = keeps-marked g refl refl refl (λ block. refl)
+      seen = keeps-marked g refl refl refl (λ block. refl) refl
 
       was : (primary_connection g).stream ≡ []
       was = ap (λ (c : PrimaryConnection). c.stream) out ∙ empty
@@ -102,20 +103,20 @@ module _ (h : PrimaryHistory) (frame : Received) (unshut : (primary_connection h
 
       with-start : (later : PrimaryHistory) → later.settings ≡ h.settings
           → later.connections ≡ change_last (λ c. record c { begun = true; stream = SyncUuidItem (primary_connection g).sync ∷ [] }) g.connections
-          → ((block : ℕ) → local_map later block ≡ local_map h block) → Keeps h (took h frame true) later
-      with-start later settings connections disk =
+          → ((block : ℕ) → local_map later block ≡ local_map h block) → later.faithful ≡ h.faithful → Keeps h (took h frame true) later
+      with-start later settings connections disk faithful =
           keeps-change h g later (took h frame (primary_connection h).begun) (took h frame true)
           (λ c. record c { begun = true; stream = SyncUuidItem (primary_connection g).sync ∷ [] }) (SyncUuidItem (primary_connection g).sync ∷ []) seen
           open-taken settings
           connections
-          refl refl (sym (ap (λ (l : List StreamItem). l ++ SyncUuidItem (primary_connection g).sync ∷ []) was)) had refl disk
+          refl refl (sym (ap (λ (l : List StreamItem). l ++ SyncUuidItem (primary_connection g).sync ∷ []) was)) had refl disk faithful
 
       go : (v : Decision) → Keeps h (took h frame true) (model.begun_with v g)
       go NoSync = keeps-change h g _ (took h frame (primary_connection h).begun) (took h frame true) (λ c. record c { begun = true }) [] seen open-taken refl
           refl refl
-          refl (sym (append-nil (primary_connection g).stream)) had refl (λ block. refl)
-      go BitmapSync = with-start _ refl refl (λ block. refl)
-      go FullSync = with-start _ refl refl (λ block. refl)
+          refl (sym (append-nil (primary_connection g).stream)) had refl (λ block. refl) refl
+      go BitmapSync = with-start _ refl refl (λ block. refl) refl
+      go FullSync = with-start _ refl refl (λ block. refl) refl
 
   comes-meeting : (peer : Tuple) → (primary_connection h).stream ≡ [] → Comes (model.meeting peer (with_primary_connection (with_frame frame) h))
   comes-meeting peer empty = go (stands_in (primary_connection (with_primary_connection (with_frame frame) h)).sync peer
@@ -166,11 +167,11 @@ module _ (h : PrimaryHistory) (frame : Received) (unshut : (primary_connection h
           let g : PrimaryHistory = record (with_primary_connection (with_frame frame) h) { peer = so.0 } in
           let shut : (primary_connection (with_primary_connection refusing g)).closed ≡ false =
           ap (λ (c : PrimaryConnection). c.closed) (primary-connection-of refusing g (with_primary_connection refusing g) refl open-taken) ∙ open-taken in
-          let seen : Keeps h (took h frame (primary_connection h).begun) g = keeps-marked g refl refl refl (λ block. refl) in
+          let seen : Keeps h (took h frame (primary_connection h).begun) g = keeps-marked g refl refl refl (λ block. refl) refl in
           let refused : Keeps h (took h frame (primary_connection h).begun) (with_primary_connection refusing g) =
           keeps-change h g (with_primary_connection refusing g) (took h frame (primary_connection h).begun) (took h frame (primary_connection h).begun) refusing
           [] seen open-taken refl refl
-          refl refl (sym (append-nil (primary_connection g).stream)) seen.taken seen.begun (λ block. refl) in (
+          refl refl (sym (append-nil (primary_connection g).stream)) seen.taken seen.begun (λ block. refl) refl in (
             (primary_connection h).begun,
             subst (λ (x : PrimaryHistory). Keeps h (took h frame (primary_connection h).begun)
                 (step.follows (step.closing (with_primary_connection refusing x))).history) (sym so.1)
@@ -213,7 +214,7 @@ module _ (n : NodeState) (frame : Received) (result : Result Done Refusal) (core
       record {
         reply = agrees.reply;
         leaves = kept-leaves n core n.disk (n.taken ++ frame ∷ []) h (model.ack_in (Some frame) false h).1
-            (took h frame k.0) has.leaves agrees.leaves k.1 has.leaves.disk (ap (λ (l : List Received). l ++ frame ∷ []) has.leaves.taken);
+            (took h frame k.0) has.leaves agrees.leaves k.1 has.leaves.disk (ap (λ (l : List Received). l ++ frame ∷ []) has.leaves.taken) n.faithful has.leaves.faithful;
       })
 
   -- what was due is due still

@@ -106,7 +106,7 @@ module _ (number : ℕ) (n : NodeState) (w : LogWrite) (found : write_at number 
       (inside number n w found waits had.history had.has)
 
   wrote-come : (result : Result Done Refusal) (core : PrimaryState) → (result, core) ≡ transition.local_done number n.core → (h : PrimaryHistory) → NodeHas n h
-      → Comes (WritesLocally number) n (replied reply.Ok result) core (overwritten n.disk w.first w.blocks) h
+      → Comes (WritesLocally number) n (replied reply.Ok result) core (overwritten n.disk w.first w.blocks) n.faithful h
   wrote-come result core is h has =
       let agrees = subst (λ (p : Result Done Refusal × PrimaryState). Agrees reply.Ok p (step.local_done number h)) (sym is)
       (writes-agree number n.core h has.reached has.leaves.core) in
@@ -121,6 +121,7 @@ module _ (number : ℕ) (n : NodeState) (w : LogWrite) (found : write_at number 
         taken = refl;
         begun = refl;
         holds = after-written number n w found waits h has;
+        falls = has.leaves.faithful;
       }
 
   failed-come : (offsets : List ℕ) (torn : List (List ℕ)) (result : Result Done Refusal) (core : PrimaryState)
@@ -128,7 +129,7 @@ module _ (number : ℕ) (n : NodeState) (w : LogWrite) (found : write_at number 
       → ((h : PrimaryHistory) (has : NodeHas n h) → (block : ℕ)
       → slice_get torn block ≡ local_map
       (step.with_outcome number (Failed (within (length (the number n w found waits h has).accepted.write.contents) offsets)) h) block)
-      → (h : PrimaryHistory) → NodeHas n h → Comes (FailsLocally number offsets) n (replied reply.Ok result) core torn h
+      → (h : PrimaryHistory) → NodeHas n h → Comes (FailsLocally number offsets) n (replied reply.Ok result) core torn n.faithful h
   failed-come offsets torn result core is holds h has =
       let agrees = subst (λ (p : Result Done Refusal × PrimaryState). Agrees reply.Ok p (step.local_fault number offsets h)) (sym is)
       (faults-agree number offsets n.core h has.reached has.leaves.core) in
@@ -142,6 +143,7 @@ module _ (number : ℕ) (n : NodeState) (w : LogWrite) (found : write_at number 
         taken = refl;
         begun = refl;
         holds = λ block. holds h has block ∙ sym (ap (λ (v : Option Accepted). local_map (faulted_by v h) block) (accepted-is number n w found waits h has));
+        falls = has.leaves.faithful;
       }
     where
       faulted_by : Option Accepted → PrimaryHistory → PrimaryHistory
@@ -154,12 +156,12 @@ module _ (number : ℕ) (n : NodeState) (w : LogWrite) (found : write_at number 
   -- the disk did it
   pub node-wrote : (result : Result Done Refusal) (core : PrimaryState) → (result, core) ≡ transition.local_done number n.core
       → NodeSteps (WritesLocally number) n (replied reply.Ok result) (record n { core = core; disk = overwritten n.disk w.first w.blocks })
-  node-wrote result core is = comes-steps (WritesLocally number) n (replied reply.Ok result) core (overwritten n.disk w.first w.blocks)
+  node-wrote result core is = comes-steps (WritesLocally number) n (replied reply.Ok result) core (overwritten n.disk w.first w.blocks) n.faithful
       (wrote-come result core is)
 
   pub wrote-kept : (result : Result Done Refusal) (core : PrimaryState) → NodeIsHad n → (result, core) ≡ transition.local_done number n.core
       → KeepsNode n (record n { core = core; disk = overwritten n.disk w.first w.blocks })
-  wrote-kept result core had is = comes-kept (WritesLocally number) n (replied reply.Ok result) core (overwritten n.disk w.first w.blocks)
+  wrote-kept result core had is = comes-kept (WritesLocally number) n (replied reply.Ok result) core (overwritten n.disk w.first w.blocks) n.faithful
       (wrote-come result core is) had
 
   -- The disk failed, and left any of its blocks new, or the first ones.
@@ -193,25 +195,25 @@ module _ (number : ℕ) (n : NodeState) (w : LogWrite) (found : write_at number 
       → IsTorn n.disk w.first w.blocks torn
       → NodeSteps (FailsLocally number (new_offsets w.first w.blocks torn)) n (replied reply.Ok result) (record n { core = core; disk = torn })
   node-failed torn result core is is_torn =
-      comes-steps (FailsLocally number (new_offsets w.first w.blocks torn)) n (replied reply.Ok result) core torn
+      comes-steps (FailsLocally number (new_offsets w.first w.blocks torn)) n (replied reply.Ok result) core torn n.faithful
       (failed-come (new_offsets w.first w.blocks torn) torn result core is (torn-holds torn is_torn))
 
   pub failed-kept : (torn : List (List ℕ)) (result : Result Done Refusal) (core : PrimaryState) → NodeIsHad n
       → (result, core) ≡ transition.local_fault number n.core → IsTorn n.disk w.first w.blocks torn
       → KeepsNode n (record n { core = core; disk = torn })
   failed-kept torn result core had is is_torn =
-      comes-kept (FailsLocally number (new_offsets w.first w.blocks torn)) n (replied reply.Ok result) core torn
+      comes-kept (FailsLocally number (new_offsets w.first w.blocks torn)) n (replied reply.Ok result) core torn n.faithful
       (failed-come (new_offsets w.first w.blocks torn) torn result core is (torn-holds torn is_torn)) had
 
   pub node-failed-after : (kept : ℕ) (result : Result Done Refusal) (core : PrimaryState) → (result, core) ≡ transition.local_fault number n.core
       → NodeSteps (FailsLocally number (below kept)) n (replied reply.Ok result)
       (record n { core = core; disk = overwritten n.disk w.first (take kept w.blocks) })
   node-failed-after kept result core is =
-      comes-steps (FailsLocally number (below kept)) n (replied reply.Ok result) core (overwritten n.disk w.first (take kept w.blocks))
+      comes-steps (FailsLocally number (below kept)) n (replied reply.Ok result) core (overwritten n.disk w.first (take kept w.blocks)) n.faithful
       (failed-come (below kept) (overwritten n.disk w.first (take kept w.blocks)) result core is (kept-holds kept))
 
   pub failed-after-kept : (kept : ℕ) (result : Result Done Refusal) (core : PrimaryState) → NodeIsHad n → (result, core) ≡ transition.local_fault number n.core
       → KeepsNode n (record n { core = core; disk = overwritten n.disk w.first (take kept w.blocks) })
   failed-after-kept kept result core had is =
-      comes-kept (FailsLocally number (below kept)) n (replied reply.Ok result) core (overwritten n.disk w.first (take kept w.blocks))
+      comes-kept (FailsLocally number (below kept)) n (replied reply.Ok result) core (overwritten n.disk w.first (take kept w.blocks)) n.faithful
       (failed-come (below kept) (overwritten n.disk w.first (take kept w.blocks)) result core is (kept-holds kept)) had

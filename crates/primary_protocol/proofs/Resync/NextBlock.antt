@@ -11,11 +11,11 @@ use Rattle.blocks.specs.declared.settings.Settings.{Settings}
 use Rattle.blocks.specs.Ranges.{below, is_between}
 use Rattle.bitmap.specs.Marks.{marked}
 use Rattle.epochs.specs.Epochs.{with_resync}
-use Rattle.model.specs.Stream.{StreamItem, ResyncItem, epoch_of, last_epoch, epoch_size, placed}
+use Rattle.model.specs.Stream.{StreamItem, ResyncItem, epoch_of, last_epoch, epoch_size, placed, BarrierItem}
 use Rattle.model.specs.Primary.{Accepted, PrimaryConnection, PrimaryHistory, primary_connection, last_index, is_established, is_resync, was_resynced, under_way}
 use Rattle.model.specs.Primary.{resync_runs, in_resync}
 use Rattle.model.specs.Primary.{is_open, open_writes, free_block, local_map}
-use Rattle.model.specs.PrimarySteps.{epoch_is_over, appending}
+use Rattle.model.specs.PrimarySteps.{epoch_is_over, appending, given, copying, with_completions}
 use Rattle.overlap.specs.Holdings.{Holding, holding, holding_too}
 use Rattle.resync.specs.Next.{is_free, next_block}
 use Rattle.transferlog.specs.Log as log
@@ -27,6 +27,7 @@ use Rattle.laws.proofs.Lists.Last.{length-change}
 use Rattle.laws.proofs.Lists.Picks.{pick-below, pick-filtered}
 use Rattle.laws.proofs.Primary.Ends.{established-parts}
 use Rattle.laws.proofs.Primary.Homes.{HasHomes}
+use Rattle.laws.proofs.Primary.HomesMoves.{homes-faithful}
 use Rattle.laws.proofs.Releases.InOrderMoves.{Ordered, in-order-kept}
 use Rattle.laws.proofs.Streams.Lawful.{epoch-end, placed-append}
 use Rattle.primary_protocol.specs.Core.{EndState, PrimaryState}
@@ -34,10 +35,13 @@ use Rattle.primary_protocol.specs.Leaves.{holding_item, holding_write, held_of, 
 use Rattle.primary_protocol.proofs.Common.Connections.{SeesSame, seen-same, released-alike}
 use Rattle.primary_protocol.proofs.Common.Epochs.{barriers-more, size-more, epochs-resync}
 use Rattle.primary_protocol.proofs.Common.Filters.{filter-at, any-map}
-use Rattle.primary_protocol.proofs.Common.Following.{IsDue, runs-more}
+use Rattle.primary_protocol.proofs.Common.Following.{IsDue, runs-more, parted}
 use Rattle.primary_protocol.proofs.Common.Reached.{primary-connection-of}
 use Rattle.primary_protocol.proofs.Common.Marks.{length-marks, marked-in}
 use Rattle.primary_protocol.proofs.Common.EndChanges.{IsUnseen, turned, unseen-due}
+use Rattle.std.proofs.Common.{Option}
+use Rattle.std.proofs.Common.{is_none}
+use Rattle.transferlog.specs.Log.{LogState}
 
 -- What is held.
 
@@ -163,50 +167,92 @@ goes-on h block contents standing on unasked = not-over (appending (ResyncItem b
     size = ap (epoch_size ((primary_connection h).stream ++ ResyncItem block contents ∷ [])) last
         ∙ size-more (primary_connection h).stream (ResyncItem block contents) (last_epoch (primary_connection h).stream) refl
 
+stream-faithful : (l : LogState) (g : PrimaryHistory) (faithful : Bool) → LeavesStream l (parted g) → LeavesStream l (parted (record g { faithful = faithful }))
+stream-faithful l g faithful = go (epoch_is_over g)
+  where
+    go : (b : Bool)
+        → LeavesStream l (elim b as (λ _. PrimaryHistory) [ true ↦ appending (BarrierItem (last_epoch (primary_connection g).stream)) g | false ↦ g ])
+        → LeavesStream l (elim b as (λ _. PrimaryHistory) [
+          | true ↦ appending (BarrierItem (last_epoch (primary_connection g).stream)) (record g { faithful = faithful })
+          | false ↦ record g { faithful = faithful }
+        ])
+    go true d = record { max_epoch = d.max_epoch; on = d.on; here = d.here; off = d.off }
+    go false d = record { max_epoch = d.max_epoch; on = d.on; here = d.here; off = d.off }
+
+-- nothing else sees whether the history is faithful
+due-faithful : (s : PrimaryState) (barrier : Option ℕ) (h : PrimaryHistory) (faithful : Bool) → IsDue s barrier h
+    → IsDue s barrier (record h { faithful = faithful })
+due-faithful s barrier h faithful d = record {
+  homes = homes-faithful h faithful d.homes;
+  done = d.done;
+  settings = d.settings;
+  tuple = d.tuple;
+  peer = d.peer;
+  connections = d.connections;
+  log = record {
+    protocol = d.log.protocol;
+    backlog = d.log.backlog;
+    accepted = d.log.accepted;
+    connection = d.log.connection;
+    writes = d.log.writes;
+    last_writes = d.log.last_writes;
+  };
+  completed = d.completed;
+  barrier_is = d.barrier_is;
+  stream = stream-faithful s.log (with_completions h) faithful d.stream;
+  entries = d.entries;
+  receipts = d.receipts;
+  held = d.held;
+  marks = d.marks;
+  activity = d.activity;
+  end = d.end;
+}
+
 module _ (settings : Settings) (bound : TakesWrites settings) (s : PrimaryState) (h : PrimaryHistory) (e : EndState) (left : Leaves s h)
     (ordered : Ordered settings h) (end : LeavesEnd e (primary_connection h))
-    (runs : resync_runs (primary_connection h) ≡ true) (none : under_way (primary_connection h) ≡ []) (block : ℕ) (free : free_block h ≡ Some block) where
+    (runs : resync_runs (primary_connection h) ≡ true) (none : under_way (primary_connection h) ≡ []) (block : ℕ) (free : free_block h ≡ Some block)
+    (read : Option (List ℕ)) where
   on : is_established (primary_connection h) ≡ true
   on = (and_parts (is_established (primary_connection h)) (in_resync (primary_connection h).stream) runs).0
 
   contents : List ℕ
-  contents = unwrap_or (local_map h block) []
+  contents = given read h block
 
-  out : primary_connection (appending (ResyncItem block (unwrap_or (local_map h block) [])) h) ≡ longer (ResyncItem block (unwrap_or (local_map h block) []))
+  out : primary_connection (appending (ResyncItem block (given read h block)) h) ≡ longer (ResyncItem block (given read h block))
       (primary_connection h)
-  out = primary-connection-of (longer (ResyncItem block (unwrap_or (local_map h block) []))) h
-      (appending (ResyncItem block (unwrap_or (local_map h block) [])) h) refl
+  out = primary-connection-of (longer (ResyncItem block (given read h block))) h
+      (appending (ResyncItem block (given read h block)) h) refl
       end.is_open
 
-  same : SeesSame (primary_connection h) (longer (ResyncItem block (unwrap_or (local_map h block) [])) (primary_connection h))
+  same : SeesSame (primary_connection h) (longer (ResyncItem block (given read h block)) (primary_connection h))
   same = record { closed = refl; pushed = refl; taken = refl; refused = refl }
 
-  unseen : IsUnseen h (turned (longer (ResyncItem block (unwrap_or (local_map h block) []))) h.tuple h.peer h.marks h)
+  unseen : IsUnseen h (turned (longer (ResyncItem block (given read h block))) h.tuple h.peer h.marks h)
   unseen = record {
-    logged = λ i a at. seen-same h (appending (ResyncItem block (unwrap_or (local_map h block) [])) h)
-        (longer (ResyncItem block (unwrap_or (local_map h block) []))) refl refl same a;
-    released = λ i a at. released-alike h (appending (ResyncItem block (unwrap_or (local_map h block) [])) h)
-        (longer (ResyncItem block (unwrap_or (local_map h block) []))) refl refl same ordered.1.1.0.0 (ResyncItem block (unwrap_or (local_map h block) []) ∷ [])
+    logged = λ i a at. seen-same h (appending (ResyncItem block (given read h block)) h)
+        (longer (ResyncItem block (given read h block))) refl refl same a;
+    released = λ i a at. released-alike h (appending (ResyncItem block (given read h block)) h)
+        (longer (ResyncItem block (given read h block))) refl refl same ordered.1.1.0.0 (ResyncItem block (given read h block) ∷ [])
         refl i a at;
   }
 
-  index : last_index (appending (ResyncItem block (unwrap_or (local_map h block) [])) h).connections ≡ last_index h.connections
-  index = ap (λ m. m - 1) (length-change (longer (ResyncItem block (unwrap_or (local_map h block) []))) h.connections)
+  index : last_index (appending (ResyncItem block (given read h block)) h).connections ≡ last_index h.connections
+  index = ap (λ m. m - 1) (length-change (longer (ResyncItem block (given read h block))) h.connections)
 
-  stream : LeavesStream (log.resync_placed s.log).1 (appending (ResyncItem block (unwrap_or (local_map h block) [])) h)
+  stream : LeavesStream (log.resync_placed s.log).1 (appending (ResyncItem block (given read h block)) h)
   stream = record {
     max_epoch = left.stream.max_epoch;
     on = λ so. subst (λ (d : PrimaryConnection). LeavesEpochs (log.resync_placed s.log).1 d) (sym out)
         (epochs-resync s.log (log.resync_placed s.log).1 (primary_connection h)
-        (longer (ResyncItem block (unwrap_or (local_map h block) [])) (primary_connection h))
-        (ResyncItem block (unwrap_or (local_map h block) [])) (left.stream.on on) same refl refl refl refl refl refl refl refl);
+        (longer (ResyncItem block (given read h block)) (primary_connection h))
+        (ResyncItem block (given read h block)) (left.stream.on on) same refl refl refl refl refl refl refl refl);
     here = λ so i a at behind. let place = left.stream.here on i a at behind in
         (place.0, place.1 ∙ ap (λ m. let at : StreamPosition = record { index = m; place = place.0 } in Some at) (sym index));
-    off = λ off. absurd (both_ways (is_established (primary_connection (appending (ResyncItem block (unwrap_or (local_map h block) [])) h))) off
+    off = λ off. absurd (both_ways (is_established (primary_connection (appending (ResyncItem block (given read h block)) h))) off
         (ap is_established out ∙ on));
   }
 
-  held : holding_too (holding 0 block 1) s.held ≡ held_of (appending (ResyncItem block (unwrap_or (local_map h block) [])) h)
+  held : holding_too (holding 0 block 1) s.held ≡ held_of (appending (ResyncItem block (given read h block)) h)
   held =
       ap (holding_too (holding 0 block 1)) (held-alone s h left.rest.held none)
       ∙ (zero-first (holding 0 block 1) (map holding_write (open_writes h))
@@ -214,29 +260,30 @@ module _ (settings : Settings) (bound : TakesWrites settings) (s : PrimaryState)
       ordered.1.1.0.0.numbered there.0 a there.1 in omega arith))
       ∙ sym (λ i. map holding_item (if (ap is_established out ∙ on) i then (ap under_way out ∙ ways) i else []) ++ map holding_write (open_writes h)))
     where
-      ways : under_way (longer (ResyncItem block (unwrap_or (local_map h block) [])) (primary_connection h)) ≡ (
+      ways : under_way (longer (ResyncItem block (given read h block)) (primary_connection h)) ≡ (
         length (primary_connection h).stream,
-        ResyncItem block (unwrap_or (local_map h block) []),
+        ResyncItem block (given read h block),
       ) ∷ []
-      ways = under-way-block (primary_connection h) (longer (ResyncItem block (unwrap_or (local_map h block) [])) (primary_connection h))
-          (ResyncItem block (unwrap_or (local_map h block) [])) same refl refl
-          ((end.unasked (length (primary_connection h).stream) (ResyncItem block (unwrap_or (local_map h block) [])) (omega arith)).2) none
+      ways = under-way-block (primary_connection h) (longer (ResyncItem block (given read h block)) (primary_connection h))
+          (ResyncItem block (given read h block)) same refl refl
+          ((end.unasked (length (primary_connection h).stream) (ResyncItem block (given read h block)) (omega arith)).2) none
 
   -- the block is under way, before what follows
   pub copying-due : IsDue (record s {
     log = (log.resync_placed s.log).1;
     held = holding_too (holding 0 block 1) s.held;
-    end = Some (carrying block (unwrap_or (local_map h block) []) s.log.epochs.places (suc s.log.epochs.ended) e);
-  }) None (appending (ResyncItem block (unwrap_or (local_map h block) [])) h)
-  copying-due =
-      unseen-due s h left (longer (ResyncItem block (unwrap_or (local_map h block) []))) h.tuple h.peer h.marks unseen
-      ((in-order-kept settings bound).resyncs h block runs (ap (λ (l : List (ℕ × StreamItem)). nat_lt 0 (length l)) none) free ordered).1.1.0.0
-      (goes-on h block (unwrap_or (local_map h block) []) on ordered.1.1.0.1.on
-      ((end.unasked (length (primary_connection h).stream) (ResyncItem block (unwrap_or (local_map h block) [])) (omega arith)).2))
+    end = Some (carrying block (given read h block) s.log.epochs.places (suc s.log.epochs.ended) e);
+  }) None (copying read block h)
+  copying-due = due-faithful _ None _ (is_none read && h.faithful) (
+      unseen-due s h left (longer (ResyncItem block (given read h block))) h.tuple h.peer h.marks unseen
+      (homes-faithful (copying read block h) h.faithful
+      ((in-order-kept settings bound).resyncs h block read tt runs (ap (λ (l : List (ℕ × StreamItem)). nat_lt 0 (length l)) none) free ordered).1.1.0.0)
+      (goes-on h block (given read h block) on ordered.1.1.0.1.on
+      ((end.unasked (length (primary_connection h).stream) (ResyncItem block (given read h block)) (omega arith)).2))
       end.is_open s.tuple left.rest.tuple s.peer left.rest.peer s.log.connection s.log.acknowledged_through (with_resync s.log.epochs)
       (left.rest.log.connection ∙ sym (λ i. if is_established (out i) then Some (index i) else None)) stream s.marks left.rest.marks
       (holding_too (holding 0 block 1) s.held) held
-      (carrying block (unwrap_or (local_map h block) []) s.log.epochs.places (suc s.log.epochs.ended) e)
-      (carried e (primary_connection h) block (unwrap_or (local_map h block) []) s.log.epochs.places (suc s.log.epochs.ended) end none on
+      (carrying block (given read h block) s.log.epochs.places (suc s.log.epochs.ended) e)
+      (carried e (primary_connection h) block (given read h block) s.log.epochs.places (suc s.log.epochs.ended) end none on
       (left.stream.on on).places
-      (ap suc (left.stream.on on).ended))
+      (ap suc (left.stream.on on).ended)))

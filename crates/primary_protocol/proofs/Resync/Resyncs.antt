@@ -56,7 +56,7 @@ module _ (out_of_memory : Bool) (s : PrimaryState) (h : PrimaryHistory) (e : End
       (places-are s h left (reached-ordered h reached).ordered.1.1.0.0 end.is_open)
 
   -- The block is copied.
-  copies : (block : ℕ) (contents : List ℕ) → contents ≡ unwrap_or (local_map h block) [] → resync_runs (primary_connection h) ≡ true
+  copies : (read : Option (List ℕ)) (block : ℕ) (contents : List ℕ) → contents ≡ step.given read h block → resync_runs (primary_connection h) ≡ true
       → under_way (primary_connection h) ≡ []
       → free_block h ≡ Some block
       → Agrees reply.Ok (
@@ -64,21 +64,21 @@ module _ (out_of_memory : Bool) (s : PrimaryState) (h : PrimaryHistory) (e : End
         (copying block contents e s).1,
       )
       (step.succeeding (what.Block (record { 0 = block }) (length (primary_connection h).stream))
-      (appending (ResyncItem block (unwrap_or (local_map h block) [])) h))
-  copies block contents are runs none free =
+      (step.copying read block h))
+  copies read block contents are runs none free =
       let known = reached-ordered h reached in
       subst (λ (l : List ℕ). Agrees reply.Ok (
         Ok (copying block l e s).0,
         (copying block l e s).1,
       ) (step.succeeding (what.Block (record { 0 = block }) (length (primary_connection h).stream))
-      (appending (ResyncItem block (unwrap_or (local_map h block) [])) h))) (sym are)
-      (subst (λ (n : ℕ). Agrees reply.Ok (Ok (copying block (unwrap_or (local_map h block) []) e s).0, (copying block (unwrap_or (local_map h block) []) e s).1)
-      (step.succeeding (what.Block (record { 0 = block }) n) (appending (ResyncItem block (unwrap_or (local_map h block) [])) h)))
+      (step.copying read block h))) (sym are)
+      (subst (λ (n : ℕ). Agrees reply.Ok (Ok (copying block (step.given read h block) e s).0, (copying block (step.given read h block) e s).1)
+      (step.succeeding (what.Block (record { 0 = block }) n) (step.copying read block h)))
       (places-are s h left known.ordered.1.1.0.0 end.is_open)
-      (from-follow _ _ (follow _ None (appending (ResyncItem block (unwrap_or (local_map h block) [])) h)
-      (copying-due known.settings known.bound s h e left known.ordered end runs none block free) (what.Block (record { 0 = block }) s.log.epochs.places))))
+      (from-follow _ _ (follow _ None (step.copying read block h)
+      (copying-due known.settings known.bound s h e left known.ordered end runs none block free read) (what.Block (record { 0 = block }) s.log.epochs.places))))
 
-  resync-agrees : (disk : ℕ → List ℕ) → ((block : ℕ) → disk block ≡ unwrap_or (local_map h block) [])
+  resync-agrees : (disk : ℕ → List ℕ) (read : Option (List ℕ)) → ((block : ℕ) → disk block ≡ step.given read h block)
       → Agrees reply.Ok (tested s (transition.resync_tests out_of_memory e s)
       (λ _. elim (next_block s.marks s.held) as (λ _. Result Done Refusal × PrimaryState) [
         | None ↦ (Err NothingToDo, s)
@@ -87,9 +87,9 @@ module _ (out_of_memory : Bool) (s : PrimaryState) (h : PrimaryHistory) (e : End
       (step.tested h (drop 1 (step.resync_tests h out_of_memory)) (λ _. elim (free_block h) as (λ _. Reply × PrimaryHistory) [
         | None ↦ (reply.Refused NothingToDo, h)
         | Some block ↦ step.succeeding (what.Block (record { 0 = block }) (length (primary_connection h).stream))
-            (appending (ResyncItem block (unwrap_or (local_map h block) [])) h)
+            (step.copying read block h)
       ]))
-  resync-agrees disk holds =
+  resync-agrees disk read holds =
       tested-agrees reply.Ok s h (transition.resync_tests out_of_memory e s) (drop 1 (step.resync_tests h out_of_memory))
       (λ _. core-by (next_block s.marks s.held)) (λ _. model-by (free_block h)) resync-tests-same left
       (λ none.
@@ -105,13 +105,13 @@ module _ (out_of_memory : Bool) (s : PrimaryState) (h : PrimaryHistory) (e : End
       model-by v = elim v [
         | None ↦ (reply.Refused NothingToDo, h)
         | Some block ↦ step.succeeding (what.Block (record { 0 = block }) (length (primary_connection h).stream))
-            (appending (ResyncItem block (unwrap_or (local_map h block) [])) h)
+            (step.copying read block h)
       ]
 
       go : (v : Option ℕ) → free_block h ≡ v → resync_runs (primary_connection h) ≡ true → under_way (primary_connection h) ≡ []
           → Agrees reply.Ok (core-by v) (model-by v)
       go None is runs none = record { reply = refl; leaves = left }
-      go (Some block) is runs none = copies block (disk block) (holds block) runs none is
+      go (Some block) is runs none = copies read block (disk block) (holds block) runs none is
 
   fault-agrees : Agrees reply.Ok (tested s (transition.resync_tests out_of_memory e s) (λ _. (Err ReadFault, s)))
       (step.tested h (drop 1 (step.resync_tests h out_of_memory)) (λ _. (reply.Refused ReadFault, h)))
@@ -137,7 +137,7 @@ module _ (out_of_memory : Bool) (s : PrimaryState) (h : PrimaryHistory) (left : 
 
 -- it reads a block for a resync
 pub resyncs-agree : ResyncsAgree
-resyncs-agree disk out_of_memory s h reached left holds =
+resyncs-agree disk read out_of_memory s h reached left holds =
     by-end out_of_memory s h left
     (λ e _. elim (next_block s.marks s.held) as (λ _. Result Done Refusal × PrimaryState) [
       | None ↦ (Err NothingToDo, s)
@@ -147,9 +147,9 @@ resyncs-agree disk out_of_memory s h reached left holds =
     (λ _. elim (free_block h) as (λ _. Reply × PrimaryHistory) [
       | None ↦ (reply.Refused NothingToDo, h)
       | Some block ↦ step.succeeding (what.Block (record { 0 = block }) (length (primary_connection h).stream))
-          (appending (ResyncItem block (unwrap_or (local_map h block) [])) h)
+          (step.copying read block h)
     ])
-    (λ e end. resync-agrees out_of_memory s h e reached left end disk holds) s.end refl left.rest.end
+    (λ e end. resync-agrees out_of_memory s h e reached left end disk read holds) s.end refl left.rest.end
 
 -- the local disk fails that read
 pub resync-faults-agree : ResyncFaultsAgree

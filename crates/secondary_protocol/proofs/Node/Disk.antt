@@ -5,7 +5,7 @@ use Rattle.model.specs.Contents.{BlockMap, Layer, block_under, overlay}
 use Rattle.model.specs.Stream.{StreamItem, Part, is_in, first_of, contents_of, layers_from}
 use Rattle.laws.specs.Reflections.{touches}
 use Rattle.laws.proofs.Blocks.Overlays.{overlay-same, under-outside, under-inside, under-alike}
-pub use Rattle.laws.proofs.Blocks.Written.{written-inside, written-before, written-after}
+pub use Rattle.blocks.proofs.Written.{written-inside, written-before, written-after}
 use Rattle.secondary_protocol.proofs.Node.Grows.{layers-none}
 
 -- Two parts lay the same over a block, where they agree on each item that touches it.

@@ -14,7 +14,7 @@ impl TransferLog {
         requires closed { self.old.state.connection ≡ None }
         ensures { self.new.state ≡ connecting (connection - 1) self.old.state }
     {
-        self.released.clear();
+        self.last_writes.forget_all(&mut self.released);
         self.completed.clear();
         self.connection = Some(connection);
         self.acknowledged_through = self.accepted;
@@ -31,7 +31,7 @@ impl TransferLog {
         ensures roomy { 0 < self.old.spare → IsOk result }
     {
         let (place, _) = self.epochs.place(0)?;
-        self.released.clear();
+        self.last_writes.forget_all(&mut self.released);
         self.completed.clear();
         Ok(place)
     }
@@ -41,7 +41,7 @@ impl TransferLog {
     pub fn resync_acked(&mut self) -> Option<u32>
         ensures { (result, self.new.state) ≡ resync_acked self.old.state }
     {
-        self.released.clear();
+        self.last_writes.forget_all(&mut self.released);
         self.completed.clear();
         self.epochs.completed(0)
     }
@@ -51,7 +51,7 @@ impl TransferLog {
         requires { self.old.state.epochs.places < 4294967290 }
         ensures { (result, self.new.state) ≡ uuids_placed self.old.state }
     {
-        self.released.clear();
+        self.last_writes.forget_all(&mut self.released);
         self.completed.clear();
         self.epochs.uuids()
     }
@@ -69,7 +69,7 @@ impl TransferLog {
         }
         let first = self.acknowledged_through + 1;
         let _ = self.epochs.acknowledge(number, size);
-        self.released.clear();
+        self.last_writes.forget_all(&mut self.released);
         self.completed.clear();
         self.acknowledged_through += u64::from(size);
         self.ring.release_all(
@@ -105,7 +105,7 @@ impl TransferLog {
     pub fn drain(&mut self) -> u32
         ensures { (result, self.new.state) ≡ drained self.old.state }
     {
-        self.released.clear();
+        self.last_writes.forget_all(&mut self.released);
         self.completed.clear();
         self.ring.unlink_all(&mut self.completed);
         self.ring

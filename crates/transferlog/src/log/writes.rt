@@ -1,5 +1,5 @@
 //! The life of a write in the transfer log, from its acceptance to its completion.
-ghost use Rattle.std.specs.Prelude.{◌≡◌, ◌+◌, ◌<◌, ◌≤◌, ◌++◌, ◌⊎◌, ◌↔◌, length, take, drop, replicate, OnErr, IsErrOf, IsOk, IfOk, IfErr, IfSome, OnOk, IsSomeAnd, true, false};
+ghost use Rattle.std.specs.Prelude.{◌≡◌, ◌+◌, ◌<◌, ◌≤◌, ◌⊎◌, ◌↔◌, length, OnErr, IsErrOf, IsOk, IfOk, IfErr, IfSome, OnOk, IsSomeAnd, true, false};
 ghost use Rattle.std.specs.Option.{option_map};
 ghost use Rattle.transferlog.specs.Log.{accepting, acked, changing, home_in, local_done, local_fault, sent};
 ghost use Rattle.transferlog.specs.Fields.{index_of};
@@ -24,6 +24,7 @@ impl TransferLog {
         ensures refused { IfErr result (λ e. e ≡ NoMemory) }
     {
         self.ring.reserve()?;
+        self.last_writes.reserve()?;
         self.epochs.reserve()
     }
 
@@ -54,18 +55,14 @@ impl TransferLog {
     {
         self.may_accept()?;
         self.ring.reserve()?;
+        self.last_writes.reserve()?;
         let number = self.accepted + 1;
         let (home, barrier) = home_in(self.connection, number, &mut self.epochs)?;
         let place = place_in(&home);
-        self.released.clear();
+        self.last_writes.forget_all(&mut self.released);
         self.completed.clear();
         self.accepted = number;
-        put(
-            &mut self.last_writes,
-            range.first.0 as usize,
-            range.count as usize,
-            number as u32,
-        );
+        self.last_writes.note(range, number);
         self.ring.push(Write::new(number, range, contents, home));
         Ok(Accepted {
             number,
@@ -122,7 +119,7 @@ impl TransferLog {
     fn change(&mut self, number: u64, change: Change) -> Option<u32>
         ensures { (result, self.new.state) ≡ changing number (changed change) self.old.state }
     {
-        self.released.clear();
+        self.last_writes.forget_all(&mut self.released);
         self.completed.clear();
         let Some(turn) = self.ring.change(number, change) else {
             return None;
@@ -169,12 +166,4 @@ fn place_in(home: &Option<StreamPosition>) -> Option<u32>
         Some(home) => Some(home.place()),
         None => None,
     }
-}
-
-// Overwrites `count` numbers with this one, from `at` on.
-fn put(numbers: &mut [u32], at: usize, count: usize, number: u32)
-    requires { at + count ≤ length numbers.old }
-    ensures { numbers.new ≡ take at numbers.old ++ replicate count number ++ drop (at + count) numbers.old }
-{
-    numbers[at..at + count].fill(number);
 }

@@ -1,11 +1,12 @@
-use Rattle.std.proofs.Common.{◌≡◌, Bool, true, not, sym, ◌∙◌, ap, subst, rules}
+use Rattle.std.proofs.Common.{◌≡◌, Bool, List, true, not, length, sym, ◌∙◌, ap, subst, rules}
 use Rattle.std.proofs.lemmas.Bool.{both_ways, not-false}
+use Rattle.bitmap.specs.Marks.{marked}
 use Rattle.blocks.specs.declared.settings.Settings.{Settings}
 use Rattle.blocks.specs.declared.tuple.Tuple.{Tuple}
 use Rattle.handover.specs.Left.{left_by}
 use Rattle.handover.specs.Next.{identifiers_of}
 use Rattle.handover.proofs.Alike.{are_alike, alike-same, same-alike}
-use Rattle.handover.proofs.Handing.{reached-leave, reached-parts, length-left, marks-left, parts-sound}
+use Rattle.handover.proofs.Handing.{reached-leave, reached-parts, parts-sound}
 use Rattle.model.specs.Settlement.{is_at_rest}
 use Rattle.model.specs.Theorems.{IsSoundOpening}
 use Rattle.handover.proofs.parts.parts_after.Goals as goal
@@ -26,9 +27,9 @@ returns-clause-left g c = λ p s hp hs. record {
   own = c.tuple-own.ensures p hp;
   peer = c.identifiers_of-peer.ensures
       ∙ (λ i. identifiers_of (c.is_consistent.ensures s hs i) (c.tuple.ensures s hs i) (c.tuple-own.ensures p hp i));
-  marks = marks-left p c.in_ok-marks.marks.items c.settings-settings.result.blocks (ap (λ (x : Settings). x.blocks) (c.settings-settings.ensures p hp))
-      (c.in_ok-marks.ensures.marks p hp);
-  length = length-left p c.in_ok-marks.marks.items c.settings-settings.result.blocks (c.in_ok-marks.ensures.marks p hp);
+  marks = λ block. ap (λ (l : List Bool). marked l block) c.in_ok-marks.ensures.made ∙ c.bitmap.ensures.marks p hp block;
+  length = ap (λ (l : List Bool). length l) c.in_ok-marks.ensures.made
+      ∙ (c.bitmap.ensures.size p hp ∙ sym (ap (λ (x : Settings). x.blocks) (c.settings-settings.ensures p hp)));
 }
 
 pub returns-clause-same : goal.returns-clause-same
@@ -37,12 +38,12 @@ returns-clause-same g c = λ p s hp hs.
     sym (c.settings-settings.ensures p hp) ∙ sym (alike-same _ _ alike) ∙ c.settings.ensures s hs
 
 pub returns-clause-sound : goal.returns-clause-sound
-returns-clause-sound g c = λ p s hp hs joined honest.
+returns-clause-sound g c = λ p s hp hs joined honest faithful.
     let passed : c.is_at_rest.result ≡ true = search rules in
     let rest : is_at_rest p s ≡ true = sym (c.is_at_rest.ensures p s hp hs) ∙ passed in
     let left = returns-clause-left g c p s hp hs in
     parts-sound _ p s left (returns-clause-same g c p s hp hs)
-    (subst (λ (t : Tuple). IsSoundOpening (left_by p s t)) (sym left.peer) (reached-leave p s hp.reached hs.reached honest joined rest))
+    (subst (λ (t : Tuple). IsSoundOpening (left_by p s t)) (sym left.peer) (reached-leave p s hp.reached hs.reached honest joined faithful rest))
 
 pub returns-clause-unparted : goal.returns-clause-unparted
 returns-clause-unparted g c = λ p s hp hs joined honest unparted same.

@@ -1,4 +1,3 @@
-use Rattle.std.proofs.Common.{◌∙◌, sym}
 use Rattle.std.proofs.lemmas.Result.{on_ok_weaker}
 use Rattle.serving.proofs.Succeeding.{both}
 use Rattle.serving.proofs.server.serve_sized.Goals as goal
@@ -12,8 +11,9 @@ returns g c =
       ended = ended;
       unchanged = all.1.0;
       synced = all.1.1;
-      alike = ended.all.alike all.0.0.0 all.0.0.1;
-      whole = (sym ended.all.torn.0 ∙ all.0.1.0.0, sym ended.all.torn.1 ∙ all.0.1.0.1);
+      clean = all.0.0.1;
+      none = all.0.0.0;
+      whole = all.0.1.0;
       printed = all.0.1.1;
     }) (both _ _ c.print.result (both _ _ c.print.result printed.alike (both _ _ c.print.result printed.whole printed.printed))
     (both _ _ c.print.result printed.unchanged printed.synced))

@@ -6,5 +6,5 @@ use Rattle.volume.specs.Opening.{opening_of}
 abbrev pub ghosts-run_named : goal.ghosts-run_named
 ghosts-run_named g a = record {
   link = record { there = a.there.0.row; back = a.back.0.row };
-  opening = opening_of a.parts (slice_get a.disks.local.disk) (slice_get a.disks.peer.disk);
+  opening = opening_of a.parts (slice_get a.disks.local) (slice_get a.disks.peer);
 }

@@ -1,4 +1,4 @@
-use Rattle.std.proofs.Common.{rules, ℕ, zero, suc, ◌≡◌, false, List, replicate, slice_get, refl, sym, ◌∙◌, ap, arith}
+use Rattle.std.proofs.Common.{rules, ℕ, zero, suc, ◌≡◌, Bool, false, List, replicate, slice_get, refl, sym, ◌∙◌, ap, arith}
 use Rattle.std.specs.Prelude.{unwrap_or}
 use Rattle.std.proofs.lemmas.Bool.Decides.{Decides-eqb}
 use Rattle.std.proofs.lemmas.Slice.Eq.{slice_eq-Decides}
@@ -10,17 +10,17 @@ use Rattle.session_run.proofs.parts.parts.Goals as goal
 pub returns-clause-disks : goal.returns-clause-disks
 returns-clause-disks c = search rules
 
--- no block of new marks is marked
-unmarked : (blocks block : ℕ) → unwrap_or (slice_get (replicate blocks false) block) false ≡ false
-unmarked zero block = refl
-unmarked (suc blocks) zero = refl
-unmarked (suc blocks) (suc block) = unmarked blocks block
+-- no block of a new bitmap is marked
+none_marked : (blocks block : ℕ) → unwrap_or (slice_get (replicate blocks false) block) false ≡ false
+none_marked zero block = refl
+none_marked (suc blocks) zero = refl
+none_marked (suc blocks) (suc block) = none_marked blocks block
 
 pub returns-clause-opens : goal.returns-clause-opens
 returns-clause-opens c =
     let held = returns-clause-disks c in
-    let clean : (block : ℕ) → unwrap_or (slice_get c.in_ok-from_elem.field-0.items block) false ≡ false
-    = λ block. ap (λ l. unwrap_or (slice_get l block) false) (c.in_ok-from_elem.ensures.items_if_clones_equal (λ y same. same)) ∙ unmarked _ block in
+    let clean : (block : ℕ) → unwrap_or (slice_get c.in_ok-unmarked.field-0 block) false ≡ false
+    = λ block. ap (λ (l : List Bool). unwrap_or (slice_get l block) false) c.in_ok-unmarked.ensures.made ∙ none_marked _ block in
     record {
       settings = search rules;
       peer_settings = search rules;

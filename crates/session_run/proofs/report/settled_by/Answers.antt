@@ -1,5 +1,5 @@
 use Rattle.std.proofs.Common.{◌≡◌, ◌≤◌, List, false, refl, sym, ap, subst}
-use Rattle.std.specs.Prelude.{IfOk}
+use Rattle.std.specs.Prelude.{IfOk, IsTrue}
 use Rattle.model.specs.Settlement.{Receipt, Settlement, settlement}
 use Rattle.model.specs.Theorems.{Settles}
 use Rattle.settle.specs.Settled.{kept, numbers}
@@ -12,13 +12,13 @@ returns-clause-confirmed g c = subst (λ w. IfOk w (λ receipts. IsNumber (λ n.
     c.in_ok-settled.settled.confirmed)) (sym c.in_ok-receipts.was) (λ p s hp hs.
     subst (λ (l : List Receipt). c.in_ok-settled.settled.confirmed ≡ (settlement p s l).confirmed) c.as_slice.ensures.value
     (ap (λ (n : Settlement). n.confirmed) (settled-numbers p (kept s) c.as_slice.result.now false (numbers c.in_ok-settled.settled)
-    (c.in_ok-settled.ensures.kept p s hp hs))))
+    (c.in_ok-settled.ensures.kept (subst IsTrue c.store.ensures.faithful refl) (subst IsTrue c.store-2.ensures.faithful refl) p s hp hs))))
 
 pub returns-clause-unmarked : goal.returns-clause-unmarked
 returns-clause-unmarked g c = subst (λ w. IfOk w (λ receipts. IsNumber (λ n. n.unmarked) c.args.primary.now c.args.secondary.now receipts.items
     c.in_ok-settled.settled.unmarked)) (sym c.in_ok-receipts.was) (λ p s hp hs.
     ap (λ (n : Settlement). n.unmarked) (settled-numbers p (kept s) c.as_slice.result.now false (numbers c.in_ok-settled.settled)
-    (c.in_ok-settled.ensures.kept p s hp hs)))
+    (c.in_ok-settled.ensures.kept (subst IsTrue c.store.ensures.faithful refl) (subst IsTrue c.store-2.ensures.faithful refl) p s hp hs)))
 
 pub returns-clause-settles : goal.returns-clause-settles
 returns-clause-settles g c = subst (λ w. IfOk w (λ receipts. c.args.secondary.now.core.number ≤ c.args.primary.now.core.connections
@@ -27,7 +27,7 @@ returns-clause-settles g c = subst (λ w. IfOk w (λ receipts. c.args.secondary.
       numbers c.in_ok-settled.settled,
       (
         subst (λ (l : List Receipt). Settles p s l (numbers c.in_ok-settled.settled)) c.as_slice.ensures.value
-            (c.in_ok-settled.ensures.settles numbered p s hp hs joined honest),
+            (c.in_ok-settled.ensures.settles numbered (subst IsTrue c.store.ensures.faithful refl) (subst IsTrue c.store-2.ensures.faithful refl) p s hp hs joined honest),
         (refl, refl),
       ),
     ))

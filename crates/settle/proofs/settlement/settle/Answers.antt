@@ -22,16 +22,16 @@ pub returns-clause-kept : goal.returns-clause-kept
 returns-clause-kept g c = search rules
 
 pub returns-clause-history : goal.returns-clause-history
-returns-clause-history g c = λ least p s hp hs.
-    returns-clause-kept g c p s hp hs ∙ kept-settles p s c.args.receipts.now false hs.reached (few c.args.primary.now c.args.secondary.now least p s hp hs)
+returns-clause-history g c = λ least fine fine_too p s hp hs.
+    returns-clause-kept g c fine fine_too p s hp hs ∙ kept-settles p s c.args.receipts.now false hs.reached (few c.args.primary.now c.args.secondary.now least p s hp hs)
 
 pub returns-clause-settles : goal.returns-clause-settles
-returns-clause-settles g c = λ least p s hp hs joined honest.
-    settled-says p s hp.reached hs.reached honest joined c.args.receipts.now _ (sym (returns-clause-history g c least p s hp hs))
+returns-clause-settles g c = λ least fine fine_too p s hp hs joined honest.
+    settled-says p s hp.reached hs.reached honest joined c.args.receipts.now _ (sym (returns-clause-history g c least fine fine_too p s hp hs))
 
 pub returns-clause-anyhow : goal.returns-clause-anyhow
-returns-clause-anyhow g c = λ least p s hp hs joined.
-    settled-says-anyhow p s hp.reached hs.reached joined c.args.receipts.now _ (sym (returns-clause-history g c least p s hp hs))
+returns-clause-anyhow g c = λ least fine fine_too p s hp hs joined.
+    settled-says-anyhow p s hp.reached hs.reached joined c.args.receipts.now _ (sym (returns-clause-history g c least fine fine_too p s hp hs))
 
 pub returns-clause-order : goal.returns-clause-order
 returns-clause-order g c = λ p s hp hs joined honest. keeps-order p s hp.reached hs.reached honest joined

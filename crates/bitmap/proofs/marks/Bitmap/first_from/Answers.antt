@@ -8,6 +8,7 @@ use Rattle.bitmap.specs.Fields.{marks_of}
 use Rattle.bitmap.proofs.Below.{find-below_none, find-below_some}
 use Rattle.bitmap.proofs.Lists.{count_in-none, marked-past}
 use Rattle.bitmap.proofs.Bits.{length-bits, marked-bits}
+use Rattle.bitmap.proofs.Counted.{passed-unmarked}
 use Rattle.bitmap.proofs.marks.Bitmap.first_from.Goals as goal
 
 -- no bit of a word that is zero is one
@@ -26,6 +27,13 @@ up_to xs from block end before after q start stop = go (cases_lt q block)
     go : (q < block) ⊎ (block ≤ q) → marked xs q ≡ false
     go (inl h) = before q start h
     go (inr h) = after q h stop
+
+pub loop-block-init : goal.loop-block-init
+loop-block-init c = record {
+  from = omega (arith, c.max-block.ensures);
+  none = λ q start stop. rw (← c.self.view_is) (passed-unmarked c.self.inside.blocks c.self.inside.words.items c.self.inside.counts.items
+      c.self.inside.total c.self.inside.cursor c.self.invariant q (omega (arith, c.max-block.ensures)));
+}
 
 pub loop-block-preserved-then-index-eq0 : goal.loop-block-preserved-then-index-eq0
 loop-block-preserved-then-index-eq0 c =

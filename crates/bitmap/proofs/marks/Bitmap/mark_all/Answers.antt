@@ -1,26 +1,24 @@
-use Rattle.std.proofs.Common.{ℕ, ◌≡◌, ◌<◌, ◌+◌, ◌∙◌, Bool, true, List, length, sym, arith}
+use Rattle.std.proofs.Common.{ℕ, ◌≡◌, ◌∙◌, true, length, sym, ap}
 use Rattle.std.specs.Prelude.{replicate}
-use Rattle.std.proofs.lemmas.List.{length-replicate}
-use Rattle.std.proofs.lemmas.Bool.{or_right}
-use Rattle.std.proofs.lemmas.Bool.Decides.{nat_tests}
-use Rattle.blocks.specs.Ranges.{is_between}
-use Rattle.bitmap.specs.Marks.{marked, marking}
-use Rattle.bitmap.proofs.Lists.{same-marks, length-marking, marked-marking, marked-replicate}
+use Rattle.std.proofs.lemmas.List.{with_items_is}
+use Rattle.bitmap.proofs.AllMarked.{full-counted, full-marks}
 use Rattle.bitmap.proofs.Bits.{length-bits}
 use Rattle.bitmap.proofs.marks.Bitmap.mark_all.Goals as goal
 
--- each block is one of the device's
-all_marked : (n : ℕ) (xs : List Bool) → n ≡ length xs → marking (is_between 0 n) xs ≡ replicate (length xs) true
-all_marked n xs is =
-    same-marks (marking (is_between 0 n) xs) (replicate (length xs) true) (length-marking 0 (is_between 0 n) xs ∙ sym (length-replicate (length xs) true))
-    (λ b h. let within : b < length xs = omega (arith, length-marking 0 (is_between 0 n) xs) in
-    let inside : is_between 0 n (0 + b) ≡ true = grind (arith, nat_tests) in
-    marked-marking 0 (is_between 0 n) xs b within ∙ or_right (marked xs b) (is_between 0 n (0 + b)) inside ∙ sym (marked-replicate (length xs) true b within))
-
-pub mark_span-requires : goal.mark_span-requires
-mark_span-requires c = rw (← c.self.view_is) (omega (arith, length-bits 0 c.self.inside.blocks c.self.inside.words.items))
+pub invariant_of-self : goal.invariant_of-self
+invariant_of-self c =
+    let old = c.self.inside in
+    let long_words : length c.fill_words.new.words ≡ length old.words.items = c.fill_words.auto.words ∙ ap length c.deref_mut.ensures.value in
+    let long_counts : length c.fill_counts.new.counts ≡ length old.counts.items = c.fill_counts.auto.counts ∙ ap length c.deref_mut-2.ensures.value in
+    let words = with_items_is old.words c.fill_words.new.words (long_words ∙ sym old.words.ok.0) in
+    let counts = with_items_is old.counts c.fill_counts.new.counts (long_counts ∙ sym old.counts.ok.0) in
+    rw (words, counts) (full-counted old.blocks c.fill_words.new.words c.fill_counts.new.counts old.words.items old.counts.items old.total old.cursor
+    c.self.invariant long_words long_counts c.fill_words.ensures c.fill_counts.ensures)
 
 pub returns : goal.returns
 returns c =
-    let long : c.self.inside.blocks ≡ length c.args.self.now = rw (← c.self.view_is) (sym (length-bits 0 c.self.inside.blocks c.self.inside.words.items)) in
-    c.mark_span.ensures ∙ all_marked c.self.inside.blocks c.args.self.now long
+    let old = c.self.inside in
+    let long_words : length c.fill_words.new.words ≡ length old.words.items = c.fill_words.auto.words ∙ ap length c.deref_mut.ensures.value in
+    let words = with_items_is old.words c.fill_words.new.words (long_words ∙ sym old.words.ok.0) in
+    let long : old.blocks ≡ length c.args.self.now = rw (← c.self.view_is) (sym (length-bits 0 old.blocks old.words.items)) in
+    rw words (full-marks old.blocks c.fill_words.new.words c.fill_words.ensures ∙ ap (λ (n : ℕ). replicate n true) long)

@@ -5,7 +5,7 @@ use Rattle.bitmap.specs.Marks.{marked}
 use Rattle.bitmap.specs.Fields.{marks_of}
 use Rattle.bitmap.proofs.Lists.{set_same, count-le, count_in-le, count-set, count_in-set}
 use Rattle.bitmap.proofs.Bits.{length-bits, marks-turned}
-use Rattle.bitmap.proofs.Counted.{turned-counted}
+use Rattle.bitmap.proofs.Counted.{not-passed, turned-counted}
 use Rattle.bitmap.proofs.marks.Bitmap.set.Goals as goal
 
 beq_same : (a b : Bool) → beq a b ≡ true → a ≡ b
@@ -88,8 +88,8 @@ invariant_of-self c =
     let on = c.if-mark.true in
     let was : marked (marks_of c.self.inside.blocks c.self.inside.words.items) c.args.block ≡ not true = rw c.self.view_is (sym c.is_marked.ensures
     ∙ beq_other c.is_marked.result c.args.mark c.if-is_marked-mark.false ∙ ap not on) in
-    rw word (turned-counted c.self.inside.blocks c.self.inside.words.items c.self.inside.counts.items c.self.inside.total c.args.block true
-    (c.index_mut-then-mark.result.now + 1) (c.self.inside.total + 1) c.self.invariant (omega arith) was (omega arith) (omega arith))
+    rw word (turned-counted c.self.inside.blocks c.self.inside.words.items c.self.inside.counts.items c.self.inside.total c.self.inside.cursor c.args.block true
+    (c.index_mut-then-mark.result.now + 1) (c.self.inside.total + 1) c.min-self-inside.result c.self.invariant (omega arith) was (omega arith) (omega arith) (omega (arith, c.min-self-inside.ensures)) (omega (arith, c.min-self-inside.ensures)))
 
 pub invariant_of-self-else-mark : goal.invariant_of-self-else-mark
 invariant_of-self-else-mark c =
@@ -102,9 +102,11 @@ invariant_of-self-else-mark c =
     ∙ beq_other c.is_marked.result c.args.mark c.if-is_marked-mark.false ∙ ap not off) in
     let some_here = count_in-set (marks_of c.self.inside.blocks c.self.inside.words.items) c.args.block false in_device was in
     let some = count-set (marks_of c.self.inside.blocks c.self.inside.words.items) c.args.block false in_device was in
-    rw word (turned-counted c.self.inside.blocks c.self.inside.words.items c.self.inside.counts.items c.self.inside.total c.args.block false
-    (c.index_mut-else-mark.result.now - 1) (c.self.inside.total - 1) c.self.invariant (omega arith) was
-    (omega (arith, c.self.invariant.counted (c.args.block / 1024))) (omega (arith, c.self.invariant.totalled)))
+    rw word (turned-counted c.self.inside.blocks c.self.inside.words.items c.self.inside.counts.items c.self.inside.total c.self.inside.cursor c.args.block false
+    (c.index_mut-else-mark.result.now - 1) (c.self.inside.total - 1) c.self.inside.cursor c.self.invariant (omega arith) was
+    (omega (arith, c.self.invariant.counted (c.args.block / 1024))) (omega (arith, c.self.invariant.totalled)) (omega arith)
+    (not-passed c.self.inside.blocks c.self.inside.words.items c.self.inside.counts.items c.self.inside.total c.self.inside.cursor c.args.block
+    c.self.invariant (omega arith) was))
 
 pub returns-then-mark : goal.returns-then-mark
 returns-then-mark c =

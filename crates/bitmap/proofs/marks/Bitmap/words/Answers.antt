@@ -6,8 +6,8 @@ use Rattle.bitmap.specs.Marks.{IsWords, bit_of, marked}
 use Rattle.bitmap.specs.Fields.{marks_of, AreCounted}
 use Rattle.bitmap.proofs.marks.Bitmap.words.Goals as goal
 
-are_words : (n : ℕ) (words counts : List ℕ) (total : ℕ) → AreCounted n words counts total → IsWords words (marks_of n words)
-are_words n words counts total is = record {
+are_words : (n : ℕ) (words counts : List ℕ) (total cursor : ℕ) → AreCounted n words counts total cursor → IsWords words (marks_of n words)
+are_words n words counts total cursor is = record {
   enough = omega (arith, is.enough_words, length-bits 0 n words);
   bits = λ b h. go b (cases_lt b n);
 }
@@ -18,4 +18,4 @@ are_words n words counts total is = record {
 
 pub returns : goal.returns
 returns c = rw (← c.self.view_is, c.deref.ensures.value)
-    (are_words c.self.inside.blocks c.self.inside.words.items c.self.inside.counts.items c.self.inside.total c.self.invariant)
+    (are_words c.self.inside.blocks c.self.inside.words.items c.self.inside.counts.items c.self.inside.total c.self.inside.cursor c.self.invariant)

@@ -28,8 +28,11 @@ invariant_of-result c =
     c.args.peer_tuple (λ block. unwrap_or (slice_get c.args.marks.items block) false)
     c.in_ok-new.ensures.begun.0.in_range c.in_ok-new.ensures.begun.1 (ap (λ (s : FaultState). length s.disk) c.new-3.ensures
     ∙ (sym c.blocks-2.ensures ∙ c.if-blocks-settings.false)) c.in_ok-new.ensures.history c.in_ok-new-2.ensures.history
-    c.in_ok-new.ensures.link.0 c.in_ok-new.ensures.link.1 c.in_ok-new-2.ensures.link.0 c.in_ok-new-2.ensures.link.1 (c.in_ok-new.ensures.disk.1
-    ∙ ap is_steady c.new.ensures) (c.in_ok-new-2.ensures.disk.1 ∙ ap is_steady c.new-3.ensures)
+    c.in_ok-new.ensures.link.0 c.in_ok-new.ensures.link.1 c.in_ok-new-2.ensures.link.0 c.in_ok-new-2.ensures.link.1 (
+      c.in_ok-new.ensures.disk.1
+          ∙ ap is_steady c.new.ensures,
+      c.in_ok-new.ensures.disk.2,
+    ) (c.in_ok-new-2.ensures.disk.1 ∙ ap is_steady c.new-3.ensures, c.in_ok-new-2.ensures.disk.2)
 
 pub returns-clause-history : goal.returns-clause-history
 returns-clause-history c =

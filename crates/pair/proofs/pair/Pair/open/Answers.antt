@@ -1,4 +1,4 @@
-use Rattle.std.proofs.Common.{rules, ◌≡◌, ◌∙◌, false, Err, ap}
+use Rattle.std.proofs.Common.{rules, ◌≡◌, ◌∙◌, false, Err, ap, subst, IsTrue, sym}
 use Rattle.primary.specs.State.{PrimaryView}
 use Rattle.secondary.specs.State.{SecondaryView}
 use Rattle.blocks.specs.declared.outcome.Reply.TheVariants as reply
@@ -74,8 +74,7 @@ invariant_of-self-2 c =
     (ap (λ (v : SecondaryView). v.outgoing) c.in_ok-open-2.ensures.link) (ap (λ (v : PrimaryView). v.incoming) c.in_ok-open.ensures.link)
     (resized c.settings.result.link c.self.inside.secondary.core.settings.link _ _ size.1
     (new-ends c.in_ok-link.link.secondary.outward c.in_ok-link.link.primary.inward c.settings.result.link c.in_ok-link.ensures.back)))
-    (ap (λ (v : PrimaryView). v.steady) c.in_ok-open.ensures.link ∙ c.self.invariant.local) (ap (λ (v : SecondaryView). v.steady) c.in_ok-open-2.ensures.link
-    ∙ c.self.invariant.peer)
+    (ap (λ (v : PrimaryView). v.steady) c.in_ok-open.ensures.link ∙ c.self.invariant.local.0, subst IsTrue (sym (ap (λ (v : PrimaryView). v.faithful) c.in_ok-open.ensures.link)) c.self.invariant.local.1) (ap (λ (v : SecondaryView). v.steady) c.in_ok-open-2.ensures.link ∙ c.self.invariant.peer.0, subst IsTrue (sym (ap (λ (v : SecondaryView). v.faithful) c.in_ok-open-2.ensures.link)) c.self.invariant.peer.1)
 
 pub returns : goal.returns
 returns c = record {

@@ -19,7 +19,8 @@ read-requires-clause-inside g c = rw c.arm_read.ensures (chosen-inside _ _ c.sel
 
 pub invariant_of-self-2 : goal.invariant_of-self-2
 invariant_of-self-2 g c =
-    same-is _ _ _ c.self.invariant c.resync_block.ensures.same (armed-same c.self.inside.store _ _ c.arm_read.ensures c.read.ensures.after) _ _
+    same-is _ _ _ c.self.invariant c.resync_block.ensures.same (armed-same c.self.inside.store _ _ c.arm_read.ensures c.read.ensures.after) _ _ _
+    (λ faithful. faithful)
 
 pub returns-clause-step : goal.returns-clause-step
 returns-clause-step g c =

@@ -1,4 +1,6 @@
-use Rattle.std.proofs.Common.{rules, ◌≡◌, Err, inl, inr, refl}
+use Rattle.std.proofs.Common.{rules, ◌≡◌, Err, inl, inr, refl, subst, false}
+use Rattle.std.specs.Prelude.{IsTrue}
+use Rattle.primary.proofs.Kept.{lowered, lowered-is}
 use Rattle.primary_protocol.proofs.Node.Writing.{node-unknown}
 use Rattle.primary.proofs.Writing.{failed, inside-disk, refused-step, wrote}
 use Rattle.primary.proofs.state.Primary.local.Goals as goal
@@ -17,19 +19,20 @@ write-requires-clause-inside g c =
 
 pub invariant_of-self : goal.invariant_of-self
 invariant_of-self g c =
-    (wrote _ c.args.number _ _ _ _ _ _ _ c.self.invariant c.in_ok-write.ensures.write c.range.ensures.first c.deref.ensures c.contents.ensures.blocks
-    c.done.ensures c.in-Ok.ensures.written).is _ _
+    lowered-is _ _ _ _ (subst IsTrue c.write.ensures.still_faithful) ((wrote _ c.args.number _ _ _ _ _ _ _ c.self.invariant c.in_ok-write.ensures.write c.range.ensures.first c.deref.ensures c.contents.ensures.blocks
+    c.done.ensures c.in-Ok.ensures.written).is 0 false)
 
 pub invariant_of-self-in-Err : goal.invariant_of-self-in-Err
 invariant_of-self-in-Err g c =
-    (failed _ c.args.number _ _ _ _ _ _ _ c.self.invariant c.in_ok-write.ensures.write c.range.ensures.first c.deref.ensures c.contents.ensures.blocks
-    c.failed.ensures c.in-Err.ensures.torn).is _ _
+    lowered-is _ _ _ _ (subst IsTrue c.write.ensures.still_faithful) ((failed _ c.args.number _ _ _ _ _ _ _ c.self.invariant c.in_ok-write.ensures.write c.range.ensures.first c.deref.ensures c.contents.ensures.blocks
+    c.failed.ensures c.in-Err.ensures.torn).is 0 false)
 
 pub returns-in-Ok-clause-step : goal.returns-in-Ok-clause-step
 returns-in-Ok-clause-step g c =
     rw (← c.self.view_is) (inl (
       c.in-Ok.ensures.uncounted,
-      (wrote _ c.args.number _ _ _ _ _ _ _ c.self.invariant c.in_ok-write.ensures.write c.range.ensures.first c.deref.ensures c.contents.ensures.blocks
+      lowered _ _ _ _ _ (subst IsTrue c.write.ensures.still_faithful) (wrote _ c.args.number _ _ _ _ _ _ _ c.self.invariant
+          c.in_ok-write.ensures.write c.range.ensures.first c.deref.ensures c.contents.ensures.blocks
           c.done.ensures c.in-Ok.ensures.written).steps,
     ))
 
@@ -39,7 +42,8 @@ returns-in-Err-clause-step g c =
       c.in-Err.ensures.counted,
       (
         _,
-        (failed _ c.args.number _ _ _ _ _ _ _ c.self.invariant c.in_ok-write.ensures.write c.range.ensures.first c.deref.ensures c.contents.ensures.blocks
+        lowered _ _ _ _ _ (subst IsTrue c.write.ensures.still_faithful) (failed _ c.args.number _ _ _ _ _ _ _ c.self.invariant
+            c.in_ok-write.ensures.write c.range.ensures.first c.deref.ensures c.contents.ensures.blocks
             c.failed.ensures c.in-Err.ensures.torn).steps,
       ),
     ))

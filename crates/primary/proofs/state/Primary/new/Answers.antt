@@ -1,14 +1,22 @@
-use Rattle.std.proofs.Common.{◌≡◌, length, arith}
-use Rattle.std.proofs.lemmas.Bool.Decides.{nat_tests}
-use Rattle.primary.proofs.Kept.{new-is, new-has}
+use Rattle.std.proofs.Common.{◌≡◌, ◌∙◌, refl, arith}
 use Rattle.primary.proofs.state.Primary.new.Goals as goal
 
-pub invariant_of-result : goal.invariant_of-result
-invariant_of-result g c =
-    let size : length (g.S.Store.contents c.args.store) ≡ c.args.settings.blocks = grind (arith, nat_tests, c.blocks-2.ensures, c.if-blocks-settings.false) in
-    new-is c.args.settings _ c.args.tuple _ _ _ _ c.in_ok-new.ensures.fresh size
+pub from_marks-requires : goal.from_marks-requires
+from_marks-requires g c =
+    let in_range = c.in_ok-check.ensures.accepted.0 refl in
+    omega (arith, in_range.blocks)
 
 pub returns-clause-history : goal.returns-clause-history
 returns-clause-history g c =
-    let size : length (g.S.Store.contents c.args.store) ≡ c.args.settings.blocks = grind (arith, nat_tests, c.blocks-2.ensures, c.if-blocks-settings.false) in
-    new-has c.args.settings _ c.args.tuple _ _ _ c.in_ok-new.ensures.fresh c.deref.ensures.value size
+    let same : c.in_ok-marks.marks ≡ c.args.marks.items = c.in_ok-marks.ensures.made ∙ c.deref.ensures.value in
+    rw (← same) c.with_bitmap.ensures.history
+
+pub returns-clause-begun : goal.returns-clause-begun
+returns-clause-begun g c =
+    let same : c.in_ok-marks.marks ≡ c.args.marks.items = c.in_ok-marks.ensures.made ∙ c.deref.ensures.value in
+    rw (← same) c.with_bitmap.ensures.begun
+
+pub returns-clause-refused : goal.returns-clause-refused
+returns-clause-refused g c =
+    let same : c.in_ok-marks.marks ≡ c.args.marks.items = c.in_ok-marks.ensures.made ∙ c.deref.ensures.value in
+    rw (← same) c.with_bitmap.ensures.refused

@@ -27,7 +27,7 @@ invariant_of-self g c =
     let few : c.args.kept ≤ length (contents_of c.in_ok-failing.failing.now) = grind (arith, nat_tests, c.range.ensures.count, c.if-kept-range.false) in
     (failed-after _ _ _ _ _ _ _ _ _ c.self.invariant c.in_ok-failing.ensures.started c.in_ok-failing.ensures.inside c.range-2.ensures.first
     c.as_slice.ensures c.contents.ensures.blocks c.failed.ensures.done c.args.kept few c.failed.ensures.state
-    (armed-write c.self.inside.store _ _ _ _ _ c.arm.ensures c.write.ensures.after)).is _ _
+    (armed-write c.self.inside.store _ _ _ _ _ c.arm.ensures c.write.ensures.after)).is _ _ _
 
 pub returns-clause-step : goal.returns-clause-step
 returns-clause-step g c =

@@ -18,12 +18,12 @@ write-requires-clause-inside g c =
 pub invariant_of-self : goal.invariant_of-self
 invariant_of-self g c =
     (done _ _ _ _ _ _ _ _ _ c.self.invariant c.in_ok-item.ensures.started c.in_ok-item.ensures.inside c.range.ensures.first
-    c.as_slice.ensures c.contents.ensures.blocks c.done.ensures.done c.done.ensures.state c.in-Ok.ensures.written).is _ _
+    c.as_slice.ensures c.contents.ensures.blocks c.done.ensures.done c.done.ensures.state c.in-Ok.ensures.written).is _ _ _
 
 pub invariant_of-self-in-Err : goal.invariant_of-self-in-Err
 invariant_of-self-in-Err g c =
     (failed _ _ _ _ _ _ _ _ _ c.self.invariant c.in_ok-item.ensures.started c.in_ok-item.ensures.inside c.range.ensures.first
-    c.as_slice.ensures c.contents.ensures.blocks c.failed.ensures.done c.failed.ensures.state c.in-Err.ensures.torn).1.is _ _
+    c.as_slice.ensures c.contents.ensures.blocks c.failed.ensures.done c.failed.ensures.state c.in-Err.ensures.torn).1.is _ _ _
 
 pub returns-in-Err-clause-step : goal.returns-in-Err-clause-step
 returns-in-Err-clause-step g c =

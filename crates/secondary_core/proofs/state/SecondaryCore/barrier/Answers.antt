@@ -1,7 +1,7 @@
 use Rattle.std.proofs.Common.{suc, ◌≡◌, ◌∙◌, ◌∷◌, [], ap, sym, arith, length, true, false, ◌==◌}
 use Rattle.std.proofs.lemmas.Bool.Decides.{nat_tests}
 use Rattle.std.proofs.lemmas.List.{append-nil, length-append}
-use Rattle.peerdisk.proofs.Stamps.{length-flags}
+use Rattle.peerdisk.proofs.Flags.{length-flags}
 use Rattle.secondary_core.proofs.Kept.{taken}
 use Rattle.secondary_core.proofs.state.SecondaryCore.barrier.Goals as goal
 

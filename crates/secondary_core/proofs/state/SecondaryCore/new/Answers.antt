@@ -1,5 +1,5 @@
 use Rattle.std.proofs.Common.{◌∙◌, false, length, refl, ap, arith}
-use Rattle.peerdisk.proofs.Stamps.{length-flags}
+use Rattle.peerdisk.proofs.Flags.{length-flags}
 use Rattle.secondary_core.proofs.Places.{of-none}
 use Rattle.secondary_core.proofs.state.SecondaryCore.new.Goals as goal
 

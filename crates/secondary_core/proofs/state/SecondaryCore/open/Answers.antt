@@ -1,6 +1,6 @@
 use Rattle.std.proofs.Common.{◌≡◌, ◌∙◌, false, length, ap, arith}
 use Rattle.std.proofs.lemmas.Bool.Decides.{nat_tests}
-use Rattle.peerdisk.proofs.Stamps.{length-flags}
+use Rattle.peerdisk.proofs.Flags.{length-flags}
 use Rattle.secondary_protocol.specs.Core.{answers}
 use Rattle.secondary_core.proofs.Places.{of-none}
 use Rattle.secondary_core.proofs.state.SecondaryCore.open.Goals as goal

@@ -17,10 +17,10 @@ same g c = ends-of (ap (λ (x : PrimaryView). x.outgoing) c.resync_next.ensures.
 
 abbrev ran : (g : _) (c : goal.After-resync_next g) → PrimaryRuns c.self.inside.node c.resync_next.new.self
 ran g c = elim c.resync_next.ensures.step [
-  | inl done ↦ runs-step (Resyncs (is_out_of_memory c.resync_next.result)) tt c.self.inside.node c.resync_next.new.self (replied reply.Ok c.resync_next.result)
+  | inl done ↦ runs-step (Resyncs done.1.0 (is_out_of_memory c.resync_next.result)) tt c.self.inside.node c.resync_next.new.self (replied reply.Ok c.resync_next.result)
       (λ h. refl)
-      (steps-over (Resyncs (is_out_of_memory c.resync_next.result)) tt (primary_step (Resyncs (is_out_of_memory c.resync_next.result)))
-      (λ h. refl) c.self.inside.node c.resync_next.new.self (replied reply.Ok c.resync_next.result) (same g c) done.1.replies done.1.after)
+      (steps-over (Resyncs done.1.0 (is_out_of_memory c.resync_next.result)) tt (primary_step (Resyncs done.1.0 (is_out_of_memory c.resync_next.result)))
+      (λ h. refl) c.self.inside.node c.resync_next.new.self (replied reply.Ok c.resync_next.result) (same g c) done.1.2.replies done.1.2.after)
   | inr failed ↦ runs-step (FailsResync (is_out_of_memory c.resync_next.result)) tt c.self.inside.node c.resync_next.new.self
       (replied reply.Ok c.resync_next.result)
       (λ h. refl)

@@ -31,7 +31,10 @@ invariant_of-self c =
     (record { confirmed_writes = inv.acknowledged_through; begun = inv.begun }) in
     log_confirmed l _ (l.acknowledged_through + c.args.size) inv c.release_all.ensures.next refl refl (ap (λ n. l.acknowledged_through + n) c.from.ensures) refl
     (c.release_all.ensures.writes ∙ ap (λ n. filter (λ w. not (is_released (l.acknowledged_through + n) w)) l.ring.writes) c.from.ensures)
-    (c.release_all.ensures.capacity ∙ c.clear.ensures.capacity) c.clear-2.ensures.capacity (rw (ap (λ p. p.1) c.acknowledge.ensures) bounded)
+    (c.release_all.ensures.capacity ∙ c.forget_all.ensures.capacity) c.clear.ensures.capacity (rw (ap (λ p. p.1) c.acknowledge.ensures) bounded)
+    (record { blocks = refl; numbers = c.forget_all.ensures.numbers; known = c.forget_all.ensures.known }) c.release_all.ensures.rises
+    (onto_empty _ _ _ c.release_all.ensures.released c.forget_all.ensures.items
+    ∙ ap (λ n. map released_of (filter (is_released (l.acknowledged_through + n)) l.ring.writes)) c.from.ensures)
 
 pub returns : goal.returns
 returns c =
@@ -39,9 +42,9 @@ returns c =
     let s = log_of l in
     let may = passed c.args.number c.args.size s _ c.may_confirm.result (ap (λ (v : LogValue). v.state) c.self.view_is) c.may_confirm.ensures
     c.if-not-may_confirm.false in
-    let released = onto_empty _ _ _ c.release_all.ensures.released c.clear.ensures.items in
-    rw (← c.self.view_is) (rw may (confirmed_is c.args.number c.args.size s _ _ _ _ _ (ap (λ n. l.acknowledged_through + n) c.from.ensures)
+    let released = onto_empty _ _ _ c.release_all.ensures.released c.forget_all.ensures.items in
+    rw (← c.self.view_is, c.forget_all.ensures.numbers) (rw may (confirmed_is c.args.number c.args.size s _ _ _ _ _ (ap (λ n. l.acknowledged_through + n) c.from.ensures)
     (c.release_all.ensures.writes ∙ ap (λ n. filter (λ w. not (is_released (l.acknowledged_through + n) w)) l.ring.writes) c.from.ensures)
     (ap (λ p. p.1) c.acknowledge.ensures)
     (released ∙ ap (λ n. map released_of (filter (is_released (l.acknowledged_through + n)) l.ring.writes)) c.from.ensures)
-    c.clear-2.ensures.items))
+    c.clear.ensures.items))

@@ -29,7 +29,10 @@ invariant_of-self c =
     let none = sym c.in_default.is ∙ c.change.ensures.turn in
     let writes = writes_are s n f None (number-changed c.args.change) c.change.ensures.rises inv.kept (no_release s n f (number-changed c.args.change) none) in
     log_changed l _ n c.args.change inv (ap (λ r. r.next) c.change.ensures.next) refl refl refl refl (ap (λ r. r.writes) c.change.ensures.next ∙ writes)
-    c.clear.ensures.capacity c.clear-2.ensures.capacity (record { confirmed_writes = inv.acknowledged_through; begun = inv.begun })
+    c.forget_all.ensures.capacity c.clear.ensures.capacity (record { confirmed_writes = inv.acknowledged_through; begun = inv.begun })
+    (record { blocks = refl; numbers = c.forget_all.ensures.numbers; known = c.forget_all.ensures.known }) c.change.ensures.rises
+    (c.forget_all.ensures.items ∙ released_is s n f None (number-changed c.args.change) c.change.ensures.rises inv.kept
+    (no_release s n f (number-changed c.args.change) none))
 
 pub returns-in_default : goal.returns-in_default
 returns-in_default c =
@@ -42,10 +45,10 @@ returns-in_default c =
     let keeps = number-changed c.args.change in
     let gone = no_release s n f keeps none in
     let closed = closes_is s n f None c.change.ensures.rises none in
-    rw (← c.self.view_is) (changed_is s n f _ _ _ (None, l.epochs.state)
+    rw (← c.self.view_is, c.forget_all.ensures.numbers) (changed_is s n f _ _ _ (None, l.epochs.state)
     (ap (λ r. r.writes) c.change.ensures.next ∙ writes_are s n f None keeps c.change.ensures.rises inv.kept gone)
-    (c.clear.ensures.items ∙ released_is s n f None keeps c.change.ensures.rises inv.kept gone)
-    (c.clear-2.ensures.items ∙ completed_is s n f None c.change.ensures.rises none)
+    (c.forget_all.ensures.items ∙ released_is s n f None keeps c.change.ensures.rises inv.kept gone)
+    (c.clear.ensures.items ∙ completed_is s n f None c.change.ensures.rises none)
     (ap (λ (b : Bool). ended_by b n l.epochs.state) closed))
 
 pub invariant_of-self-then-not-turn : goal.invariant_of-self-then-not-turn
@@ -58,8 +61,10 @@ invariant_of-self-then-not-turn c =
     let ring = after_release s n f c.change.new.self c.release.new.self c.release.result (number-changed c.args.change) c.change.ensures.rises inv.kept
     (ap (λ r. r.writes) c.change.ensures.next) c.release.ensures.release (ap (λ r. r.writes) c.release.ensures.next) in
     log_changed l _ n c.args.change inv (ap (λ r. r.next) c.release.ensures.next ∙ ap (λ r. r.next) c.change.ensures.next) refl refl refl refl ring.0
-    (c.note.ensures.capacity ∙ c.clear.ensures.capacity) (c.note_completed.ensures.capacity
-    ∙ c.clear-2.ensures.capacity) (record { confirmed_writes = inv.acknowledged_through; begun = inv.begun })
+    (c.note.ensures.capacity ∙ c.forget_all.ensures.capacity) (c.note_completed.ensures.capacity
+    ∙ c.clear.ensures.capacity) (record { confirmed_writes = inv.acknowledged_through; begun = inv.begun })
+    (record { blocks = refl; numbers = c.forget_all.ensures.numbers; known = c.forget_all.ensures.known }) c.change.ensures.rises
+    (onto_empty _ _ _ c.note.ensures.items c.forget_all.ensures.items ∙ ring.1)
 
 pub returns-then-not-turn : goal.returns-then-not-turn
 returns-then-not-turn c =
@@ -73,10 +78,10 @@ returns-then-not-turn c =
     let turned = sym c.in-Some.is ∙ c.change.ensures.turn in
     let closed = closes_is s n f (Some c.in-Some.turn) c.change.ensures.rises turned in
     let open_still : c.in-Some.turn.closes ≡ false = is_not c.in-Some.turn.closes c.if-not-turn.true in
-    rw (← c.self.view_is) (changed_is s n f _ _ _ (None, l.epochs.state)
+    rw (← c.self.view_is, c.forget_all.ensures.numbers) (changed_is s n f _ _ _ (None, l.epochs.state)
     ring.0
-    (onto_empty _ _ _ c.note.ensures.items c.clear.ensures.items ∙ ring.1)
-    (onto_empty _ _ _ c.note_completed.ensures.items c.clear-2.ensures.items ∙ completed_is s n f (Some c.in-Some.turn) c.change.ensures.rises turned)
+    (onto_empty _ _ _ c.note.ensures.items c.forget_all.ensures.items ∙ ring.1)
+    (onto_empty _ _ _ c.note_completed.ensures.items c.clear.ensures.items ∙ completed_is s n f (Some c.in-Some.turn) c.change.ensures.rises turned)
     (ap (λ (b : Bool). ended_by b n l.epochs.state) (sym open_still ∙ closed)))
 
 pub invariant_of-self-2 : goal.invariant_of-self-2
@@ -90,8 +95,10 @@ invariant_of-self-2 c =
     (ap (λ r. r.writes) c.change.ensures.next) c.release.ensures.release (ap (λ r. r.writes) c.release.ensures.next) in
     let bounded = bounded_ended true n l.acknowledged_through l.accepted l.epochs.state (record { confirmed_writes = inv.acknowledged_through; begun = inv.begun }) in
     log_changed l _ n c.args.change inv (ap (λ r. r.next) c.release.ensures.next ∙ ap (λ r. r.next) c.change.ensures.next) refl refl refl refl ring.0
-    (c.note.ensures.capacity ∙ c.clear.ensures.capacity) (c.note_completed.ensures.capacity ∙ c.clear-2.ensures.capacity)
+    (c.note.ensures.capacity ∙ c.forget_all.ensures.capacity) (c.note_completed.ensures.capacity ∙ c.clear.ensures.capacity)
     (rw (ap (λ p. p.1) c.completed.ensures) bounded)
+    (record { blocks = refl; numbers = c.forget_all.ensures.numbers; known = c.forget_all.ensures.known }) c.change.ensures.rises
+    (onto_empty _ _ _ c.note.ensures.items c.forget_all.ensures.items ∙ ring.1)
 
 pub returns : goal.returns
 returns c =
@@ -105,8 +112,8 @@ returns c =
     let turned = sym c.in-Some.is ∙ c.change.ensures.turn in
     let closed = closes_is s n f (Some c.in-Some.turn) c.change.ensures.rises turned in
     let closes : c.in-Some.turn.closes ≡ true = is_so c.in-Some.turn.closes c.if-not-turn.false in
-    rw (← c.self.view_is) (changed_is s n f _ _ _ (c.completed.result, c.completed.new.self.state)
+    rw (← c.self.view_is, c.forget_all.ensures.numbers) (changed_is s n f _ _ _ (c.completed.result, c.completed.new.self.state)
     ring.0
-    (onto_empty _ _ _ c.note.ensures.items c.clear.ensures.items ∙ ring.1)
-    (onto_empty _ _ _ c.note_completed.ensures.items c.clear-2.ensures.items ∙ completed_is s n f (Some c.in-Some.turn) c.change.ensures.rises turned)
+    (onto_empty _ _ _ c.note.ensures.items c.forget_all.ensures.items ∙ ring.1)
+    (onto_empty _ _ _ c.note_completed.ensures.items c.clear.ensures.items ∙ completed_is s n f (Some c.in-Some.turn) c.change.ensures.rises turned)
     (c.completed.ensures ∙ ap (λ (b : Bool). ended_by b n l.epochs.state) (sym closes ∙ closed)))

@@ -80,3 +80,6 @@ returns-clause-writes c =
     let end : c.loop-number.number ≡ c.args.to = omega (arith, c.requires.order) in
     let e = all_after (is_released c.args.acknowledged_through) c.args.to ws c.requires.high in
     c.loop-number.invariant.writes ∙ (ap (λ k. filter (remains (is_released c.args.acknowledged_through) k) ws) end ∙ e.1)
+
+pub returns-clause-rises : goal.returns-clause-rises
+returns-clause-rises c = rises_of c.self.inside c.args.self.now c.self.view_is c.self.invariant

@@ -1,0 +1,135 @@
+//! The comparison of two disks.
+ghost use Rattle.std.specs.Prelude.{◌≡◌, ◌&&◌, ◌||◌, not, nat_le, if◌then◌else◌, is_some, length, slice_get, IfErr, IfOk, IfSome, IsTrue, OnErr, OnOk};
+ghost use Rattle.blocks.specs.declared.block.TheConstants.{BLOCK_BYTES};
+ghost use Rattle.blocks.specs.declared.refusal.Refusal.TheVariants.{ReadFault};
+ghost use Rattle.model.specs.Pair.{same_block};
+ghost use Rattle.serving.specs.Disks.{AreFaithful, WereRead, unmarked_between};
+
+use crate::disks::Disks;
+use bitmap::Bitmap;
+use blocks::{BLOCK_BYTES, Block, MAX_BLOCKS, Refusal, Store};
+use std::io::Write;
+
+/// After how many blocks a comparison says how far it is: 1 GiB.
+const REPORT_BLOCKS: u32 = MAX_BLOCKS;
+
+/// Returns whether both disks have the same blocks. Shows its progress on `err` if they are large. `ReadFault` (14) if a disk
+/// fails a read.
+pub(crate) fn are_alike<D: Store, E: Write>(
+    disks: &mut Disks<D>,
+    err: &mut E,
+) -> Result<bool, Refusal>
+    ensures alike { IfOk result (λ same. AreFaithful disks.new → IsTrue same → disks.old.local ≡ disks.old.peer) }
+    ensures found { IfOk result (λ same. AreFaithful disks.new → disks.old.local ≡ disks.old.peer → IsTrue same) }
+    ensures failed { OnErr result (disks.new.local_faults ≡ disks.old.local_faults → disks.new.peer_faults ≡ disks.old.peer_faults → ⊥) }
+    ensures read { WereRead disks.old disks.new }
+{
+    let mut ours = [0u8; BLOCK_BYTES];
+    let mut theirs = [0u8; BLOCK_BYTES];
+    let blocks = disks.local.blocks();
+    if disks.peer.blocks() != blocks {
+        return Ok(false);
+    }
+    for number in 0..blocks {
+        tell_progress(number, blocks, err);
+        let block = Block(u64::from(number));
+        if !is_alike(disks, block, &mut ours, &mut theirs)? {
+            return Ok(false);
+        }
+    }
+    Ok(true)
+}
+
+/// Returns on how many of the first `blocks` blocks the disks differ without a mark. Shows its progress on `err` if the disks
+/// are large. `ReadFault` (14) if a disk fails a read.
+pub(crate) fn unmarked_blocks<D: Store, E: Write>(
+    disks: &mut Disks<D>,
+    marks: &Bitmap,
+    blocks: u32,
+    err: &mut E,
+) -> Result<u32, Refusal>
+    ensures count { IfOk result (λ n. AreFaithful disks.new → n ≡ unmarked_between marks.now disks.old.local disks.old.peer blocks) }
+    ensures read { WereRead disks.old disks.new }
+    ensures refused { IfErr result (λ e. e ≡ ReadFault) }
+{
+    let mut ours = [0u8; BLOCK_BYTES];
+    let mut theirs = [0u8; BLOCK_BYTES];
+    let mut count = 0u32;
+    for number in 0..blocks {
+        tell_progress(number, blocks, err);
+        let block = Block(u64::from(number));
+        let is_alike = is_alike(disks, block, &mut ours, &mut theirs)?;
+        count += unmarked_one(is_alike, marks.is_marked(block));
+    }
+    Ok(count)
+}
+
+/// Compares the disks if that is asked for, or if they have at most 262,144 blocks. Returns on how many blocks they differ without a
+/// mark, or `None` if they were not compared. `ReadFault` (14) if a disk fails a read.
+pub(crate) fn compared<D: Store, E: Write>(
+    is_asked: bool,
+    disks: &mut Disks<D>,
+    marks: &Bitmap,
+    blocks: u32,
+    err: &mut E,
+) -> Result<Option<u32>, Refusal>
+    ensures compares { IfOk result (λ found. is_some found ≡ (is_asked || nat_le blocks 262144)) }
+    ensures count { IfOk result (λ found. IfSome found (λ n. AreFaithful disks.new → n ≡ unmarked_between marks.now disks.new.local disks.new.peer blocks)) }
+    ensures read { WereRead disks.old disks.new }
+    ensures refused { IfErr result (λ e. e ≡ ReadFault) }
+{
+    if !is_asked && blocks > MAX_BLOCKS {
+        return Ok(None);
+    }
+    let count = unmarked_blocks(disks, marks, blocks, err)?;
+    Ok(Some(count))
+}
+
+// Returns 1 for a block that differs and has no mark, else 0.
+fn unmarked_one(is_alike: bool, is_marked: bool) -> u32
+    ensures { result ≡ if not is_alike && not is_marked then 1 else 0 }
+{
+    if is_alike || is_marked { 0 } else { 1 }
+}
+
+// Returns whether both disks have this block with the same bytes, or neither has it; each buffer has room for a block.
+// `ReadFault` (14) if a disk fails the read.
+fn is_alike<D: Store>(
+    disks: &mut Disks<D>,
+    block: Block,
+    ours: &mut [u8],
+    theirs: &mut [u8],
+) -> Result<bool, Refusal>
+    requires ours { length ours.old ≡ BLOCK_BYTES }
+    requires theirs { length theirs.old ≡ BLOCK_BYTES }
+    ensures alike { IfOk result (λ same. AreFaithful disks.new → same ≡ same_block (slice_get disks.old.local block.0) (slice_get disks.old.peer block.0)) }
+    ensures uncounted { OnOk result ((disks.new.local_faults ≡ disks.old.local_faults) × (disks.new.peer_faults ≡ disks.old.peer_faults)) }
+    ensures failed { OnErr result (disks.new.local_faults ≡ disks.old.local_faults → disks.new.peer_faults ≡ disks.old.peer_faults → ⊥) }
+    ensures read { WereRead disks.old disks.new }
+    ensures refused { IfErr result (λ e. e ≡ ReadFault) }
+{
+    let has_local = block.0 < u64::from(disks.local.blocks());
+    let has_peer = block.0 < u64::from(disks.peer.blocks());
+    if !has_local || !has_peer {
+        return Ok(has_local == has_peer);
+    }
+    if disks.local.read(block, ours).is_err() {
+        return Err(Refusal::ReadFault);
+    }
+    if disks.peer.read(block, theirs).is_err() {
+        return Err(Refusal::ReadFault);
+    }
+    Ok(*ours == *theirs)
+}
+
+// Writes a line if a comparison has come to another GiB.
+fn tell_progress<E: Write>(done: u32, blocks: u32, err: &mut E) {
+    if done > 0 && done % REPORT_BLOCKS == 0 {
+        let _ = writeln!(
+            err,
+            "compared {} of {} GiB",
+            done / REPORT_BLOCKS,
+            blocks.div_ceil(REPORT_BLOCKS)
+        );
+    }
+}
