@@ -1,5 +1,6 @@
 pub mod Acknowledging
 pub mod Answering
+pub mod HonestLink
 pub mod Opening
 pub mod Opens
 pub mod Pairing

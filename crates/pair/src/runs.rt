@@ -1,10 +1,11 @@
 //! Running a list of events.
-ghost use Rattle.std.specs.Prelude.{◌≡◌, length, map, IfOk, IfErr};
+ghost use Rattle.std.specs.Prelude.{◌≡◌, false, length, map, All, IfOk, IfErr};
 ghost use Rattle.blocks.specs.declared.refusal.Refusal.TheVariants.{NoMemory};
 ghost use Rattle.model.specs.Headline.{CoversDifferences, HoldsEarlierEpochs, IsGrounded, KeepsPromises, MarksDifferences, StaysClosed, StaysClosedToo, TakesABeginning};
 ghost use Rattle.model.specs.Pair.{PairHistory, run};
 ghost use Rattle.model.specs.WriteOrder.{IsUnharmed, KeepsWriteOrder};
 ghost use Rattle.pair.specs.Events.{event_of};
+ghost use Rattle.pair.specs.Replies.{tells_protocol_error};
 ghost use Rattle.pair.specs.State.{state};
 ghost use Rattle.pair_protocol.specs.State.{PairHas, WasHonest, answered};
 
@@ -26,6 +27,8 @@ pub fn run(
     // Each event's reply is the model's, from whichever history the pair had.
     ensures replies { IfOk result (λ r. (h : PairHistory) → PairHas (state pair) h
         → r.1.items ≡ (run (answered (map event_of events.now) r.1.items) h).0) }
+    // No reply tells a protocol error: each node takes only what the other one sent.
+    ensures honest_link { IfOk result (λ r. All (λ one. tells_protocol_error one ≡ false) r.1.items) }
     // The pair has the history that the events lead to.
     ensures history { IfOk result (λ r. (h : PairHistory) → PairHas (state pair) h
         → PairHas (state r.0) (run (answered (map event_of events.now) r.1.items) h).1) }

@@ -1,13 +1,14 @@
 //! The events of one node, and the step of any event.
-ghost use Rattle.std.specs.Prelude.{◌≡◌};
+ghost use Rattle.std.specs.Prelude.{◌≡◌, false};
 ghost use Rattle.blocks.specs.declared.outcome.Reply.TheVariants as reply;
 ghost use Rattle.endpoint.specs.Calls as link;
 ghost use Rattle.model.specs.Headline.{CoversDifferences, HoldsEarlierEpochs, IsGrounded, KeepsPromises, MarksDifferences, StaysClosed, StaysClosedToo, TakesABeginning};
 ghost use Rattle.model.specs.Pair.{AckOutEvent, ClosePrimaryEvent, CloseSecondaryEvent, LocalEvent, LocalFaultEvent, PairHistory, PeerEvent, PeerFaultEvent, ResyncEvent, ResyncFaultEvent, SendEvent, SubmitEvent, step};
 ghost use Rattle.model.specs.WriteOrder.{IsUnharmed, KeepsWriteOrder};
 ghost use Rattle.pair.specs.Events.{event_of};
+ghost use Rattle.pair.specs.Replies.{tells_protocol_error};
 ghost use Rattle.pair.specs.State.{state};
-ghost use Rattle.pair_protocol.specs.State.{IsPairStep, PairHas, WasHonest, is_out_of_memory};
+ghost use Rattle.pair_protocol.specs.State.{IsPair, IsPairStep, PairHas, WasHonest, is_out_of_memory};
 ghost use Rattle.primary_protocol.specs.Steps.{replied};
 ghost use Rattle.secondary_protocol.specs.Steps as from_secondary;
 ghost use Rattle.secondary_protocol.specs.Steps.{plainly};
@@ -100,10 +101,19 @@ impl Pair {
         self.secondary.close()
     }
 
+    // Proof hint: a pair has a history. It does nothing.
+    fn has_history(&self)
+        ensures { IsPair (state self.now) }
+    {
+        let _ = &self.primary;
+    }
+
     /// Runs one event, and returns the reply to it: those of the model's step, from whichever history the pair had.
     /// Memory was refused if the reply is 7.
     pub fn step(&mut self, event: &Event) -> Reply
         ensures step { IsPairStep (event_of event.now) (is_out_of_memory result) (state self.old) result (state self.new) }
+        // The reply tells no protocol error: each node takes only what the other one sent.
+        ensures honest_link { tells_protocol_error result ≡ false }
         // If the identifiers of its opening were honest, they still are.
         ensures honest { (h : PairHistory) → PairHas (state self.old) h → WasHonest h
             → WasHonest (step (event_of event.now) (is_out_of_memory result) h).1 }
@@ -132,6 +142,7 @@ impl Pair {
         ensures order { (h : PairHistory) → PairHas (state self.new) h → WasHonest h
             → IsUnharmed h.primary h.secondary → KeepsWriteOrder h.primary h.secondary }
     {
+        self.has_history();
         let outcome = match event {
             Event::Open { sync, loss } => self.open(*sync, *loss),
             Event::Submit { first, contents } => match self.submit(*first, contents) {

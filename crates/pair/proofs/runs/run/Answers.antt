@@ -26,7 +26,7 @@ loop-event-preserved c =
     (one-ran c.args.events.now c.loop-event.event-index c.loop-event.replies.items c.push_reserved.new.self.items (vec_len c.loop-event.replies)
     (vec_capacity c.loop-event.replies) (vec_len c.push_reserved.new.self)
     c.args.pair c.loop-event.pair c.step-reply.new.self c.event-item.result c.step-reply.result c.loop-event.invariant c.loop-event-test.true c.event-item.is
-    c.step-reply.ensures.step c.push_reserved.ensures.items c.push_reserved.ensures.len)
+    c.step-reply.ensures.step c.step-reply.ensures.honest_link c.push_reserved.ensures.items c.push_reserved.ensures.len)
 
 -- every event has its reply
 ended : (c : goal.After-loop-event) → c.loop-event.event-index ≡ length c.args.events.now
@@ -42,6 +42,9 @@ pub returns-clause-replies : goal.returns-clause-replies
 returns-clause-replies c h has =
     (all-ran c.args.events.now c.loop-event.event-index c.loop-event.replies.items (vec_len c.loop-event.replies)
     (vec_capacity c.loop-event.replies) c.args.pair c.loop-event.pair c.loop-event.invariant (ended c)).answers h has
+
+pub returns-clause-honest_link : goal.returns-clause-honest_link
+returns-clause-honest_link c = c.loop-event.invariant.honest_link
 
 pub returns-clause-history : goal.returns-clause-history
 returns-clause-history c h has =
