@@ -1,5 +1,5 @@
 //! What a resync costs beside the copies: its next block, and the mark of the block that it has copied.
-ghost use Rattle.std.specs.Prelude.{◌≤◌, length};
+ghost use Rattle.std.specs.Prelude.{◌≤◌};
 ghost use Rattle.blocks.specs.declared.block.TheConstants.{MAX_DEVICE_BLOCKS};
 
 use super::each;
@@ -43,14 +43,12 @@ pub(crate) fn measure(rt: &HostRuntime, blocks: u32, count: u32) -> anyhow::Resu
 }
 
 // Marks the last `count` blocks of the device, a multiple of 32.
-fn mark_last(marks: &mut Bitmap, count: u32)
-    requires { length marks.old ≤ MAX_DEVICE_BLOCKS }
-{
-    let blocks = marks.len();
-    let first = blocks.saturating_sub(u64::from(count));
+fn mark_last(marks: &mut Bitmap, count: u32) {
+    let first = marks.len().saturating_sub(u64::from(count));
     for turn in 0..count / RANGE_BLOCKS {
-        let first = first + u64::from(turn) * u64::from(RANGE_BLOCKS);
-        if let Ok(range) = Range::new(first, u64::from(RANGE_BLOCKS), blocks as u32) {
+        let blocks = u32::try_from(marks.len()).unwrap_or(0);
+        let first = first.saturating_add(u64::from(turn) * u64::from(RANGE_BLOCKS));
+        if let Ok(range) = Range::new(first, u64::from(RANGE_BLOCKS), blocks) {
             marks.mark(range);
         }
     }
@@ -59,7 +57,7 @@ fn mark_last(marks: &mut Bitmap, count: u32)
 // Finds one marked block after another, and clears its mark, at most `count` times. Returns how many it found.
 fn take_all(alloc: Global, marks: &mut Bitmap, count: u32) -> u32 {
     let held = Held::new(alloc);
-    let mut taken = 0;
+    let mut taken: u32 = 0;
     for _ in 0..count {
         marks.skip_unmarked();
         let Some(block) = next(marks, &held) else {
@@ -67,7 +65,7 @@ fn take_all(alloc: Global, marks: &mut Bitmap, count: u32) -> u32 {
         };
         if block.0 < marks.len() {
             marks.clear(block);
-            taken += 1;
+            taken = taken.saturating_add(1);
         }
     }
     taken
