@@ -1,6 +1,7 @@
 //! Callers of a session.
 use crate::disks::Signals;
 use crate::outcome::Answers;
+use crate::refused_calls::{one_connection, refused};
 use blocks::{BLOCK_BYTES, Refusal};
 use bytes::Bytes;
 use primary::{CompletionKind, Receipt};
@@ -105,8 +106,13 @@ fn add(rt: &impl Abort, all: &mut Answers, answers: &mut Answers) {
     all.complaints = all.complaints.saturating_add(answers.complaints);
 }
 
-// Writes a block filled with a byte.
-fn write(alloc: Global, mirror: &impl Device, block: u64, byte: u8) -> Result<Receipt, Refusal> {
+/// Writes a block filled with a byte.
+pub(crate) fn write(
+    alloc: Global,
+    mirror: &impl Device,
+    block: u64,
+    byte: u8,
+) -> Result<Receipt, Refusal> {
     let bytes = Bytes::copy_from_slice(alloc, &[byte; BLOCK_BYTES])?;
     mirror.write(block, &bytes)
 }
@@ -368,63 +374,4 @@ fn one_write(rt: &impl Abort, alloc: Global, mirror: &impl Device) -> Answers {
     let mut answers = nothing(alloc);
     note(rt, &mut answers, write(alloc, mirror, 2, 0xAA));
     answers
-}
-
-// Checks that a second connection is refused with 12, whatever the words, before and after a cut.
-fn one_connection(alloc: Global, mirror: &impl Device) -> Answers {
-    let before = number(mirror.reconnect(90, 91));
-    mirror.cut();
-    let after = number(mirror.reconnect(0, 0));
-    let mut answers = nothing(alloc);
-    answers.complaints = u32::from(before != 12 || after != 12);
-    answers
-}
-
-// Checks that a session refuses what it should.
-fn refused(rt: &impl Abort, alloc: Global, mirror: &impl Device) -> Answers {
-    let mut answers = nothing(alloc);
-    let part = Bytes::copy_from_slice(alloc, &[0u8; 100]).expect(rt, "memory");
-    complain(&mut answers, &refused_while_open(alloc, mirror, &part));
-    mirror.cut();
-    complain(&mut answers, &refused_after_a_cut(mirror));
-    answers
-}
-
-// Writes and reads past the device, writes part of a block, and reconnects over an open link. Returns the number of
-// each refusal, and the wanted one.
-fn refused_while_open(alloc: Global, mirror: &impl Device, part: &Bytes) -> [(u8, u8); 5] {
-    [
-        (number(write(alloc, mirror, 8, 0)), 1),
-        (number(mirror.write(0, part)), 1),
-        (number(mirror.read(8, 1)), 1),
-        (number(mirror.read(0, 0)), 1),
-        (number(mirror.reconnect(90, 91)), 36),
-    ]
-}
-
-// Reconnects with words that are used, and once with fresh ones. Returns the same.
-fn refused_after_a_cut(mirror: &impl Device) -> [(u8, u8); 4] {
-    [
-        (number(mirror.reconnect(90, 90)), 33),
-        (number(mirror.reconnect(1, 91)), 33),
-        (number(mirror.reconnect(0, 91)), 33),
-        (number(mirror.reconnect(90, 91)), 0),
-    ]
-}
-
-// Complains of each refusal whose number is not the wanted one.
-fn complain(answers: &mut Answers, refusals: &[(u8, u8)]) {
-    for (found, wanted) in refusals {
-        answers.complaints = answers
-            .complaints
-            .saturating_add(u32::from(found != wanted));
-    }
-}
-
-// Returns the number of a refusal, 0 if there is none.
-fn number<X: Drop>(answer: Result<X, Refusal>) -> u8 {
-    match answer {
-        Ok(_) => 0,
-        Err(refusal) => refusal.number(),
-    }
 }

@@ -25,6 +25,8 @@ mod pumping;
 #[cfg(test)]
 mod refusals;
 #[cfg(test)]
+mod refused_calls;
+#[cfg(test)]
 mod session;
 #[cfg(test)]
 mod settlements;
