@@ -9,3 +9,4 @@ pub mod Unparted
 pub mod Stopping
 pub mod Alone
 pub mod Returning
+pub mod Premises

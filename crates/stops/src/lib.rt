@@ -6,6 +6,7 @@
 //! function does nothing, and its contract states theorems; `docs/PROOFS.md` says what they mean.
 #![tactic(auto)]
 
+ghost use Rattle.stops.specs.Examples.{SessionsAreLeft, ReturnIsMet, GrowthIsMet};
 ghost use Rattle.stops.specs.Hooks.{CoverGrowsByHooks, EventsCover};
 ghost use Rattle.stops.specs.Returns.{AloneKeepsItsDisk, ReturnsAreSound, ReturnsStaySound};
 ghost use Rattle.stops.specs.Stops.{StopsLeaveASoundOpening, StopsLeaveNoPart, ChainsStaySound, PromotionsAreSound, StopsStayJoined};
@@ -53,4 +54,14 @@ pub fn worked_moments()
     ensures block { ResyncUnderWay }
     ensures thrice { ThreeStarts }
     ensures roles { RolesChange }
+{}
+
+/// States worked examples by its contract, and does nothing. Histories meet the premises of the other functions' laws: three
+/// sessions one after the other, of which the first ends with a kill of the primary amid writes, the second with a kill of
+/// the secondary amid a resync, and the third at rest, each leaving disks that hold anything within the marks; a new primary
+/// that ran two sessions alone, to which the old one comes back; and events that cover blocks.
+pub fn premises_are_met()
+    ensures sessions { SessionsAreLeft }
+    ensures returned { ReturnIsMet }
+    ensures growth { GrowthIsMet }
 {}
