@@ -1,12 +1,12 @@
 -- The marks that a stop leaves cover every block on which the disks that it leaves differ, after a grounded history.
-use Rattle.std.proofs.Common.{ℕ, ◌≡◌, ◌<◌, inl, inr, Bool, true, false, not, ◌&&◌, nat_lt, sym, ◌∙◌, ap, subst}
+use Rattle.std.proofs.Common.{ℕ, ◌≡◌, ◌<◌, inl, inr, Bool, true, not, nat_lt, sym, ◌∙◌, subst}
 use Rattle.std.specs.Prelude.{is_some}
 use Rattle.std.specs.List.{list_any}
 use Rattle.std.proofs.lemmas.Bool.{cases_Bool, both_ways, and_parts, and_from, or_cases, ltb-true, lt-ltb}
 use Rattle.laws.proofs.Accounted.Released.{accounted-run}
 use Rattle.laws.proofs.Accounted.Steps.{covered-inside}
 use Rattle.laws.proofs.Blocks.SameBlocks.{same-equal, equal-same}
-use Rattle.laws.proofs.Joining.Openings.{HasOpeningToo, kept-opening-secondary}
+use Rattle.laws.proofs.Joining.Openings.{kept-opening-secondary}
 use Rattle.laws.proofs.Lists.Picks.{pick-any, pick-filtered}
 use Rattle.laws.proofs.Theorems.JoinedHeadline.{joined_covers}
 use Rattle.model.specs.Contents.{BlockMap, covers}

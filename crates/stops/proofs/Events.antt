@@ -1,8 +1,8 @@
 -- Which events accept a write, and which begin a stream.
-use Rattle.std.proofs.Common.{ℕ, suc, ◌≡◌, ◌+◌, ◌-◌, ◌/◌, ◌≤◌, ◌<◌, ◌⊎◌, ◌==◌, inl, inr, Bool, true, false, not, nat_lt, ◌&&◌, List, [], ◌∷◌, ◌++◌, length, map, Option, Some, None, slice_get}
+use Rattle.std.proofs.Common.{ℕ, suc, ◌≡◌, ◌+◌, ◌-◌, ◌≤◌, ◌<◌, ◌⊎◌, ◌==◌, inl, inr, Bool, true, false, not, nat_lt, ◌&&◌, List, [], ◌∷◌, ◌++◌, length, Option, Some, None, slice_get}
 use Rattle.std.proofs.Common.{refl, sym, ◌∙◌, ap, subst, arith}
-use Rattle.std.specs.Prelude.{unwrap_or, nat_le}
-use Rattle.std.proofs.lemmas.Bool.{both_ways, and_parts, ltb-true, leb-true, eqb-true}
+use Rattle.std.specs.Prelude.{nat_le}
+use Rattle.std.proofs.lemmas.Bool.{and_parts, ltb-true, leb-true, eqb-true}
 use Rattle.std.proofs.lemmas.List.{length-map}
 use Rattle.std.proofs.lemmas.Option.{slice_get_within}
 use Rattle.blocks.specs.declared.outcome.Reply.{Reply}
@@ -10,16 +10,15 @@ use Rattle.blocks.specs.declared.outcome.Reply.TheVariants as reply
 use Rattle.blocks.specs.declared.outcome.What.TheVariants as what
 use Rattle.blocks.specs.declared.refusal.Refusal.TheVariants.{NotConnected, NothingToDo, ReadFault, UnknownJob}
 use Rattle.model.specs.Contents.{Write, covers, extent_of, is_range}
-use Rattle.model.specs.Headline.{is_covered}
 use Rattle.model.specs.LocalRuns.{PrimaryEvent, Opens, Submits, WritesLocally, FailsLocally, Sends, Takes, Resyncs, FailsResync, Closes, Receipts}
 use Rattle.model.specs.LocalRuns.{primary_after, primary_run}
-use Rattle.model.specs.Primary.{LocalOutcome, OnDisk, Failed, Accepted, PrimaryConnection, PrimaryHistory, change_last, free_block, new_primary_connection, is_established, local_map}
+use Rattle.model.specs.Primary.{OnDisk, Failed, Accepted, PrimaryConnection, PrimaryHistory, change_last, free_block, new_primary_connection, is_established}
 use Rattle.model.specs.Primary.{primary_connection, with_primary_connection}
 use Rattle.model.specs.PrimarySteps.{accepted_at, closing, copying, given, faulted, faulted_by, follows, is_unfinished, open_tests, opened, resync_tests, send_tests}
 use Rattle.model.specs.PrimarySteps.{sending, set_outcome, submission, submit_tests, submitted, submitted_with, succeeding, with_outcome}
 use Rattle.model.specs.Marks.{releasing}
 use Rattle.model.specs.Stream.{StreamItem, WriteItem, ResyncItem, within}
-use Rattle.model.specs.Theorems.{Opening, primary_at}
+use Rattle.model.specs.Theorems.{primary_at}
 use Rattle.laws.proofs.Lists.Elements.{get-more}
 use Rattle.laws.proofs.Primary.Moves.{following-from, tested-keeps, pushing}
 use Rattle.laws.proofs.Rules.Receipts.{receipt-has}

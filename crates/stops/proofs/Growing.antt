@@ -1,7 +1,7 @@
 -- What a step of a primary covers that was not covered before: the blocks of a write that it accepts, or any as a stream begins.
 use Rattle.std.proofs.Common.{ℕ, ◌≡◌, ◌≤◌, ◌<◌, ◌⊎◌, inl, inr, Bool, true, false, not, List, [], ◌∷◌, ◌++◌, length, map, Option, Some, None, slice_get}
 use Rattle.std.proofs.Common.{Ok, refl, sym, ◌∙◌, ap, subst, arith, ◌==◌}
-use Rattle.std.specs.Prelude.{if◌then◌else◌, option_map, unwrap_or}
+use Rattle.std.specs.Prelude.{if◌then◌else◌, option_map}
 use Rattle.std.proofs.lemmas.Bool.{both_ways, not-true, false_from_ne_true}
 use Rattle.std.proofs.lemmas.Option.{slice_get-map, slice_get_within}
 use Rattle.blocks.specs.Positions.{StreamPosition}
@@ -9,27 +9,27 @@ use Rattle.blocks.specs.declared.settings.Settings.{Settings}
 use Rattle.blocks.specs.declared.tuple.Tuple.{Tuple}
 use Rattle.blocks.specs.declared.outcome.Decision.{Decision}
 use Rattle.blocks.specs.declared.outcome.Decision.TheVariants.{NoSync, BitmapSync, FullSync}
-use Rattle.model.specs.Contents.{BlockMap, Write, extent_of}
+use Rattle.model.specs.Contents.{Write}
 use Rattle.model.specs.Stream.{StreamItem, WriteItem, ResyncItem, BarrierItem, SyncUuidItem, UuidsItem, IsBeginning, epoch_of, last_epoch, within}
 use Rattle.model.specs.Frames.{UuidsFrame, Received}
 use Rattle.model.specs.Identifiers.{sync_end}
-use Rattle.model.specs.Primary.{LocalOutcome, Waiting, OnDisk, Failed, Accepted, PrimaryConnection, PrimaryHistory, primary_opening, no_primary_connection}
+use Rattle.model.specs.Primary.{LocalOutcome, Waiting, OnDisk, Failed, Accepted, PrimaryConnection, PrimaryHistory, no_primary_connection}
 use Rattle.model.specs.Primary.{primary_connection, last_index}
-use Rattle.model.specs.Primary.{change_last, with_primary_connection, is_established, local_map, accepted_frames, is_barrier_ack, barrier_acknowledged}
+use Rattle.model.specs.Primary.{change_last, with_primary_connection, is_established, accepted_frames, is_barrier_ack, barrier_acknowledged}
 use Rattle.model.specs.Primary.{is_waiting, is_confirmed}
-use Rattle.model.specs.Primary.{is_alone, is_released, unreleased, active_extents}
-use Rattle.model.specs.PrimarySteps.{follows, activity_is_full, submission, submitted, set_outcome, faulted, accepted_at, opened}
+use Rattle.model.specs.Primary.{is_alone, is_released, unreleased}
+use Rattle.model.specs.PrimarySteps.{follows, submission, submitted, set_outcome, faulted, accepted_at, opened}
 use Rattle.model.specs.PrimarySteps.{submitted_with, faulted_by}
 use Rattle.model.specs.Acknowledgements.{begun_with}
-use Rattle.model.specs.LocalRuns.{PrimaryEvent, primary_run}
+use Rattle.model.specs.LocalRuns.{primary_run}
 use Rattle.laws.proofs.Lists.Beginnings.{begins-self, any-grows}
 use Rattle.laws.proofs.Lists.Last.{get-change, change-twice}
 use Rattle.laws.proofs.Streams.Places.{epoch-grows}
-use Rattle.laws.proofs.Primary.Moves.{following-from, IsKeptByMoves, IsKeptByReleases, kept-by-releases, MaySubmit, keeps-run, with_frame, pushing}
+use Rattle.laws.proofs.Primary.Moves.{following-from, IsKeptByMoves, IsKeptByReleases, keeps-run, with_frame, pushing}
 use Rattle.laws.proofs.Primary.Homes.{alone-homeless, HasHomes, alone-at, confirmed-at}
 use Rattle.laws.proofs.Primary.HomesMoves.{homes-kept, homes-marks, homes-opening}
 use Rattle.laws.proofs.Lists.Elements.{get-left, get-more}
-use Rattle.laws.proofs.Lists.Picks.{filtered-pick, pick-filtered}
+use Rattle.laws.proofs.Lists.Picks.{pick-filtered}
 use Rattle.laws.proofs.Primary.Ends.{not-refused, frames-taking}
 use Rattle.laws.proofs.Primary.HomesFollowing.{homes-completions, homes-ending, homes-parting}
 use Rattle.laws.proofs.Rules.RefusedFrames.{refused_out, refused-last}
@@ -39,13 +39,13 @@ use Rattle.std.specs.List.{list_any}
 use Rattle.std.proofs.lemmas.Bool.{cases_Bool, or_parts, or_cases, and_from, eqb-true}
 use Rattle.std.proofs.lemmas.List.{length-map}
 use Rattle.model.specs.Contents.{covers}
-use Rattle.model.specs.Frames.{RsWriteAckFrame, BarrierAckFrame, counting}
+use Rattle.model.specs.Frames.{BarrierAckFrame, counting}
 use Rattle.model.specs.Headline.{is_covered, is_marked}
 use Rattle.model.specs.LocalRuns.{primary_after}
 use Rattle.model.specs.Marks.{is_cleared, marking_unreleased}
-use Rattle.model.specs.PrimarySteps.{closing, given, is_unfinished, with_outcome}
+use Rattle.model.specs.PrimarySteps.{given, is_unfinished, with_outcome}
 use Rattle.model.specs.Primary.{last_of}
-use Rattle.model.specs.Theorems.{Opening, primary_at}
+use Rattle.model.specs.Theorems.{primary_at}
 use Rattle.laws.proofs.Accounted.{held-covers}
 use Rattle.laws.proofs.Lists.Elements.{get-end}
 use Rattle.laws.proofs.Lists.Last.{change-none}
@@ -53,6 +53,7 @@ use Rattle.laws.proofs.Lists.Picks.{pick-any, pick-found}
 use Rattle.laws.proofs.Pair.RefusedFrames.{others-count}
 use Rattle.laws.proofs.Primary.HomesMoves.{homes-released}
 use Rattle.laws.proofs.Primary.Moves.{keeps-after}
+use Rattle.laws.proofs.Rules.CloseMarks.{close-marks}
 use Rattle.laws.proofs.Rules.RefusedFrames.{refused_by, refusing_frame, refusing-last}
 use Rattle.laws.proofs.Rules.Releases.{held-waiting}
 use Rattle.laws.proofs.Tracked.Outcomes.{unfinished-waits}
@@ -395,7 +396,7 @@ grown-submits n m block h first contents homes g = go (is_established (primary_c
         (count-change (λ c. record c { stream = c.stream ++ WriteItem (submission h first contents) ∷ [] }) (λ c was. was) h.connections)
         (λ other off. off) homes g
     go false = grown-added n m block h _ (record { write = submission h first contents; journal_length = length h.journal; home = None; outcome = Waiting })
-        (keep-same h.connections h.connections refl) refl refl (omega arith) (λ other off. both-off (h.marks block) (covers (submission h first contents) block) off other) homes g
+        (keep-same h.connections h.connections refl) refl refl (omega arith) (λ other off. both-off _ _ off other) homes g
 
 -- the local disk finishes a write
 put-down : (number : ℕ) (outcome : LocalOutcome) (a : Accepted) → is_waiting outcome ≡ false
@@ -446,7 +447,7 @@ grown-faults n m block h number offsets unfinished homes g = go (accepted_at h n
     go : (v : Option Accepted) → accepted_at h number ≡ v → Grown n m block (faulted_by v number offsets h)
     go None is = g
     go (Some accepted) is = grown-outcome n m block h _ number (Failed (within (length accepted.write.contents) offsets)) refl refl refl refl
-        (λ clean off. both-off (h.marks block) (covers accepted.write block) off (false_from_ne_true (covers accepted.write block) (λ has.
+        (λ clean off. both-off _ _ off (false_from_ne_true (covers accepted.write block) (λ has.
         let found = pick-found (λ (a : Accepted). a.write.number == number) h.writes accepted is in
         let waits = unfinished-waits h number found.0 accepted homes unfinished found.1 (eqb-true accepted.write.number number found.2) in
         clean-of h block found.0 accepted clean found.1 (held-waiting h accepted waits) has))) homes g
@@ -505,9 +506,9 @@ grown-taking n m block h later frame standing settings connections writes marks 
 -- what a close marks beside is of unreleased writes
 close-clean : (h mid : PrimaryHistory) (block : ℕ) → HasHomes h → AllKeep h.connections mid.connections → mid.writes ≡ h.writes → mid.marks ≡ h.marks
     → under h block ≡ false → h.marks block ≡ false → marking_unreleased mid block ≡ false
-close-clean h mid block homes keep writes marks clean off = both-off (mid.marks block) (list_any (λ (x : Accepted). covers x.write block) (unreleased mid))
-    (ap (λ (x : ℕ → Bool). x block) marks ∙ off)
-    (none-under h mid block homes keep (subst (LaterWrites h.writes) (sym writes) (later-self h.writes)) clean)
+close-clean h mid block homes keep writes marks clean off =
+    sym (close-marks mid block false (sym (none-under h mid block homes keep (subst (LaterWrites h.writes) (sym writes) (later-self h.writes)) clean)))
+    ∙ ap (λ (m : ℕ → Bool). m block || false) marks ∙ ap (λ b. b || false) off
 
 -- a refused frame acknowledges nothing
 keeps-refusing : (h : PrimaryHistory) (frame : Received) → HasHomes h → (primary_connection h).closed ≡ false → (k : ℕ)

@@ -1,8 +1,8 @@
 -- Worked histories meet the premises of the laws. What computes is computed, over the blocks of the device; past its end both disks
 -- have nothing.
-use Rattle.std.proofs.Common.{ℕ, zero, suc, ◌≡◌, ◌+◌, ◌≤◌, ◌<◌, inl, inr, Bool, true, false, not, ◌&&◌, ◌||◌, nat_lt, nat_le, ◌==◌, List, [], ◌∷◌, ◌++◌, length, map, Option, Some, None}
+use Rattle.std.proofs.Common.{ℕ, zero, suc, ◌≡◌, ◌+◌, ◌≤◌, ◌<◌, inl, inr, Bool, true, false, not, ◌&&◌, ◌||◌, nat_lt, nat_le, List, [], ◌∷◌, ◌++◌, length, map, Option, Some, None}
 use Rattle.std.proofs.Common.{slice_get, refl, sym, ◌∙◌, ap, subst, arith}
-use Rattle.std.specs.Prelude.{is_some, if◌then◌else◌, IsTrue, option_map}
+use Rattle.std.specs.Prelude.{is_some, if◌then◌else◌, IsTrue}
 use Rattle.std.specs.List.{list_all}
 use Rattle.std.proofs.lemmas.Bool.{cases_Bool, cases_lt, and_parts, both_ways, lt-ltb, le-ltb, ltb-true, leb-true, or_cases, false_from_ne_true}
 use Rattle.blocks.specs.SettingsRange.{IsInRange, standard}
@@ -17,19 +17,19 @@ use Rattle.laws.proofs.Theorems.PairIsJoined.{every_run_is_joined}
 use Rattle.laws.proofs.Theorems.PremisesAreMet.{openings_are_met}
 use Rattle.model.specs.Contents.{BlockMap, IsDisk, Layer, block_under, overlay, filled}
 use Rattle.model.specs.Headline.{IsGrounded, IsJoined, is_covered}
-use Rattle.model.specs.LocalRuns.{PrimaryEvent, primary_run, SecondaryEvent, secondary_run}
+use Rattle.model.specs.LocalRuns.{secondary_run}
 use Rattle.model.specs.Pair.{Event, PairHistory, same_block, PeerEvent}
 use Rattle.model.specs.Primary.{PrimaryHistory, local_layer, local_map}
 use Rattle.model.specs.Rows.{after}
-use Rattle.model.specs.Secondary.{SecondaryConnection, SecondaryHistory, secondary_connection, secondary_map, items_taken}
+use Rattle.model.specs.Secondary.{SecondaryHistory, secondary_connection, secondary_map, items_taken}
 use Rattle.model.specs.Stream.{below, layers_of}
-use Rattle.model.specs.Theorems.{Opening, IsSoundOpening, pair_at, primary_at, secondary_at}
+use Rattle.model.specs.Theorems.{Opening, IsSoundOpening, pair_at, secondary_at}
 use Rattle.stops.specs.Examples.{IsLeftAt, SessionsAreLeft, of_bytes, writing, amid_writes, copying_marked, amid_a_resync, copying_all, at_rest}
 use Rattle.stops.specs.Examples.{ReturnIsMet, GrowthIsMet, first_alone, second_alone, returned}
 use Rattle.stops.specs.Returns.{AllRanAlone, RanAlone, end_of, unmarked}
 use Rattle.stops.proofs.Returning.{returns_stay_sound}
 use Rattle.laws.specs.Statements.{AreJoinedRuns}
-use Rattle.stops.specs.Stops.{Stopped, MayBeLeft, IsLeftBy, known_at, left_at, promoted_at, stopped_tuple, unknown, primary_of, secondary_of, done_of}
+use Rattle.stops.specs.Stops.{Stopped, MayBeLeft, IsLeftBy, known_at, left_at, stopped_tuple, unknown, primary_of, secondary_of, done_of}
 
 -- Disks.
 

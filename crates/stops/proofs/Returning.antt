@@ -1,7 +1,7 @@
 -- Why the old primary may come back to the secondary that went on alone, however many sessions it ran.
 use Rattle.std.proofs.Common.{ℕ, ◌≡◌, ◌<◌, inl, inr, Bool, true, false, ◌&&◌, ◌||◌, nat_lt, List, [], ◌∷◌, Option, Some, None, slice_get, sym, ◌∙◌, ap, subst, refl, arith}
 use Rattle.std.specs.Prelude.{is_some}
-use Rattle.std.proofs.lemmas.Bool.{cases_Bool, both_ways, and_parts, and_from, or_left, or_right, lt-ltb, ltb-true, false_from_ne_true}
+use Rattle.std.proofs.lemmas.Bool.{cases_Bool, both_ways, and_parts, and_from, or_left, or_right, ltb-true, false_from_ne_true}
 use Rattle.blocks.specs.declared.settings.Settings.{Settings}
 use Rattle.blocks.specs.declared.tuple.Tuple.{Tuple}
 use Rattle.laws.specs.Reflections.{FromOpening, NoneBegan}
@@ -13,13 +13,13 @@ use Rattle.model.specs.Contents.{BlockMap, IsDisk}
 use Rattle.model.specs.Headline.{Cover, is_covered}
 use Rattle.model.specs.LocalRuns.{PrimaryEvent, primary_run}
 use Rattle.model.specs.Pair.{same_block}
-use Rattle.model.specs.Primary.{PrimaryHistory, local_map}
+use Rattle.model.specs.Primary.{PrimaryHistory}
 use Rattle.model.specs.Stream.{StreamItem}
 use Rattle.model.specs.Theorems.{Opening, IsSoundOpening, HasRanges, primary_at}
 use Rattle.stops.proofs.Alone.{alone-faithful}
 use Rattle.stops.proofs.Stopping.{promotions_are_sound}
 use Rattle.stops.specs.Returns.{AloneKeepsItsDisk, ReturnsAreSound, ReturnsStaySound, SessionAlone, RanAlone, AllRanAlone, end_of, marks_after, disk_after, unmarked}
-use Rattle.stops.specs.Stops.{Stopped, promoted_at, primary_of, secondary_of}
+use Rattle.stops.specs.Stops.{promoted_at, primary_of, secondary_of}
 
 -- a block that a primary alone does not cover stands as at the opening, and was not marked then
 from-opening : (q : Opening) (events : List PrimaryEvent) → HasRanges q → IsDisk q.settings.blocks q.local → NoneBegan (primary_run events (primary_at q))

@@ -1,8 +1,7 @@
 -- What a stop at any moment leaves is a sound opening.
 use Rattle.std.proofs.Common.{ℕ, ◌≡◌, ◌<◌, inl, inr, Bool, true, false, not, ◌&&◌, List, [], ◌∷◌, ◌++◌, slice_get, Some, sym, ◌∙◌, ap, subst, refl, arith, nat_lt}
 use Rattle.std.specs.Prelude.{is_some, if◌then◌else◌, IsTrue}
-use Rattle.std.specs.List.{AllByRecursion}
-use Rattle.std.proofs.lemmas.Bool.{lt-ltb, both_ways, cases_Bool, and_parts}
+use Rattle.std.proofs.lemmas.Bool.{lt-ltb, both_ways, cases_Bool}
 use Rattle.blocks.specs.Identifiers.{lost}
 use Rattle.blocks.specs.SettingsRange.{IsInRange}
 use Rattle.blocks.specs.declared.settings.Settings.{Settings}
@@ -17,10 +16,10 @@ use Rattle.laws.proofs.Lists.Picks.{any-pick}
 use Rattle.laws.proofs.Primary.LawfulMoves.{primary-between}
 use Rattle.laws.proofs.Secondary.Tuples.{secondary_tuple}
 use Rattle.laws.proofs.WriteOrder.Ends.{primary-connection-of}
-use Rattle.model.specs.Contents.{BlockMap, IsDisk}
-use Rattle.model.specs.Headline.{Cover, IsGrounded, IsHonest, opening_marked}
+use Rattle.model.specs.Contents.{BlockMap}
+use Rattle.model.specs.Headline.{Cover, IsGrounded, opening_marked}
 use Rattle.model.specs.Pair.{same_block}
-use Rattle.model.specs.LocalRuns.{PrimaryEvent, Closes, primary_run}
+use Rattle.model.specs.LocalRuns.{Closes, primary_run}
 use Rattle.model.specs.Primary.{PrimaryConnection, PrimaryHistory, no_primary_connection, primary_connection, last_of}
 use Rattle.model.specs.Secondary.{SecondaryConnection, SecondaryHistory, items_taken}
 use Rattle.model.specs.Stream.{StreamItem}
@@ -29,8 +28,8 @@ use Rattle.stops.proofs.Closed.{IsShut, shut-close}
 use Rattle.stops.proofs.Covering.{covers_all}
 use Rattle.stops.proofs.CurrentIdentifier.{current-above}
 use Rattle.stops.proofs.Unparted.{run-more, leaves_no_part}
-use Rattle.stops.specs.Stops.{Stopped, MayBeLeft, StopsLeaveASoundOpening, ChainsStaySound, PromotionsAreSound, IsUnparted, IsLeftBy, IsChain, left_at}
-use Rattle.stops.specs.Stops.{promoted_at, stopped_tuple, known_at, unknown, primary_of, secondary_of, done_of}
+use Rattle.stops.specs.Stops.{Stopped, MayBeLeft, StopsLeaveASoundOpening, ChainsStaySound, PromotionsAreSound, IsUnparted, IsLeftBy, left_at}
+use Rattle.stops.specs.Stops.{stopped_tuple, known_at, unknown, primary_of, secondary_of, done_of}
 
 -- an identifier above 0 that the peer's disk is given is its own
 current-own : (known : Bool) (t : Tuple) (n : ℕ) → 0 < n → (if known then t else unknown).current ≡ n → t.current ≡ n

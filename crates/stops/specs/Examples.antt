@@ -10,7 +10,7 @@ use Rattle.model.specs.Contents.{BlockMap}
 use Rattle.model.specs.Frames.{ProtocolFrame, SizesFrame, UuidsFrame}
 use Rattle.model.specs.Headline.{IsGrounded, is_covered}
 use Rattle.model.specs.LocalRuns.{PrimaryEvent, Opens, Submits, WritesLocally, Sends, Takes, primary_after, primary_run}
-use Rattle.model.specs.Pair.{Event, PairHistory, LocalEvent, SendEvent, ReceiveEvent, PeerEvent, AckOutEvent, AckInEvent, ResyncEvent, ClosePrimaryEvent}
+use Rattle.model.specs.Pair.{Event, LocalEvent, SendEvent, ReceiveEvent, PeerEvent, AckOutEvent, AckInEvent, ResyncEvent, ClosePrimaryEvent}
 use Rattle.model.specs.Pair.{CloseSecondaryEvent, differing, marked}
 use Rattle.model.specs.ResyncRows.{first_copied}
 use Rattle.model.specs.Rows.{after, connect, fill, words}
