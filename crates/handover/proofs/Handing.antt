@@ -9,8 +9,7 @@ use Rattle.blocks.specs.declared.tuple.Tuple.{Tuple}
 use Rattle.handover.specs.Left.{IsUnparted, left_by}
 use Rattle.halves.specs.Opening.{opening_of}
 use Rattle.handover.specs.Next.{IsLeft, identifiers_of}
-use Rattle.handover.proofs.Leaving.{leaves_a_sound_opening}
-use Rattle.handover.proofs.Unparted.{leaves_no_part}
+use Rattle.handover.proofs.Leaving.{leaves_a_sound_opening, leaves_no_part}
 use Rattle.model.specs.Contents.{IsDisk}
 use Rattle.model.specs.Headline.{IsJoined, Cover, is_marked}
 use Rattle.model.specs.Primary.{PrimaryHistory, local_map}

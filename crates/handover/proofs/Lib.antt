@@ -1,7 +1,5 @@
 -- What two nodes leave when they are brought together at rest.
-pub mod CurrentIdentifier
 pub mod Sized
 pub mod Leaving
-pub mod Unparted
 pub mod Alike
 pub mod Handing

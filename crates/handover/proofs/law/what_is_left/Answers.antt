@@ -1,5 +1,4 @@
-use Rattle.handover.proofs.Leaving.{leaves_an_opening, leaves_a_sound_opening}
-use Rattle.handover.proofs.Unparted.{leaves_no_part}
+use Rattle.handover.proofs.Leaving.{leaves_an_opening, leaves_a_sound_opening, leaves_no_part}
 use Rattle.handover.proofs.law.what_is_left.Goals as goal
 
 pub returns : goal.returns
