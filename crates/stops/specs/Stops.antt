@@ -78,12 +78,15 @@ pub record Stopped (o : Opening) : Type 0 where
   pub joined : IsJoined (primary_run here (primary_at o)) (secondary_run there (secondary_at o))
   pub joined_done : IsJoined (primary_run here (primary_at o)) (secondary_run done (secondary_at o))
 
+-- the primary as it stopped
 abbrev pub primary_of : (o : Opening) → Stopped o → PrimaryHistory
 primary_of o w = primary_run w.here (primary_at o)
 
+-- the secondary as it stopped
 abbrev pub secondary_of : (o : Opening) → Stopped o → SecondaryHistory
 secondary_of o w = secondary_run w.there (secondary_at o)
 
+-- the secondary with its items under way done
 abbrev pub done_of : (o : Opening) → Stopped o → SecondaryHistory
 done_of o w = secondary_run w.done (secondary_at o)
 
@@ -114,7 +117,8 @@ StopsLeaveNoPart =
 
 -- Sessions one after another.
 
--- a session of the first opening stops, and leaves the second one
+-- A session of the first opening stops, and leaves the second one. `known` says whether that one has the peer's own identifiers, and
+-- not those of an unknown disk.
 pub record IsLeftBy (o next : Opening) : Type 0 where
   pub stopped : Stopped o
   pub marks : ℕ → Bool
