@@ -154,13 +154,14 @@ failed in the hello.
 
 /// The exit statuses of a server.
 const SERVE_STATUSES: &str = "
-Exit statuses: 0 done; 1 an image cannot be opened or locked, is no regular
-file, is of another length or is in use, an address cannot be listened at, or
-memory, a thread or the output failed; or, at the end, blocks were not copied
-or differ without a mark, a sync has failed, or an image may have kept parts of
-a failed write, was replaced or has another length; 2 wrong usage; 3 a session
-was refused by another number than 7. Of several faults the last line tells the
-first, and a line before it each further one.
+Exit statuses: 0 done; 1 an image cannot be opened or locked, is no regular file
+or block device, is of another length or is in use, the images cannot be
+compared, an address cannot be listened at, or memory, a thread or the output
+failed; or, at the end, blocks were not copied or differ without a mark, a sync
+has failed, or an image may have kept parts of a failed write, was replaced or
+has another length; 2 wrong usage; 3 a session was refused by another number
+than 7. Of several faults the last line tells the first, and a line before it
+each further one.
 ";
 
 /// What a run over sockets does.
@@ -182,29 +183,32 @@ then, R may also be 20 to 25, 34 or 35.
 
 /// What a server does, and what it prints.
 const SERVE: &str = "\
-If the images differ at the start, every block of --local is copied over --peer.
+If the images differ at the start, every block of --local is copied over --peer,
+unless --first assume-equal takes them as alike.
 
 The server mirrors two images of the same length, regular files or block
-devices, 4 KiB to 8 TiB in whole blocks of 4 KiB, and serves them as one export to clients of the network block
-device protocol, as qemu, nbdcopy and fio are, 256 of them at a time. It serves
-READ, WRITE, WRITE_ZEROES, FLUSH and FUA, of whole blocks of 4 KiB; others get
-EINVAL. Each write goes to both images, to the peer's over a link, and is
-answered once it is completed as the protocol says:
+devices, 4 KiB to 8 TiB in whole blocks of 4 KiB, and serves them as one export
+to clients of the network block device protocol, as qemu, nbdcopy and fio are,
+256 of them at a time. It serves READ, WRITE, WRITE_ZEROES, FLUSH and FUA, of
+whole blocks of 4 KiB; others get EINVAL. Each write goes to both images, to the
+peer's over a link, and is answered once it is completed as the protocol says:
   A                    once it is in the local image and was sent
   B                    once it is in the local image and the peer has it
   C                    once it is in both images
 A flush has the system put both images on stable storage. If that fails for
 --peer, the server cuts the link, goes on with --local alone, and says so at its
-end. It takes some 110 MB of memory, plus 34 MB for each TiB of the device, plus
-up to 100 MB for each client with long requests under way. Both images are
+end. It takes some 110 MB of memory, plus 100 MB for each TiB of the device,
+plus up to 100 MB for each client with long requests under way. Both images are
 locked meanwhile: if another server or a run uses one, the server fails with
 status 1.
 
 With --first compare, the default, the server reads both images at the start,
-and says after each GiB how far it is. That takes long for large ones. --first
-copy copies all of --local over --peer without a look; --first assume-equal
-takes the images as alike, as two new files of zeros are: where they differ
-after all, nothing says so.
+and says after each GiB how far it is. That takes long for large ones, and
+clients wait meanwhile. --first copy copies all of --local over --peer without
+a look. A copy of all has to be done before clients have written a million
+blocks, or it begins anew. --first assume-equal takes the images as alike, as
+two new files of zeros are: where they differ after all, nothing says so. Never
+use it after a kill, nor after an end with a status other than 0.
 
   drbdpair serve --local a.img --peer b.img
   nbdcopy disk.img nbd://127.0.0.1
@@ -216,15 +220,16 @@ ten seconds, puts both images on stable storage, and prints three lines:
   settled X            those of them that the primary's journal confirms
   unmarked 0           blocks that differ and have no mark
 For images of more than 1 GiB the third line is unmarked not compared, unless
---compare asks for the comparison. If blocks could not be copied, as with a disk that fails, a line on standard
-error says how many, and the status is 1; so it is if a flush or the end could
-not put an image on stable storage, or if a file may have kept parts of a write
-that failed. If an image was replaced or has another length, the three lines do
-not come. The end of standard input does not end it, and a signal kills it. A
-write is answered under C, while the link is up, once both files have taken it;
-that a killed server leaves it in both is neither proved nor tested. After a
-power failure only what was flushed is certain. In the background it reads its
-orders from a pipe:
+--compare asks for the comparison. If blocks could not be copied, as with a disk
+that fails, a line on standard error says how many, and the status is 1; so it
+is if a flush or the end could not put an image on stable storage, if the images
+could not be compared, or if a file may have kept parts of a write that failed.
+If an image was replaced or has another length, the three lines do not come. The
+end of standard input does not end it, and a signal kills it. A write is
+answered under C, while the link is up, once both files have taken it; that a
+killed server leaves it in both is neither proved nor tested. After a power
+failure only what was flushed is certain. In the background it reads its orders
+from a pipe:
 
   mkfifo orders
   drbdpair serve --local a.img --peer b.img <> orders &

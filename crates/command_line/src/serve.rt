@@ -14,9 +14,15 @@ const ABOUT: &str = "Serves two mirrored images to clients of the network block 
 
 /// Creates the command `serve`, with this help below its usage.
 pub(crate) fn serve<'a>(alloc: Global, help: &'a str) -> Result<Command<'a>, Error> {
-    let command = Command::new(alloc, "serve")
-        .about(ABOUT)
-        .after_help(help)
+    let command = Command::new(alloc, "serve").about(ABOUT).after_help(help);
+    let command = with_device(alloc, command)?;
+    let command = with_link(alloc, command)?;
+    with_start_and_end(alloc, command)
+}
+
+// Adds the options of the images, and of how they are served.
+fn with_device<'a>(alloc: Global, command: Command<'a>) -> Result<Command<'a>, Error> {
+    let command = command
         .arg(option(alloc, "local", "FILE", "The image of the local disk").required(true))?
         .arg(option(alloc, "peer", "FILE", "The image of the peer's disk").required(true))?
         .arg(option(alloc, "listen", "ADDR:PORT", "Where clients connect").default_value(
@@ -30,7 +36,13 @@ pub(crate) fn serve<'a>(alloc: Global, help: &'a str) -> Result<Command<'a>, Err
             "Blocks of the device, of 4 KiB; the local image's if none are given",
             1,
             i64::from(MAX_DEVICE_BLOCKS),
-        ))?
+        ))?;
+    Ok(command)
+}
+
+// Adds the options of the page, and of the link that it tells of.
+fn with_link<'a>(alloc: Global, command: Command<'a>) -> Result<Command<'a>, Error> {
+    let command = command
         .arg(number(
             alloc,
             "status",
@@ -46,7 +58,13 @@ pub(crate) fn serve<'a>(alloc: Global, help: &'a str) -> Result<Command<'a>, Err
             "Cuts the link every SECONDS seconds and reconnects it, to try that",
             1,
             3600,
-        ))?
+        ))?;
+    Ok(command)
+}
+
+// Adds the options of what is done with the images before and after.
+fn with_start_and_end<'a>(alloc: Global, command: Command<'a>) -> Result<Command<'a>, Error> {
+    let command = command
         .arg(
             option(
                 alloc,

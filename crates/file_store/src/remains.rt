@@ -1,4 +1,4 @@
-//! What a file has of a block whose write failed.
+//! A block whose write failed.
 use blocks::BLOCK_BYTES;
 use std::os::unix::fs::FileExt;
 
@@ -10,7 +10,7 @@ const SECTOR_BYTES: usize = 512;
 pub(crate) enum Remains {
     /// All of its new bytes.
     New,
-    /// None of its new sectors, so its old bytes.
+    /// None of its new sectors, so its old bytes; or zeros alone, as of a place that was never written.
     Old,
     /// Some of both, as far as can be told.
     Mixed,
@@ -33,6 +33,10 @@ pub(crate) fn remains_of<F: FileExt>(file: &F, bytes: &[u8], position: u64) -> R
 fn compared(found: &[u8], new: &[u8]) -> Remains {
     if *found == *new {
         return Remains::New;
+    }
+    // A sector of zeros that is new in a place without any is there by chance.
+    if found.iter().all(|byte| *byte == 0) {
+        return Remains::Old;
     }
     let has_new_sector = found
         .chunks(SECTOR_BYTES)

@@ -55,8 +55,9 @@ impl<F: FileExt, X: OpeningContents> FileStore<F, X> {
         }
     }
 
-    /// Returns whether the file may have kept a part of a block of a write that it refused: the block read back was neither as it was
-    /// to be nor untouched, or could not be read. A later write to the same place does not change the result.
+    /// Returns whether the file may have kept a part of a block of a write that it refused: the block read back has some, and not all, of
+    /// the sectors that it was to have, and is no block of zeros, or it could not be read. It may have had them before. A later write
+    /// to the same place does not change the result.
     pub fn is_torn(&self) -> bool
         ensures { result ≡ torn_of self.now }
     {

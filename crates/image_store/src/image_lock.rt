@@ -18,8 +18,8 @@ impl ImageLock {
     /// lock. Does not wait, creates no file, and changes none.
     ///
     /// `InUse` comes if a lock on the image is kept, by another process or by this one, or if another file has taken its
-    /// place meanwhile; `NotAFile` if it is neither a regular file nor a block device; `Unread` if the system refuses to open or find it; `LockRefused` if
-    /// it refuses the lock for another reason.
+    /// place meanwhile; `NotAFile` if it is neither a regular file nor a block device; `Unread` if the system refuses to open or find
+    /// it; `LockRefused` if it refuses the lock for another reason.
     pub fn take<H: Files<File = File>>(rt: &H, path: &str) -> Result<ImageLock, OpenFault> {
         let file = OpenOptions::new()
             .read(true)

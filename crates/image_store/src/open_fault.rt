@@ -8,8 +8,8 @@ pub enum OpenFault {
     /// The file has `found` bytes, and the requested device has `wanted`.
     #[error("the image has {found} bytes, and an image of this device has {wanted} (see --blocks)")]
     WrongLength { found: u64, wanted: u64 },
-    /// The file cannot be opened for reading and writing, or read to its end, or gives no second handle.
-    #[error("the image could not be opened and read: {0}")]
+    /// The file cannot be opened for reading and writing, or measured, or gives no second handle; or a block device takes no writes.
+    #[error("the image could not be opened: {0}")]
     Unread(io::Error),
     /// The system refuses the lock, and not because one is kept, as a file system that has none does.
     #[error("the image could not be locked: {0}")]

@@ -1,7 +1,8 @@
 -- The disks of both nodes as clauses see them, and where they differ.
-use Rattle.std.specs.Prelude.{ℕ, ◌≡◌, Bool, not, ◌&&◌, List, length, filter, slice_get, IsTrue}
+use Rattle.std.specs.Prelude.{ℕ, ◌≡◌, Bool, true, not, ◌&&◌, List, length, filter, slice_get, IsTrue}
 use Rattle.bitmap.specs.Marks.{marked}
 use Rattle.blocks.specs.Ranges.{below}
+use Rattle.file_store.specs.Events.{first_blocks}
 use Rattle.model.specs.Pair.{same_block}
 
 -- What each disk holds, block by block; whether each of its reads so far gave that; and how many of its calls have failed.
@@ -12,6 +13,12 @@ pub record DisksState : Type 0 where
   pub peer_faithful : Bool
   pub local_faults : ℕ
   pub peer_faults : ℕ
+
+-- Disks of so many blocks over images that held this: they hold it, and have read nothing else yet.
+pub record IsOpened (blocks : ℕ) (ours theirs : ℕ → List ℕ) (disks : DisksState) : Type 0 where
+  pub local : disks.local ≡ first_blocks blocks ours
+  pub peer : disks.peer ≡ first_blocks blocks theirs
+  pub faithful : (disks.local_faithful ≡ true) × (disks.peer_faithful ≡ true)
 
 -- each read of both disks so far gave what they hold
 abbrev pub AreFaithful : DisksState → Type 0

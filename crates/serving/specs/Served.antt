@@ -7,7 +7,7 @@ use Rattle.options.specs.declared.serve.FirstStart.{FirstStart}
 use Rattle.options.specs.declared.serve.ServeOptions.{ServeOptions}
 use Rattle.result_lines.specs.Text.{results_text}
 use Rattle.result_lines.specs.declared.results.Results.{Results}
-use Rattle.serving.specs.Disks.{AreFaithful, DisksState, WereRead, unmarked_between}
+use Rattle.serving.specs.Disks.{AreFaithful, DisksState, IsOpened, WereRead, unmarked_between}
 use Rattle.serving.specs.Sessions.{IsServed, Rest}
 use Rattle.serving.specs.declared.end.End.{End}
 use Rattle.serving.specs.declared.totals.Totals.{Totals}
@@ -29,28 +29,30 @@ pub record CameTo (chosen : Settings) (how : FirstStart) (disks : DisksState) (e
   pub results : end.totals ≡ rest.totals
   pub last : DisksState
   pub read : WereRead rest.disks last
-  pub compared : IfSome end.unmarked (λ n. AreFaithful last → n ≡ unmarked_between rest.parts.marks last.local last.peer chosen.blocks)
-  pub alike : end.unmarked ≡ Some 0 → end.totals.marked ≡ 0 → AreFaithful last → (block : ℕ) → block < chosen.blocks
+  pub compared : IfSome end.found.unmarked (λ n. AreFaithful last → n ≡ unmarked_between rest.parts.marks last.local last.peer chosen.blocks)
+  pub alike : end.found.unmarked ≡ Some 0 → end.totals.marked ≡ 0 → AreFaithful last → (block : ℕ) → block < chosen.blocks
       → slice_get last.local block ≡ slice_get last.peer block
 
--- A server with these options came to this end, over two disks of `blocks` blocks, as many as the options ask for if they do. It
--- compared them at the end if it was asked to or they are small.
-pub record HasEnded (options : ServeOptions) (end : End) : Type 0 where
+-- A server with these options came to this end, over two disks of `blocks` blocks, as many as the options ask for if they do, of which
+-- the images held this when they were opened. It compared them at the end if it was asked to or they are small, and no read failed.
+pub record HasEnded (options : ServeOptions) (ours theirs : ℕ → List ℕ) (end : End) : Type 0 where
   pub blocks : ℕ
   pub asked : IfSome options.blocks (λ asked. blocks ≡ asked)
   pub disks : DisksState
+  pub opened : IsOpened blocks ours theirs disks
   pub all : CameTo (record standard { protocol = options.protocol; blocks = blocks }) options.first disks end
-  pub compares : is_some end.unmarked ≡ (options.compare || nat_le blocks 262144)
+  pub compares : end.found.is_unread ≡ false → is_some end.found.unmarked ≡ (options.compare || nat_le blocks 262144)
 
--- Such a server, after which no block is marked, no comparison found a difference, and no image was replaced, may have kept a part of a
--- write that failed, or failed a sync. What was printed, where the bytes that were there before and are there after are known, is its
+-- Such a server, after which no block is marked, no comparison found a difference or failed, and no image was replaced, may have kept a
+-- part of a write that failed, or failed a sync. What was printed, where the bytes that were there before and are there after are known, is its
 -- three lines.
-pub record HasServed (options : ServeOptions) (before after : Option (List ℕ)) : Type 0 where
+pub record HasServed (options : ServeOptions) (ours theirs : ℕ → List ℕ) (before after : Option (List ℕ)) : Type 0 where
   pub end : End
-  pub ended : HasEnded options end
+  pub ended : HasEnded options ours theirs end
   pub unchanged : (end.changed.local ≡ false) × (end.changed.peer ≡ false)
   pub synced : (end.unsynced.local ≡ None) × (end.unsynced.peer ≡ None)
   pub clean : end.totals.marked ≡ 0
-  pub none : IfSome end.unmarked (λ n. n ≡ 0)
+  pub read : end.found.is_unread ≡ false
+  pub none : IfSome end.found.unmarked (λ n. n ≡ 0)
   pub whole : (end.torn.local ≡ false) × (end.torn.peer ≡ false)
-  pub printed : Appends before after (results_text (results end.totals end.unmarked))
+  pub printed : Appends before after (results_text (results end.totals end.found.unmarked))

@@ -86,12 +86,11 @@ pub record IsTrusted (how : FirstStart) (first : Rest) : Type 0 where
 
 -- The start of a server's first session, over these disks and with these settings: no block is marked, and nothing was written yet.
 -- The peer's disk is unknown, so that all is copied, if a comparison found a difference or a copy was asked for; it is known if they
--- are taken as alike, or a comparison in which no read failed found none.
+-- are taken as alike, or a comparison found none.
 pub record IsFirst (chosen : Settings) (how : FirstStart) (disks : DisksState) (first : Rest) : Type 0 where
   pub settings : first.parts.settings ≡ chosen
   pub own : first.parts.own ≡ record { current = 1; bitmap = 0; first_historical = 0; second_historical = 0 }
-  pub same : how ≡ Compare → AreFaithful first.disks → first.disks.local_faults ≡ disks.local_faults → first.disks.peer_faults ≡ disks.peer_faults
-      → disks.local ≡ disks.peer → first.parts.peer ≡ first.parts.own
+  pub same : how ≡ Compare → AreFaithful first.disks → disks.local ≡ disks.peer → first.parts.peer ≡ first.parts.own
   pub other : how ≡ Compare → AreFaithful first.disks → (disks.local ≡ disks.peer → ⊥) → first.parts.peer ≡ unknown
   pub copied : how ≡ Copy → first.parts.peer ≡ unknown
   pub assumed : how ≡ AssumeEqual → first.parts.peer ≡ first.parts.own

@@ -1,5 +1,5 @@
 //! The comparison of two disks.
-ghost use Rattle.std.specs.Prelude.{◌≡◌, ◌&&◌, ◌||◌, not, nat_le, if◌then◌else◌, is_some, length, slice_get, IfErr, IfOk, IfSome, IsTrue, OnErr, OnOk};
+ghost use Rattle.std.specs.Prelude.{◌≡◌, false, ◌&&◌, ◌||◌, not, nat_le, if◌then◌else◌, is_some, length, slice_get, IfErr, IfOk, IfSome, IsTrue, OnErr, OnOk};
 ghost use Rattle.blocks.specs.declared.block.TheConstants.{BLOCK_BYTES};
 ghost use Rattle.blocks.specs.declared.refusal.Refusal.TheVariants.{ReadFault};
 ghost use Rattle.model.specs.Pair.{same_block};
@@ -64,25 +64,43 @@ pub(crate) fn unmarked_blocks<D: Store, E: Write>(
     Ok(count)
 }
 
-/// Compares the disks if that is asked for, or if they have at most 262,144 blocks. Returns on how many blocks they differ without a
-/// mark, or `None` if they were not compared. `ReadFault` (14) if a disk fails a read.
-pub(crate) fn compared<D: Store, E: Write>(
+/// What the comparison at a server's end came to.
+#[derive(Clone, Copy, Debug, PartialEq, Eq)]
+pub(crate) struct LastComparison {
+    /// On how many blocks the disks differ without a mark, if they were compared.
+    pub(crate) unmarked: Option<u32>,
+    /// Whether a disk failed a read, so that they were not.
+    pub(crate) is_unread: bool,
+}
+
+/// Compares the disks if that is asked for, or if they have at most 262,144 blocks.
+pub(crate) fn compare_at_end<D: Store, E: Write>(
     is_asked: bool,
     disks: &mut Disks<D>,
     marks: &Bitmap,
     blocks: u32,
     err: &mut E,
-) -> Result<Option<u32>, Refusal>
-    ensures compares { IfOk result (λ found. is_some found ≡ (is_asked || nat_le blocks 262144)) }
-    ensures count { IfOk result (λ found. IfSome found (λ n. AreFaithful disks.new → n ≡ unmarked_between marks.now disks.new.local disks.new.peer blocks)) }
+) -> LastComparison
+    ensures compares { result.is_unread ≡ false → is_some result.unmarked ≡ (is_asked || nat_le blocks 262144) }
+    ensures count { IfSome result.unmarked (λ n. AreFaithful disks.new → n ≡ unmarked_between marks.now disks.new.local disks.new.peer blocks) }
     ensures read { WereRead disks.old disks.new }
-    ensures refused { IfErr result (λ e. e ≡ ReadFault) }
 {
     if !is_asked && blocks > MAX_BLOCKS {
-        return Ok(None);
+        return LastComparison {
+            unmarked: None,
+            is_unread: false,
+        };
     }
-    let count = unmarked_blocks(disks, marks, blocks, err)?;
-    Ok(Some(count))
+    match unmarked_blocks(disks, marks, blocks, err) {
+        Ok(count) => LastComparison {
+            unmarked: Some(count),
+            is_unread: false,
+        },
+        Err(_) => LastComparison {
+            unmarked: None,
+            is_unread: true,
+        },
+    }
 }
 
 // Returns 1 for a block that differs and has no mark, else 0.

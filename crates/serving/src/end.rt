@@ -4,6 +4,7 @@ ghost use Rattle.std.specs.Io.KnownBytes.{Appends};
 ghost use Rattle.result_lines.specs.Text.{results_text};
 ghost use Rattle.serving.specs.Served.{results};
 
+use crate::compare::LastComparison;
 use crate::fault::Fault;
 use crate::totals::Totals;
 use image_store::Both;
@@ -14,8 +15,8 @@ use std::io::Write;
 #[derive(Drop)]
 pub(crate) struct End<'a> {
     pub(crate) totals: Totals,
-    /// On how many blocks without a mark the disks differ, if they were compared.
-    pub(crate) unmarked: Option<u32>,
+    /// What the comparison of the disks came to.
+    pub(crate) found: LastComparison,
     /// The images' paths.
     pub(crate) files: Both<&'a str>,
     /// Whether an image was replaced, or has another length, while it was served.
@@ -35,16 +36,17 @@ impl<'a> End<'a> {
         out: &mut W,
         err: &mut E,
     ) -> Result<(), Fault<'a>>
-        ensures printed { OnOk result (Appends (W.contents out.old) (W.contents out.new) (results_text (results self.now.totals self.now.unmarked))) }
+        ensures printed { OnOk result (Appends (W.contents out.old) (W.contents out.new) (results_text (results self.now.totals self.now.found.unmarked))) }
         ensures unchanged { OnOk result ((self.now.changed.local ≡ false) × (self.now.changed.peer ≡ false)) }
-        ensures alike { OnOk result (IfSome self.now.unmarked (λ n. n ≡ 0) × (self.now.totals.marked ≡ 0)) }
+        ensures alike { OnOk result (IfSome self.now.found.unmarked (λ n. n ≡ 0) × (self.now.totals.marked ≡ 0)) }
+        ensures read { OnOk result (self.now.found.is_unread ≡ false) }
         ensures whole { OnOk result ((self.now.torn.local ≡ false) × (self.now.torn.peer ≡ false)) }
         ensures synced { OnOk result ((self.now.unsynced.local ≡ None) × (self.now.unsynced.peer ≡ None)) }
     {
         if self.changed.local || self.changed.peer {
             return self.tell(None, err);
         }
-        match self.totals.results(self.unmarked).print(out) {
+        match self.totals.results(self.found.unmarked).print(out) {
             Ok(()) => self.tell(None, err),
             Err(error) => self.tell(Some(Fault::Unwritten(error)), err),
         }
@@ -54,7 +56,8 @@ impl<'a> End<'a> {
     fn tell<E: Write>(&self, first: Option<Fault<'a>>, err: &mut E) -> Result<(), Fault<'a>>
         ensures none { OnOk result (first.entry ≡ None) }
         ensures unchanged { OnOk result ((self.now.changed.local ≡ false) × (self.now.changed.peer ≡ false)) }
-        ensures alike { OnOk result (IfSome self.now.unmarked (λ n. n ≡ 0) × (self.now.totals.marked ≡ 0)) }
+        ensures alike { OnOk result (IfSome self.now.found.unmarked (λ n. n ≡ 0) × (self.now.totals.marked ≡ 0)) }
+        ensures read { OnOk result (self.now.found.is_unread ≡ false) }
         ensures whole { OnOk result ((self.now.torn.local ≡ false) × (self.now.torn.peer ≡ false)) }
         ensures synced { OnOk result ((self.now.unsynced.local ≡ None) × (self.now.unsynced.peer ≡ None)) }
     {
@@ -68,11 +71,12 @@ impl<'a> End<'a> {
     fn tell_further<E: Write>(&self, first: Option<Fault<'a>>, err: &mut E) -> Option<Fault<'a>>
         ensures none { result ≡ None → first.entry ≡ None }
         ensures unchanged { result ≡ None → (self.now.changed.local ≡ false) × (self.now.changed.peer ≡ false) }
-        ensures alike { result ≡ None → IfSome self.now.unmarked (λ n. n ≡ 0) × (self.now.totals.marked ≡ 0) }
+        ensures alike { result ≡ None → IfSome self.now.found.unmarked (λ n. n ≡ 0) × (self.now.totals.marked ≡ 0) }
+        ensures read { result ≡ None → self.now.found.is_unread ≡ false }
         ensures whole { result ≡ None → (self.now.torn.local ≡ false) × (self.now.torn.peer ≡ false) }
         ensures synced { result ≡ None → (self.now.unsynced.local ≡ None) × (self.now.unsynced.peer ≡ None) }
     {
-        let unmarked = self.unmarked.unwrap_or(0);
+        let unmarked = self.found.unmarked.unwrap_or(0);
         let marked = self.totals.marked;
         let Both { local, peer } = self.files;
         let mut first = first;
@@ -91,6 +95,7 @@ impl<'a> End<'a> {
             first,
             (unmarked > 0).then_some(Fault::Unmarked(unmarked)),
         );
+        first = or_told(err, first, self.found.is_unread.then_some(Fault::Unread));
         first = or_told(err, first, (marked > 0).then_some(Fault::Marked(marked)));
         first = or_told(err, first, self.torn.local.then_some(Fault::Torn(local)));
         first = or_told(err, first, self.torn.peer.then_some(Fault::Torn(peer)));

@@ -28,6 +28,8 @@ pub(crate) enum Fault<'a> {
     Unstarted(StartFault),
     /// The disks differ on this many blocks without a mark.
     Unmarked(u32),
+    /// The disks could not be compared, since one failed a read.
+    Unread,
     /// This many blocks are still marked, so the peer's image may not have them.
     Marked(u32),
     /// The image was replaced, or its length changed, while it was served.
@@ -66,8 +68,11 @@ impl fmt::Display for Fault<'_> {
             Fault::Unstarted(fault) => write!(f, "{fault}"),
             Fault::Unmarked(count) => write!(
                 f,
-                "{count} blocks differ without a mark, a fault of this program: keep both images"
+                "{count} blocks differ without a mark: keep both images; they were not alike at a start with --first assume-equal, or this is a fault of this program"
             ),
+            Fault::Unread => {
+                f.write_str("the images could not be compared: a read of one of them failed")
+            }
             Fault::Marked(count) => write!(
                 f,
                 "{count} blocks could not be copied: the peer's image is not like the local one"

@@ -18,7 +18,8 @@ use std::io::Write;
 use volume::Parts;
 
 /// Returns what the first session over these disks starts from. No block is marked. The peer's disk has the identifiers of an
-/// unknown one (0,0,0,0), so that all is copied, if a copy is asked for or a comparison finds a difference.
+/// unknown one (0,0,0,0), so that all is copied, if a copy is asked for or a comparison finds a difference, which a line on `err`
+/// says. `ReadFault` (14) if a disk fails a read of the comparison.
 pub(crate) fn first_start<D: Store + Drop, E: Write>(
     service: &Service,
     how: FirstStart,
@@ -30,7 +31,7 @@ pub(crate) fn first_start<D: Store + Drop, E: Write>(
     let mut disks = disks;
     let first = Tuple::new(1, 0, 0, 0);
     let unknown = Tuple::new(0, 0, 0, 0);
-    let is_known = is_peer_known(how, &mut disks, err);
+    let is_known = is_peer_known(how, &mut disks, err)?;
     let peer = if is_known { first } else { unknown };
     match first_parts(service, first, peer) {
         Ok(parts) => Ok(SessionEnd {
@@ -42,23 +43,33 @@ pub(crate) fn first_start<D: Store + Drop, E: Write>(
     }
 }
 
-// Returns whether the peer's disk is known to be like the local one, as a comparison finds or as it is taken.
-fn is_peer_known<D: Store, E: Write>(how: FirstStart, disks: &mut Disks<D>, err: &mut E) -> bool
-    ensures same { how ≡ Compare → AreFaithful disks.new → disks.new.local_faults ≡ disks.old.local_faults
-        → disks.new.peer_faults ≡ disks.old.peer_faults → disks.old.local ≡ disks.old.peer → IsTrue result }
-    ensures copied { how ≡ Copy → result ≡ false }
-    ensures assumed { how ≡ AssumeEqual → result ≡ true }
-    ensures known { IsTrue result → AreFaithful disks.new → (how ≡ AssumeEqual → disks.old.local ≡ disks.old.peer)
-        → disks.old.local ≡ disks.old.peer }
+// Returns whether the peer's disk is known to be like the local one, as a comparison finds or as it is taken. `ReadFault` (14) if a
+// disk fails a read.
+fn is_peer_known<D: Store, E: Write>(
+    how: FirstStart,
+    disks: &mut Disks<D>,
+    err: &mut E,
+) -> Result<bool, Refusal>
+    ensures same { IfOk result (λ known. how ≡ Compare → AreFaithful disks.new → disks.old.local ≡ disks.old.peer → IsTrue known) }
+    ensures copied { IfOk result (λ known. how ≡ Copy → known ≡ false) }
+    ensures assumed { IfOk result (λ known. how ≡ AssumeEqual → known ≡ true) }
+    ensures known { IfOk result (λ known. IsTrue known → AreFaithful disks.new → (how ≡ AssumeEqual → disks.old.local ≡ disks.old.peer)
+        → disks.old.local ≡ disks.old.peer) }
     ensures read { WereRead disks.old disks.new }
 {
     match how {
-        FirstStart::Compare => match are_alike(disks, err) {
-            Ok(is_alike) => is_alike,
-            Err(_) => false,
-        },
-        FirstStart::Copy => false,
-        FirstStart::AssumeEqual => true,
+        FirstStart::Compare => {
+            let is_alike = are_alike(disks, err)?;
+            if !is_alike {
+                let _ = writeln!(
+                    err,
+                    "the images differ: all of the local one is copied over the peer's"
+                );
+            }
+            Ok(is_alike)
+        }
+        FirstStart::Copy => Ok(false),
+        FirstStart::AssumeEqual => Ok(true),
     }
 }
 

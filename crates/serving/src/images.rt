@@ -1,6 +1,8 @@
 //! The images of a server: their locks, their disks, and what became of them.
 ghost use Rattle.std.specs.Prelude.{◌≡◌, ◌<◌, ◌≤◌, ◌↔◌, IfErr, IfOk, IfSome, IsOk};
 ghost use Rattle.blocks.specs.declared.refusal.Refusal.TheVariants.{BadSetting};
+ghost use Rattle.file_store.specs.Stores.{count_of, IsFresh};
+ghost use Rattle.serving.specs.Disks.{IsOpened};
 ghost use Rattle.serving.specs.Served.{AreInRange};
 
 use crate::disks::Disks;
@@ -14,6 +16,14 @@ use std::rt::Files;
 
 /// An opened image, and the handle by which it is synced.
 type Opened<X> = (FileStore<File, X>, SyncHandle<File>);
+
+/// Returns the images' paths.
+pub(crate) fn images_of<'a>(options: &ServeOptions<'a>) -> Both<&'a str> {
+    Both {
+        local: options.local,
+        peer: options.peer,
+    }
+}
 
 /// Returns which images may have kept parts of a write that failed.
 pub(crate) fn torn_images<X: OpeningContents>(disks: &Disks<FileStore<File, X>>) -> Both<bool> {
@@ -94,7 +104,9 @@ pub(crate) fn open_both<'a, H: Files<File = File>, X: OpeningContents>(
     rt: &H,
     options: &ServeOptions<'a>,
     blocks: u32,
-) -> Result<(Disks<FileStore<File, X>>, Both<SyncHandle<File>>), Fault<'a>> {
+) -> Result<(Disks<FileStore<File, X>>, Both<SyncHandle<File>>), Fault<'a>>
+    ensures { IfOk result (λ opened. IsOpened blocks X.OpeningContents.local X.OpeningContents.peer opened.0) }
+{
     match open::<H, X>(rt, options.local, blocks, true) {
         Ok((local, local_sync)) => match open::<H, X>(rt, options.peer, blocks, false) {
             Ok((peer, peer_sync)) => {
@@ -116,7 +128,10 @@ fn open<'a, H: Files<File = File>, X: OpeningContents>(
     file: &'a str,
     blocks: u32,
     is_local: bool,
-) -> Result<Opened<X>, Fault<'a>> {
+) -> Result<Opened<X>, Fault<'a>>
+    ensures size { IfOk result (λ opened. count_of opened.0 ≡ blocks) }
+    ensures fresh { IfOk result (λ opened. IsFresh is_local opened.0) }
+{
     match open_image::<H, X>(rt, file, blocks, is_local) {
         Ok(opened) => Ok(opened),
         Err(fault) => Err(Fault::Unopened(file, fault)),

@@ -1,4 +1,4 @@
-//! Block clients: a server of the network block device protocol over one session after another of two image files. Any
+//! Block clients: a server of the network block device protocol over one session after another of two images. Any
 //! number of clients at a time read and write one export, while the session mirrors it.
 #![tactic(auto)]
 

@@ -1,16 +1,18 @@
 //! A server, from its images to the lines that it prints.
-ghost use Rattle.std.specs.Prelude.{◌≡◌, ◌||◌, nat_le, is_some, Err, IfOk, OnOk};
+ghost use Rattle.std.specs.Prelude.{◌≡◌, ◌||◌, false, nat_le, is_some, Err, IfOk, OnOk};
 ghost use Rattle.blocks.specs.SettingsRange.{standard};
 ghost use Rattle.blocks.specs.declared.refusal.Refusal.TheVariants.{BadSetting};
 ghost use Rattle.numbers.specs.declared.status.SessionStatus.TheVariants as status;
 ghost use Rattle.serving.specs.Served.{AreInRange, CameTo, HasEnded, HasServed};
 ghost use Rattle.serving.specs.declared.fault.Fault.TheVariants.{Refused};
 
-use crate::compare::compared;
+use crate::compare::compare_at_end;
 use crate::disks::Disks;
 use crate::end::End;
 use crate::fault::Fault;
-use crate::images::{blocks_of, changed_images, check_size, lock_both, open_both, torn_images};
+use crate::images::{
+    blocks_of, changed_images, check_size, images_of, lock_both, open_both, torn_images,
+};
 use crate::session_end::SessionEnd;
 use crate::sessions::run_sessions;
 use blocks::Refusal;
@@ -38,8 +40,8 @@ use volume::{Host, Runtime};
 ///   images held when they were opened: what it says of both disks holds if each file gave what was last written to it, or
 ///   what it held then.
 /// - `Failed`, with a line on `err` that says why: a file, a sync, an address, the output, memory or a thread failed, an image
-///   is in use, was changed by others or may have kept parts of a write that failed, the disks differ without a mark, or blocks
-///   are still marked.
+///   is in use, was changed by others, may have kept parts of a write that failed or could not be read for the comparison, the
+///   disks differ without a mark, or blocks are still marked.
 /// - `Refused`, with a line on `err`: any other refusal. A size that no device has (15) is refused before anything else.
 pub fn serve<
     X: OpeningContents + Send + 'static,
@@ -48,7 +50,7 @@ pub fn serve<
     W: Write,
     E: Write,
 >(rt: &H, options: &ServeOptions<'_>, input: I, out: &mut W, err: &mut E) -> SessionStatus
-    ensures done { result ≡ status.Done → HasServed options.now (W.contents out.old) (W.contents out.new) }
+    ensures done { result ≡ status.Done → HasServed options.now X.OpeningContents.local X.OpeningContents.peer (W.contents out.old) (W.contents out.new) }
     ensures refused { (AreInRange options.now → ⊥) → result ≡ status.Refused }
 {
     match serve_images::<X, H, I, W, E>(rt, options, input, out, err) {
@@ -69,7 +71,7 @@ fn serve_images<
     W: Write,
     E: Write,
 >(rt: &H, options: &ServeOptions<'a>, input: I, out: &mut W, err: &mut E) -> Result<(), Fault<'a>>
-    ensures done { OnOk result (HasServed options.now (W.contents out.old) (W.contents out.new)) }
+    ensures done { OnOk result (HasServed options.now X.OpeningContents.local X.OpeningContents.peer (W.contents out.old) (W.contents out.new)) }
     ensures refused { (AreInRange options.now → ⊥) → result ≡ Err (Refused BadSetting) }
 {
     match check_size(options) {
@@ -88,7 +90,7 @@ fn serve_sized<
     E: Write,
 >(rt: &H, options: &ServeOptions<'a>, input: I, out: &mut W, err: &mut E) -> Result<(), Fault<'a>>
     requires { AreInRange options.now }
-    ensures { OnOk result (HasServed options.now (W.contents out.old) (W.contents out.new)) }
+    ensures { OnOk result (HasServed options.now X.OpeningContents.local X.OpeningContents.peer (W.contents out.old) (W.contents out.new)) }
 {
     let locks = lock_both(rt, options)?;
     let served = serve_locked::<X, H, I, E>(rt, options, &locks, input, err);
@@ -111,7 +113,7 @@ fn serve_locked<
     err: &mut E,
 ) -> Result<End<'a>, Fault<'a>>
     requires { AreInRange options.now }
-    ensures { IfOk result (HasEnded options.now) }
+    ensures { IfOk result (HasEnded options.now X.OpeningContents.local X.OpeningContents.peer) }
 {
     let blocks = blocks_of(options, &locks.local)?;
     let listeners = Listeners::open(rt, options.listen, options.page_port)?;
@@ -170,35 +172,43 @@ fn serve_sessions<
     err: &mut E,
 ) -> Result<End<'a>, Fault<'a>>
     ensures came { IfOk result (CameTo (record standard { protocol = service.now.protocol; blocks = service.now.blocks }) options.now.first disks) }
-    ensures compares { IfOk result (λ end. is_some end.unmarked ≡ (options.now.compare || nat_le service.now.blocks 262144)) }
+    ensures compares { IfOk result (λ end. end.found.is_unread ≡ false → is_some end.found.unmarked ≡ (options.now.compare || nat_le service.now.blocks 262144)) }
 {
     let ran = run_sessions(*rt, service, options.cut_every, options.first, disks, err);
     let unsynced = service.requests.sync_images(rt);
-    let last = ran?;
+    let last = match ran {
+        Ok(last) => last,
+        Err(refusal) => return Err(fault_of_sessions(refusal)),
+    };
     let SessionEnd {
         disks,
         parts,
         totals,
     } = last;
     let mut disks = disks;
-    let unmarked = compared(
+    let found = compare_at_end(
         options.compare,
         &mut disks,
         &parts.marks,
         service.blocks,
         err,
-    )?;
+    );
     Ok(End {
         totals,
-        unmarked,
-        files: Both {
-            local: options.local,
-            peer: options.peer,
-        },
+        found,
+        files: images_of(options),
         changed: changed_images(rt, locks, options, service.blocks),
         torn: torn_images(&disks),
         unsynced,
     })
+}
+
+// Returns why the sessions of a server failed. They read for themselves in the comparison before the first one alone.
+fn fault_of_sessions<'a>(refusal: Refusal) -> Fault<'a> {
+    match refusal {
+        Refusal::ReadFault => Fault::Unread,
+        refusal => Fault::Refused(refusal),
+    }
 }
 
 // Moves what all threads share to memory of its own.

@@ -5,7 +5,7 @@ use image_store::{ImageLock, OpenFault, SyncHandle, open_image};
 use serving::AnyContents;
 use std::alloc::{AllocError, Global};
 use std::cell::Cell;
-use std::fs::{File, Files, OpenFile};
+use std::fs::{File, Files, OpenFile, OpenOptions};
 use std::os::unix::fs::{FileExt, symlink};
 use std::process::Abort;
 use std::sync::Arc;
@@ -102,6 +102,27 @@ fn a_write_is_in_the_file(rt: HostRuntime) {
     let (mut again, _) = open(&rt, "written", 4).expect(&rt, "a store");
     assert!(rt; is_held(&mut again, &[1, 170, 187, 4]));
     fs::remove_file(&rt, "written").expect(&rt, "a file");
+}
+
+// A block above 4 GiB is at its place in the file, which is sparse below it.
+#[test]
+fn a_high_block_is_at_its_place(rt: HostRuntime) {
+    fs::write(&rt, "high", &[1]).expect(&rt, "a file");
+    let file = OpenOptions::new()
+        .read(true)
+        .write(true)
+        .open(&rt, "high")
+        .expect(&rt, "a file");
+    file.write_all_at(&[0], 5_368_709_119)
+        .expect(&rt, "a file of 5 GiB");
+    let (mut store, _) = open(&rt, "high", 1_310_720).expect(&rt, "a store");
+    puts(&rt, &mut store, (1_310_718, [170, 187]), Ok(()));
+    assert_eq!(rt; fill_of(&mut store, 1_310_718), Some(170));
+    let mut found = [0u8; BLOCK_BYTES];
+    file.read_exact_at(&mut found, 5_368_705_024)
+        .expect(&rt, "a block");
+    assert!(rt; found.iter().all(|byte| *byte == 187));
+    fs::remove_file(&rt, "high").expect(&rt, "a file");
 }
 
 // Checks that a device of five blocks refuses an image of this length.

@@ -94,7 +94,7 @@ fn a_client_is_answered(rt: HostRuntime) {
     }
     let none = (
         "HTTP/1.1 503 Service Unavailable",
-        "no report within two seconds: a session gives way to the next, or a disk does not answer\n",
+        "no report within two seconds: the images are compared, a session gives way to the next, or a disk does not answer\n",
     );
     check_answer(&rt, "GET /", None, none);
 }

@@ -10,7 +10,7 @@ use std::io::{Read, Write};
 
 /// The text for a client when there is no report.
 const NO_REPORT: &str =
-    "no report within two seconds: a session gives way to the next, or a disk does not answer\n";
+    "no report within two seconds: the images are compared, a session gives way to the next, or a disk does not answer\n";
 
 /// The text for a client that asks for another page.
 const NO_SUCH_PAGE: &str = "there is no such page: this server has / and /status.json\n";

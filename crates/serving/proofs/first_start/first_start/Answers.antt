@@ -8,7 +8,7 @@ pub returns-in-Ok : goal.returns-in-Ok
 returns-in-Ok g c =
     let first = c.new-first.ensures in
     let none = c.new-unknown.ensures in
-    let known = c.is_peer_known-is_known.ensures in
+    let known = c.in_ok-is_known.ensures in
     let own : c.in-Ok.parts.own.current ≡ 1 = ap (λ (t : Tuple). t.current) c.in-Ok.ensures.identifiers.0 ∙ first.current in
     record {
       settings = c.in-Ok.ensures.settings;
@@ -18,9 +18,9 @@ returns-in-Ok g c =
         first_historical = first.first i;
         second_historical = first.second i;
       });
-      same = λ how faithful one two alike. elim c.if-is_known.branch [
+      same = λ how faithful alike. elim c.if-is_known.branch [
         | then-is_known w ↦ c.in-Ok.ensures.identifiers.1 ∙ (w.peer-is ∙ sym c.in-Ok.ensures.identifiers.0)
-        | else-is_known w ↦ absurd (let is = known.same how faithful one two alike in let not = w.if-is_known.false in cc)
+        | else-is_known w ↦ absurd (let is = known.same how faithful alike in let not = w.if-is_known.false in cc)
       ];
       other = λ how faithful differ. c.in-Ok.ensures.identifiers.1 ∙ (elim c.if-is_known.branch [
         | then-is_known w ↦ absurd (differ (known.known w.if-is_known.true faithful (λ assumed. absurd (cc))))

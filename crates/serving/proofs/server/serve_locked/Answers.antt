@@ -9,6 +9,7 @@ returns-in-Ok-start_service g c =
       blocks = c.in_ok-blocks.blocks;
       asked = c.in_ok-blocks.ensures.asked;
       disks = c.in-Ok.disks;
+      opened = search rules;
       all = search rules;
       compares = search rules;
     }) (both-of _ _ c.serve_sessions.result c.serve_sessions.ensures.came c.serve_sessions.ensures.compares)

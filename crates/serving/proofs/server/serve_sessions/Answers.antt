@@ -8,17 +8,17 @@ use Rattle.serving.proofs.server.serve_sessions.Goals as goal
 pub returns-clause-came : goal.returns-clause-came
 returns-clause-came g c =
     let served = c.in_ok-last.ensures.served in
-    let counted = subst (λ (rest : Rest). IfSome c.in_ok-unmarked.unmarked (λ n. AreFaithful c.compared.new.disks
-    → n ≡ unmarked_between rest.parts.marks c.compared.new.disks.local c.compared.new.disks.peer c.args.service.now.blocks)) c.last.view_is
-    c.in_ok-unmarked.ensures.count in
+    let counted = subst (λ (rest : Rest). IfSome c.compare_at_end-found.found.unmarked (λ n. AreFaithful c.compare_at_end-found.new.disks
+    → n ≡ unmarked_between rest.parts.marks c.compare_at_end-found.new.disks.local c.compare_at_end-found.new.disks.peer c.args.service.now.blocks)) c.last.view_is
+    c.compare_at_end-found.ensures.count in
     record {
       rest = c.in_ok-last.last;
       served = served;
       results = ap (λ (rest : Rest). rest.totals) c.last.view_is;
-      last = c.compared.new.disks;
-      read = subst (λ (rest : Rest). WereRead rest.disks c.compared.new.disks) c.last.view_is c.in_ok-unmarked.ensures.read;
+      last = c.compare_at_end-found.new.disks;
+      read = subst (λ (rest : Rest). WereRead rest.disks c.compare_at_end-found.new.disks) c.last.view_is c.compare_at_end-found.ensures.read;
       compared = counted;
-      alike = λ none clean faithful. found-alike _ _ c.in_ok-last.last c.compared.new.disks c.args.service.now.blocks c.in_ok-unmarked.unmarked
+      alike = λ none clean faithful. found-alike _ _ c.in_ok-last.last c.compare_at_end-found.new.disks c.args.service.now.blocks c.compare_at_end-found.found.unmarked
           served.session counted none (subst (λ (rest : Rest). rest.totals.marked ≡ 0) c.last.view_is clean) faithful;
     }
 

@@ -12,8 +12,10 @@ returns g c =
       unchanged = all.1.0;
       synced = all.1.1;
       clean = all.0.0.1;
+      read = all.0.1.0;
       none = all.0.0.0;
-      whole = all.0.1.0;
-      printed = all.0.1.1;
-    }) (both _ _ c.print.result (both _ _ c.print.result printed.alike (both _ _ c.print.result printed.whole printed.printed))
+      whole = all.0.1.1.0;
+      printed = all.0.1.1.1;
+    }) (both _ _ c.print.result (both _ _ c.print.result printed.alike (both _ _ c.print.result printed.read
+    (both _ _ c.print.result printed.whole printed.printed)))
     (both _ _ c.print.result printed.unchanged printed.synced))
