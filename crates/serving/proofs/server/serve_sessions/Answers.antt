@@ -7,18 +7,18 @@ use Rattle.serving.proofs.server.serve_sessions.Goals as goal
 
 pub returns-clause-came : goal.returns-clause-came
 returns-clause-came g c =
-    let served = c.in_ok-last.ensures.served in
-    let counted = subst (λ (rest : Rest). IfSome c.compare_at_end-found.found.unmarked (λ n. AreFaithful c.compare_at_end-found.new.disks
+    let served = c.in-Ok.ensures.served in
+    let counted = subst (λ (rest : Rest). IfSome c.compare_at_end-found.result.unmarked (λ n. AreFaithful c.compare_at_end-found.new.disks
     → n ≡ unmarked_between rest.parts.marks c.compare_at_end-found.new.disks.local c.compare_at_end-found.new.disks.peer c.args.service.now.blocks)) c.last.view_is
     c.compare_at_end-found.ensures.count in
     record {
-      rest = c.in_ok-last.last;
+      rest = c.in-Ok.last;
       served = served;
       results = ap (λ (rest : Rest). rest.totals) c.last.view_is;
       last = c.compare_at_end-found.new.disks;
       read = subst (λ (rest : Rest). WereRead rest.disks c.compare_at_end-found.new.disks) c.last.view_is c.compare_at_end-found.ensures.read;
       compared = counted;
-      alike = λ none clean faithful. found-alike _ _ c.in_ok-last.last c.compare_at_end-found.new.disks c.args.service.now.blocks c.compare_at_end-found.found.unmarked
+      alike = λ none clean faithful. found-alike _ _ c.in-Ok.last c.compare_at_end-found.new.disks c.args.service.now.blocks c.compare_at_end-found.result.unmarked
           served.session counted none (subst (λ (rest : Rest). rest.totals.marked ≡ 0) c.last.view_is clean) faithful;
     }
 
