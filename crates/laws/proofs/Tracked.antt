@@ -1,6 +1,7 @@
 -- What a primary's history keeps of the blocks of its disk, whatever frames it takes: on an unmarked block the items of
 -- its streams come to the same as its own writes.
 pub mod Added
+pub mod JournalOnDisk
 pub mod Kept
 pub mod Moves
 pub mod Numbers

@@ -18,7 +18,7 @@ use Rattle.model.specs.Marks.{marking_unreleased}
 use Rattle.model.specs.PrimarySteps.{close_primary}
 use Rattle.model.specs.SecondarySteps.{receive, close_secondary}
 use Rattle.model.specs.Primary.{PrimaryConnection, PrimaryHistory, primary_connection, with_primary_connection, primary_connection_at, is_established}
-use Rattle.model.specs.Primary.{items_sent, active_extents, Accepted, is_released}
+use Rattle.model.specs.Primary.{items_sent, active_extents, Accepted, OnDisk, Completion, is_released}
 use Rattle.model.specs.Primary.{is_on_disk, is_completed, last_index}
 use Rattle.model.specs.Secondary.{SecondaryConnection, SecondaryHistory, secondary_connection_at, items_taken, pending, secondary_connection}
 use Rattle.model.specs.Secondary.{with_secondary_connection, secondary_map}
@@ -57,6 +57,20 @@ PrimaryReleasesInOrder =
     → (i j block : ℕ) (a b : Accepted) → i < j → slice_get (primary_run events (primary_at o)).writes i ≡ Some a
     → slice_get (primary_run events (primary_at o)).writes j ≡ Some b → covers a.write block ≡ true → covers b.write block ≡ true
     → is_released (primary_run events (primary_at o)) b ≡ true → is_released (primary_run events (primary_at o)) a ≡ true
+
+-- The entry is of an accepted write, with its range and its bytes, and the local disk has all of that write.
+pub record IsOfWriteOnDisk (p : PrimaryHistory) (entry : Completion) : Type 0 where
+  pub index : ℕ
+  pub accepted : Accepted
+  pub there : slice_get p.writes index ≡ Some accepted
+  pub write : entry.write ≡ accepted.write
+  pub outcome : accepted.outcome ≡ OnDisk
+
+-- each entry of its journal is of an accepted write that is on the local disk
+abbrev pub JournalIsOnDisk : Type 0
+JournalIsOnDisk =
+    (o : Opening) (events : List PrimaryEvent) (n : ℕ) (entry : Completion)
+    → slice_get (primary_run events (primary_at o)).journal n ≡ Some entry → IsOfWriteOnDisk (primary_run events (primary_at o)) entry
 
 -- a closed connection does not change, from any history on
 abbrev pub PrimaryStaysClosed : Type 0

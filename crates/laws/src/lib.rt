@@ -3,20 +3,21 @@
 //! Each function does nothing, and its contract states theorems. `docs/PROOFS.md` says what the statements mean.
 #![tactic(auto)]
 
-ghost use Rattle.laws.specs.Statements.{PrimaryWritesOnce, PrimaryStreamsAreLawful, PrimaryExtentsAreFew, PrimaryReleasesInOrder, PrimaryStaysClosed, PrimaryReflects, PrimaryMarksAtRest, SecondaryHoldsEarlierEpochs, SecondaryDrainsFirst, SecondaryStaysClosed, JoinedTakesABeginning, JoinedRunsKeepPromises, EveryRunIsJoined, EveryRunTakesABeginning, EveryRunStaysClosed, EveryRunHoldsEarlierEpochs, EveryRunKeepsPromises, EveryRunMarksDifferences, EveryStepIsHonest, RefusedStepsChangeNothing, RefusedFramesClose, RefusedFramesCloseThePrimary, RefusedFramesCloseTheSecondary, RefusedFramesLeaveTheItems, RefusedFramesLoseTheConnection};
+ghost use Rattle.laws.specs.Statements.{PrimaryWritesOnce, PrimaryStreamsAreLawful, PrimaryExtentsAreFew, PrimaryReleasesInOrder, JournalIsOnDisk, PrimaryStaysClosed, PrimaryReflects, PrimaryMarksAtRest, SecondaryHoldsEarlierEpochs, SecondaryDrainsFirst, SecondaryStaysClosed, JoinedTakesABeginning, JoinedRunsKeepPromises, EveryRunIsJoined, EveryRunTakesABeginning, EveryRunStaysClosed, EveryRunHoldsEarlierEpochs, EveryRunKeepsPromises, EveryRunMarksDifferences, EveryStepIsHonest, RefusedStepsChangeNothing, RefusedFramesClose, RefusedFramesCloseThePrimary, RefusedFramesCloseTheSecondary, RefusedFramesLeaveTheItems, RefusedFramesLoseTheConnection};
 ghost use Rattle.laws.specs.Examples.{OpeningsAreMet, OneWriteIsMet, CoverIsMet, ReflectionIsMet, RestIsMet, OrderIsMet, WholeEpochIsMet, RefusedFramesAreMet, ReleasesAreMet};
 ghost use Rattle.model.specs.Theorems.{JoinedRunsHaveTheHeadline, JoinedRunsCoverDifferences, JoinedRunsSettle, JoinedRunsSettleAnyhow, JoinedRunsKeepWriteOrder, EveryRunHasTheHeadline, EveryRunCoversDifferences, EveryRunKeepsWriteOrder};
 
 /// States laws by its contract, and does nothing. A primary by itself, for any frames taken: each write has at most one
 /// place, on at most one connection; streams are lawful; a closed end stays as it is; the extents of unreleased writes
-/// are no more than the activity log has slots; and of two writes that share a block, if the later one is released, the
-/// earlier one is too.
+/// are no more than the activity log has slots; of two writes that share a block, if the later one is released, the
+/// earlier one is too; and each entry of the journal of completions is of an accepted write that the local disk has.
 pub fn primary_alone()
     ensures once { PrimaryWritesOnce }
     ensures lawful { PrimaryStreamsAreLawful }
     ensures closed { PrimaryStaysClosed }
     ensures extents { PrimaryExtentsAreFew }
     ensures released { PrimaryReleasesInOrder }
+    ensures on_disk { JournalIsOnDisk }
 {}
 
 /// States laws by its contract, and does nothing. A primary's half of the cover, for any frames taken: a block that is

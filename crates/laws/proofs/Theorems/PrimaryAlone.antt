@@ -1,15 +1,16 @@
--- `primary_alone`: streams, places, extents and releases of a primary by itself.
+-- `primary_alone`: streams, places, extents, releases and the journal of a primary by itself.
 use Rattle.std.proofs.Common.{◌∙◌, suc, ◌≡◌, Some, slice_get, sym, ap, subst, arith}
 use Rattle.std.proofs.lemmas.Bool.{lt-ltb}
 use Rattle.blocks.specs.Positions.{StreamPosition}
 use Rattle.model.specs.LocalRuns.{primary_run}
 use Rattle.model.specs.Theorems.{primary_at}
-use Rattle.laws.specs.Statements.{PrimaryStreamsAreLawful, PrimaryExtentsAreFew, PrimaryStaysClosed, PrimaryReleasesInOrder, PrimaryWritesOnce}
+use Rattle.laws.specs.Statements.{PrimaryStreamsAreLawful, PrimaryExtentsAreFew, PrimaryStaysClosed, PrimaryReleasesInOrder, PrimaryWritesOnce, JournalIsOnDisk}
 use Rattle.laws.proofs.Primary.LawfulMoves.{primary_lawful}
 use Rattle.laws.proofs.Primary.ExtentsMoves.{primary_extents}
 use Rattle.laws.proofs.Primary.StaysClosed.{primary_stays_closed}
 use Rattle.laws.proofs.Releases.Cleared.{released-in-order}
 use Rattle.laws.proofs.Releases.Runs.{ordered-run}
+use Rattle.laws.proofs.Tracked.JournalOnDisk.{journal-on-disk-run}
 use Rattle.model.specs.Contents.{Write}
 use Rattle.model.specs.Primary.{Accepted, PrimaryHistory}
 use Rattle.laws.proofs.Primary.Moves.{keeps-run}
@@ -31,6 +32,10 @@ releases_in_order o events ranges sized i j block a b less ata atb cova covb rel
     released-in-order o.settings (primary_run events (primary_at o))
     (ordered-run o.settings o.local o.own o.marks events ranges.here (λ block inside. sized block ∙ lt-ltb block o.settings.blocks inside)) i j block a b
     less ata atb cova covb released
+
+-- what its journal has is on the local disk
+pub journal_is_on_disk : JournalIsOnDisk
+journal_is_on_disk o events = journal-on-disk-run o.settings o.local o.own o.marks events
 
 -- a closed end of a primary stays as it is
 pub stays_closed : PrimaryStaysClosed
