@@ -1,4 +1,5 @@
 -- The pair: its runs are runs of two nodes that are joined.
+pub mod CallRefusals
 pub mod Honest
 pub mod Links
 pub mod LostConnections

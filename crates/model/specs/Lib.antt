@@ -1,5 +1,6 @@
 pub use Rattle.blocks.specs.Identifiers
 pub mod Acknowledgements
+pub mod CallRefusals
 pub mod ClearingRows
 pub mod CloseRows
 pub mod Contents

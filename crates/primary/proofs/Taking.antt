@@ -3,12 +3,15 @@ use Rattle.std.proofs.Common.{ℕ, ◌≡◌, ◌≤◌, Bool, true, false, ◌&
 use Rattle.std.specs.Prelude.{is_some, IfSome, IfOk, IfErr, ◌↔◌}
 use Rattle.std.specs.Option.{option_map}
 use Rattle.blocks.specs.declared.refusal.Refusal.{Refusal}
-use Rattle.blocks.specs.declared.refusal.Refusal.TheVariants.{NoMemory, NotConnected, NothingThere}
+use Rattle.blocks.specs.declared.refusal.Refusal.TheVariants.{NoMemory, NotConnected, NothingThere, BadMagic, BadCommand, BadLength, BadField}
 use Rattle.blocks.specs.declared.outcome.Done.{Done}
 use Rattle.blocks.specs.declared.outcome.Reply.TheVariants as reply
 use Rattle.packets.specs.declared.packet.Packet as packets
 use Rattle.packets.specs.declared.packet.Packet.TheVariants as packet
 use Rattle.packets.specs.Table.{has_blocks}
+use Rattle.packets.specs.Frames.{is_fault}
+use Rattle.laws.proofs.Pair.CallRefusals.{ack-in-so}
+use Rattle.model.specs.CallRefusals.{ack_in_refuses}
 use Rattle.model.specs.LocalRuns.{Takes}
 use Rattle.model.specs.Frames.{Packet, Received}
 use Rattle.endpoint.specs.Calls as link
@@ -18,7 +21,7 @@ use Rattle.endpoint.specs.PacketSender.{PacketSenderState}
 use Rattle.endpoint.specs.PacketReceiver.{PacketReceiverState, with_received, SameRow}
 use Rattle.primary_protocol.specs.Core.{PrimaryState, is_established}
 use Rattle.primary_protocol.specs.Taking.{take_at, ack_in}
-use Rattle.primary_protocol.specs.Node.{NodeState, NodeSteps}
+use Rattle.primary_protocol.specs.Node.{NodeState, NodeSteps, primary_step}
 use Rattle.primary_protocol.specs.Steps.{replied}
 use Rattle.primary_protocol.proofs.Node.Due.{IsStill}
 use Rattle.primary_protocol.proofs.Node.Runs.{node-had}
@@ -27,6 +30,7 @@ use Rattle.primary_protocol.proofs.Node.Faults.{takes-frame}
 use Rattle.primary_protocol.proofs.Node.Takes.{IsShort, node-takes, takes-still, established-open, node-not-taken, open-short}
 use Rattle.primary.specs.Calls.{TakesOne}
 use Rattle.primary.specs.State.{PrimaryView, IsNode, IsNumbered, node, taken_of}
+use Rattle.primary.proofs.Answers.{if-refused}
 use Rattle.primary.proofs.Kept.{begun-kept}
 
 -- No frame was taken.
@@ -80,6 +84,19 @@ short-packet (packet.WriteAck ack) is = refl
 short-packet (packet.RsWriteAck ack) is = refl
 short-packet (packet.BarrierAck number size) is = refl
 
+-- a fault of bytes is one that a call may refuse
+fault-refused : (e : Refusal) → is_fault e ≡ true → ack_in_refuses e ≡ true
+fault-refused BadMagic is = refl
+fault-refused BadCommand is = refl
+fault-refused BadLength is = refl
+fault-refused BadField is = refl
+fault-refused e is = absurd (cc)
+
+faulty : (read : Result packets.Packet Refusal) → IfErr read (λ fault. is_fault fault ≡ true) → (fault : Refusal) → received read ≡ Err fault
+    → ack_in_refuses fault ≡ true
+faulty (Ok packet) faults fault is = absurd (cc)
+faulty (Err one) faults fault is = let same : one ≡ fault = cc in fault-refused fault (ap is_fault (sym same) ∙ faults)
+
 -- what gave a frame was not empty
 some-queued : (v : Option (List (List ℕ))) → IfSome v (λ frames. (false ≡ true) ↔ (frames ≡ [])) → IfSome v (λ frames. frames ≡ [] → ⊥)
 some-queued None exact = tt
@@ -98,6 +115,12 @@ module _ (v : PrimaryView) (before : IsNode v) (i x j : PacketReceiverState) (re
   takes-step : NodeSteps (Takes (Some (received read)) false) (node v) (replied reply.Ok result) (node (record v { core = core; incoming = Some j }))
   takes-step = subst (λ (l : List Received). NodeSteps (Takes (Some (received read)) false) (node v) (replied reply.Ok result)
       (record (node v) { core = core; taken = l })) taken-more (node-takes (node v) (received read) result core some is)
+
+  -- what is refused of it is a fault of its bytes, or what the model's step refuses
+  pub takes-refused : IfErr read (λ fault. is_fault fault ≡ true) → IfErr result (λ e. ack_in_refuses e ≡ true)
+  takes-refused faults = if-refused (λ e. ack_in_refuses e ≡ true) reply.Ok result (primary_step (Takes (Some (received read)) false) before.had.history).0
+      (takes-step.replies before.had.history before.had.has)
+      (ack-in-so (Some (received read)) false before.had.history (λ fault same. faulty read faults fault (let one : received read ≡ Err fault = cc in one)))
 
   -- what the link and the history say of it
   pub takes-some : (now : PrimaryView) → v ≡ now → SameRow x j → IfSome x.queued (λ frames. (false ≡ true) ↔ (frames ≡ []))

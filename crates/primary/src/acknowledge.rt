@@ -1,5 +1,6 @@
 //! Receiving the peer's handshake and acknowledgements.
-ghost use Rattle.std.specs.Prelude.{◌≡◌};
+ghost use Rattle.std.specs.Prelude.{◌≡◌, true, IfErr};
+ghost use Rattle.model.specs.CallRefusals.{ack_in_refuses};
 ghost use Rattle.primary.specs.Calls.{TakesOne};
 
 use crate::Primary;
@@ -15,6 +16,7 @@ impl<O: FrameOut + Drop, I: FrameIn + Drop, S: Store + Drop> Primary<O, I, S> {
     /// effects of a close. Once the connection is established it takes no memory.
     pub fn ack_in(&mut self) -> Result<Done, Refusal>
         ensures step { TakesOne result self.old self.new }
+        ensures refused { IfErr result (λ e. ack_in_refuses e ≡ true) }
         ensures rest { self.new ≡ record self.old { core = self.new.core; incoming = self.new.incoming } }
     {
         if !self.core.is_open() {

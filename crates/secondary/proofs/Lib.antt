@@ -1,3 +1,4 @@
+pub mod Answers
 pub mod Applies
 pub mod Kept
 pub mod Opens

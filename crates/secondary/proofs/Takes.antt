@@ -5,13 +5,18 @@ use Rattle.std.proofs.lemmas.Bool.{both_ways}
 use Rattle.blocks.specs.declared.refusal.Refusal.{Refusal}
 use Rattle.blocks.specs.declared.outcome.Done.{Done}
 use Rattle.model.specs.Frames.{Packet, DataFrame, RsDataReplyFrame, BarrierFrame, UuidsFrame, SyncUuidFrame, Received}
+use Rattle.packets.specs.Frames.{is_fault}
+use Rattle.packets.specs.declared.packet.Packet as packets
+use Rattle.endpoint.specs.Meaning.{received}
+use Rattle.laws.proofs.Pair.CallRefusals.{receive-so}
+use Rattle.model.specs.CallRefusals.{receive_refuses}
 use Rattle.model.specs.LocalRuns.{Receives}
 use Rattle.endpoint.specs.PacketSender.{PacketSenderState}
-use Rattle.blocks.specs.declared.refusal.Refusal.TheVariants.{NoMemory, NotConnected, NothingThere, PendingFull}
+use Rattle.blocks.specs.declared.refusal.Refusal.TheVariants.{NoMemory, NotConnected, NothingThere, PendingFull, BadMagic, BadCommand, BadLength, BadField}
 use Rattle.blocks.specs.declared.outcome.What.{What}
 use Rattle.blocks.specs.declared.outcome.What.TheVariants as what
 use Rattle.blocks.specs.declared.command.Command.TheVariants as command
-use Rattle.std.specs.Prelude.{is_none, is_some, if◌then◌else◌, IfSome}
+use Rattle.std.specs.Prelude.{is_none, is_some, if◌then◌else◌, IfErr, IfSome}
 use Rattle.std.specs.Option.{option_map}
 use Rattle.model.specs.Refusals.{first_refusal}
 use Rattle.endpoint.specs.Calls.{Takes, TookOne, is_out_of_memory}
@@ -20,11 +25,12 @@ use Rattle.endpoint.specs.PacketReceiver.{PacketReceiverState, with_received, Sa
 use Rattle.laws.proofs.Rules.Hellos.{hello-has}
 use Rattle.secondary_protocol.proofs.Judged.{judging-is}
 use Rattle.secondary_protocol.specs.Core.{EndState, SecondaryState, Judged, judged_if, judging_hello, judging_item, judging, hearing, taking, take_at, may_take}
-use Rattle.secondary_protocol.specs.Node.{NodeSteps}
+use Rattle.secondary_protocol.specs.Node.{NodeSteps, secondary_step}
 use Rattle.secondary_protocol.specs.Steps.{replied}
 use Rattle.secondary_protocol.proofs.Node.Calls.{node-takes, node-may-not, node-out-of-memory, takes-due, may-open}
 use Rattle.secondary_protocol.proofs.Node.Numbers.{takes-number}
 use Rattle.secondary_protocol.proofs.Node.Runs.{node-had}
+use Rattle.secondary.proofs.Answers.{if-refused}
 use Rattle.secondary.specs.State.{SecondaryView, node, taken_of, IsNode, IsBegun, IsDue, IsNumbered}
 
 -- The frame of the link is the node's step.
@@ -188,3 +194,39 @@ takes-one v r t i k j frame result is there may same takes ready taken row queue
   where
     after : j ≡ with_received frame j.frames j.is_ready i
     after = taken ∙ ap (with_received frame j.frames j.is_ready) ready
+
+-- What is refused.
+
+-- an end that may not take a frame
+pub may-refused : (s : SecondaryState) (e : Refusal) → may_take s ≡ Err e → receive_refuses e ≡ true
+may-refused s e = go (is_none s.end) (nat_le s.settings.pending (length s.pending))
+  where
+    go : (a b : Bool) → elim (first_refusal ((a, NotConnected) ∷ (b, PendingFull) ∷ [])) as
+        (λ _. Result (Unit {0}) Refusal) [ Some refusal ↦ Err refusal | None ↦ Ok tt ] ≡ Err e → receive_refuses e ≡ true
+    go true b said = let one : NotConnected ≡ e = cc in ap receive_refuses (sym one)
+    go false true said = let one : PendingFull ≡ e = cc in ap receive_refuses (sym one)
+    go false false said = absurd (cc)
+
+-- a fault of bytes
+fault-refused : (e : Refusal) → is_fault e ≡ true → receive_refuses e ≡ true
+fault-refused BadMagic is = refl
+fault-refused BadCommand is = refl
+fault-refused BadLength is = refl
+fault-refused BadField is = refl
+fault-refused e is = absurd (cc)
+
+faulty : (read : Result packets.Packet Refusal) → IfErr read (λ fault. is_fault fault ≡ true) → (fault : Refusal) → received read ≡ Err fault
+    → receive_refuses fault ≡ true
+faulty (Ok packet) faults fault is = absurd (cc)
+faulty (Err one) faults fault is = let same : one ≡ fault = cc in fault-refused fault (ap is_fault (sym same) ∙ faults)
+
+-- what a frame is refused for is a fault of its bytes, or what the model's step refuses
+pub takes-refused : (v : SecondaryView) (r t : SecondaryState) (i j : PacketReceiverState) (read : Result packets.Packet Refusal) (result : Result Done Refusal)
+    → IsNode v → v.incoming ≡ Some i → may_take v.core ≡ Ok tt → r ≡ v.core
+    → (result, t) ≡ take_at (received read) r.end r → j.taken ≡ i.taken ++ received read ∷ [] → IfErr read (λ fault. is_fault fault ≡ true)
+    → IfErr result (λ e. receive_refuses e ≡ true)
+takes-refused v r t i j read result is there may same takes taken faults =
+    let step = takes-steps v r t i j (received read) result is there may same takes taken in
+    if-refused (λ e. receive_refuses e ≡ true) (λ done. done) result (secondary_step (Receives (Some (received read)) false) is.had.history).0
+    (step.replies is.had.history is.had.has)
+    (receive-so (Some (received read)) false is.had.history (λ fault one. faulty read faults fault (let equal : received read ≡ Err fault = cc in equal)))

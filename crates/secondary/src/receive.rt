@@ -1,5 +1,6 @@
 //! Receiving a frame.
-ghost use Rattle.std.specs.Prelude.{◌≡◌};
+ghost use Rattle.std.specs.Prelude.{◌≡◌, true, IfErr};
+ghost use Rattle.model.specs.CallRefusals.{receive_refuses};
 ghost use Rattle.secondary.specs.Calls.{ReceivesOne};
 
 use crate::Secondary;
@@ -15,6 +16,7 @@ impl<O: FrameOut + Drop, I: FrameIn + Drop, S: Store + Drop> Secondary<O, I, S> 
     /// frame counts as taken, and the end closes; its items stay.
     pub fn receive(&mut self) -> Result<Done, Refusal>
         ensures step { ReceivesOne result self.old self.new }
+        ensures refused { IfErr result (λ e. receive_refuses e ≡ true) }
         ensures rest { self.new ≡ record self.old { core = self.new.core; incoming = self.new.incoming } }
     {
         self.core.may_take()?;

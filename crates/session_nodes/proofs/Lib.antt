@@ -1,3 +1,4 @@
+pub mod Answers
 pub mod Connections
 pub mod Ends
 pub mod Primaries

@@ -3,9 +3,10 @@ ghost use Rattle.std.specs.Prelude.{◌≡◌, ◌<◌, ◌≤◌, ◌*◌, ◌�
 ghost use Rattle.blocks.specs.declared.outcome.Reply.{Reply};
 ghost use Rattle.blocks.specs.declared.outcome.Reply.TheVariants as reply;
 ghost use Rattle.blocks.specs.declared.outcome.What.TheVariants as what;
-ghost use Rattle.blocks.specs.declared.refusal.Refusal.TheVariants.{BadRange, NoMemory, NothingThere, ReadFault};
+ghost use Rattle.blocks.specs.declared.refusal.Refusal.TheVariants.{BadRange, NoMemory, NotConnected, NothingThere, ReadFault};
 ghost use Rattle.endpoint.specs.Calls as link;
 ghost use Rattle.endpoint.specs.Calls.{IsNewIn, IsNewOut, has_room, is_out_of_memory};
+ghost use Rattle.model.specs.CallRefusals.{ack_in_refuses, local_open_refuses, reopen_refuses, resync_next_refuses, send_refuses, submit_refuses, take_completed_refuses};
 ghost use Rattle.model.specs.Contents.{IsRead, is_range};
 ghost use Rattle.model.specs.LocalRuns.{Closes, Opens, Sends, Submits, primary_after};
 ghost use Rattle.model.specs.Primary.{PrimaryHistory, local_map, next_local, primary_opening};
@@ -51,7 +52,8 @@ impl<B: Beginning, O: FrameOut + Drop, I: FrameIn + Drop, S: Store + Drop> Model
 impl<B: Beginning, O: FrameOut + Drop, I: FrameIn + Drop, S: Store + Drop> Local<B, O, I, S> {
     /// Creates a primary over its disk, and opens it over unused ends of a link.
     ///
-    /// `BadSetting` (15) and `NoMemory` (7) come as for `Primary::with_bitmap`, `UsedIdentifier` (33) as for `Primary::open`.
+    /// `BadSetting` (15) and `NoMemory` (7) come as for `Primary::with_bitmap`, `UsedIdentifier` (33) and `NoMemory` as for
+    /// `Primary::open`, and no other.
     pub fn open(
         alloc: Global,
         settings: Settings,
@@ -67,6 +69,7 @@ impl<B: Beginning, O: FrameOut + Drop, I: FrameIn + Drop, S: Store + Drop> Local
             ≡ primary_at opening) }
         ensures opened { IfOk result (λ n. PrimaryHas n (primary_after (Opens words.sync words.loss false)
             (primary_opening settings (slice_get (S.contents store)) tuple (λ block. unwrap_or (slice_get marks block) false)))) }
+        ensures refused { IfErr result (λ e. local_open_refuses e ≡ true) }
     {
         let mut node = Primary::with_bitmap(alloc, settings, store, tuple, marks)?;
         let (outward, inward) = link;
@@ -82,19 +85,21 @@ impl<B: Beginning, O: FrameOut + Drop, I: FrameIn + Drop, S: Store + Drop> Local
         }
     }
 
-    /// Accepts a write and returns its number. The refusals are those of `Primary::submit`.
+    /// Accepts a write and returns its number. The refusals are those of `Primary::submit`: 1 to 7 and 12.
     pub fn submit(&mut self, first: u64, bytes: &Bytes) -> Result<(u64, Done), Refusal>
         ensures step { PrimarySteps (Submits first (whole_blocks bytes.now) (is_out_of_memory result)) self.old (replied (λ accepted. reply.Ok accepted.1) result) self.new }
         ensures number { IfOk result (λ accepted. accepted.1.what ≡ what.Write accepted.0) }
         ensures accepted { IfOk result (λ accepted. HasAccepted B.opening accepted.0 first bytes.now) }
+        ensures refused { IfErr result (λ e. submit_refuses e ≡ true) }
     {
         self.node.submit(first, bytes)
     }
 
-    /// Returns the receipt of a write, once. The refusals are those of `Primary::take_completed`.
+    /// Returns the receipt of a write, once. The refusals are those of `Primary::take_completed`: 8, 9 and 16.
     pub fn take_completed(&mut self, number: u64) -> Result<Receipt, Refusal>
         ensures step { IsPrimaryStep (take_receipt number) self.old result self.new }
         ensures number { IfOk result (λ receipt. receipt.number ≡ number) }
+        ensures refused { IfErr result (λ e. take_completed_refuses e ≡ true) }
     {
         self.node.take_completed(number)
     }
@@ -115,29 +120,33 @@ impl<B: Beginning, O: FrameOut + Drop, I: FrameIn + Drop, S: Store + Drop> Local
         self.node.read(first, count)
     }
 
-    /// Sends the next frame. The refusals are those of `Primary::send`.
+    /// Sends the next frame. The refusals are those of `Primary::send`: 7, 11, 12 and 13.
     pub fn send(&mut self) -> Result<Done, Refusal>
         ensures step { PrimarySteps (Sends (has_room result) (is_out_of_memory result)) self.old (replied reply.Ok result) self.new }
         ensures runs { PrimaryRuns self.old self.new }
         ensures link { link.Sends result self.old.outgoing self.new.outgoing }
         ensures memory { IfErr result (λ e. e ≡ NoMemory → owes_blocks self.old.core ≡ true) }
+        ensures refused { IfErr result (λ e. send_refuses e ≡ true) }
     {
         self.node.send()
     }
 
-    /// Takes the next frame. The refusals are those of `Primary::ack_in`.
+    /// Takes the next frame. The refusals are those of `Primary::ack_in`: 7, 12, 13, and of a frame that was taken 20 to 25 and
+    /// 30 to 35.
     pub fn ack_in(&mut self) -> Result<Done, Refusal>
         ensures step { PrimaryTakes result self.old self.new }
         ensures runs { PrimaryRuns self.old self.new }
+        ensures refused { IfErr result (λ e. ack_in_refuses e ≡ true) }
     {
         self.node.ack_in()
     }
 
-    /// Performs the next write on the disk. `NothingThere` (13) if there is none; then nothing changes.
+    /// Performs the next write on the disk. `NothingThere` (13) if there is none, and no other refusal; then nothing changes.
     pub fn write_next(&mut self) -> Result<Done, Refusal>
         ensures runs { PrimaryRuns self.old self.new }
         ensures writes { (h : PrimaryHistory) → PrimaryHas self.old h → IfSome (next_local h) (λ number. WritesOne number result self.old self.new) }
         ensures nothing { (h : PrimaryHistory) → PrimaryHas self.old h → next_local h ≡ None → (result ≡ Err NothingThere) × (self.new ≡ self.old) }
+        ensures refused { IfErr result (λ e. e ≡ NothingThere) }
     {
         match self.node.next_local() {
             Some(number) => self.write_at(number),
@@ -154,17 +163,19 @@ impl<B: Beginning, O: FrameOut + Drop, I: FrameIn + Drop, S: Store + Drop> Local
     }
 
     /// Reads the next block of a resync and appends it to the stream. The refusals are those of
-    /// `Primary::resync_next`.
+    /// `Primary::resync_next`: 6, 7, 10, 12 and 14.
     pub fn resync_next(&mut self) -> Result<Done, Refusal>
         ensures runs { PrimaryRuns self.old self.new }
         ensures copies { CopiesOne result self.old self.new }
+        ensures refused { IfErr result (λ e. resync_next_refuses e ≡ true) }
     {
         self.node.resync_next()
     }
 
-    /// Closes the end. `NotConnected` (12) if it is closed.
+    /// Closes the end. `NotConnected` (12) if it is closed, and no other refusal.
     pub fn close(&mut self) -> Result<u32, Refusal>
         ensures step { PrimarySteps Closes self.old (replied reply.Closed result) self.new }
+        ensures refused { IfErr result (λ e. e ≡ NotConnected) }
     {
         self.node.close()
     }
@@ -179,10 +190,11 @@ impl<B: Beginning, O: FrameOut + Drop, I: FrameIn + Drop, S: Store + Drop> Local
         }
     }
 
-    /// Opens the end again and returns the connection's number. The refusals are those of `Primary::reopen`.
+    /// Opens the end again and returns the connection's number. The refusals are those of `Primary::reopen`: 6, 7, 33 and 36.
     pub fn reopen(&mut self, sync: u64, loss: u64) -> Result<u32, Refusal>
         ensures step { PrimarySteps (Opens sync loss (is_out_of_memory result)) self.old (replied (λ number. plainly tt) result) self.new }
         ensures number { IfOk result (λ number. number ≡ self.new.core.connections) }
+        ensures refused { IfErr result (λ e. reopen_refuses e ≡ true) }
     {
         self.node.reopen(sync, loss)
     }

@@ -1,8 +1,9 @@
 //! The secondary under its lock.
 ghost use Rattle.std.specs.Prelude.{◌≡◌, ◌≢◌, ◌-◌, ◌+◌, ◌<◌, ◌≤◌, ◌&&◌, true, false, None, Err, slice_get, IfErr, IfOk, IfSome, OnErr, OnOk};
 ghost use Rattle.blocks.specs.declared.outcome.Reply.{Reply};
-ghost use Rattle.blocks.specs.declared.refusal.Refusal.TheVariants.{NoMemory, NotDrained, NothingThere};
+ghost use Rattle.blocks.specs.declared.refusal.Refusal.TheVariants.{NoMemory, NotConnected, NotDrained, NothingThere};
 ghost use Rattle.endpoint.specs.Calls.{IsNewIn, IsNewOut, Sends, has_room, is_out_of_memory};
+ghost use Rattle.model.specs.CallRefusals.{ack_out_refuses, peer_open_refuses, receive_refuses};
 ghost use Rattle.model.specs.LocalRuns.{Acknowledges, ClosesToo, OpensToo, secondary_after};
 ghost use Rattle.model.specs.Secondary.{SecondaryHistory, secondary_connection, secondary_opening, is_drained, next_pending};
 ghost use Rattle.model.specs.Theorems.{secondary_at};
@@ -44,7 +45,7 @@ impl<B: Beginning, O: FrameOut + Drop, I: FrameIn + Drop, S: Store + Drop> Model
 impl<B: Beginning, O: FrameOut + Drop, I: FrameIn + Drop, S: Store + Drop> Peer<B, O, I, S> {
     /// Creates a secondary over its disk, and opens it over unused ends of a link.
     ///
-    /// `BadSetting` (15) and `NoMemory` (7) come as for `Secondary::new`.
+    /// `BadSetting` (15) and `NoMemory` (7) come as for `Secondary::new`, and no other.
     pub fn open(
         alloc: Global,
         settings: Settings,
@@ -56,6 +57,7 @@ impl<B: Beginning, O: FrameOut + Drop, I: FrameIn + Drop, S: Store + Drop> Peer<
         requires inward { IsNewIn (I.state link.1) }
         requires began { IfSome B.opening (λ opening. secondary_opening settings (slice_get (S.contents store)) tuple ≡ secondary_at opening) }
         ensures opened { IfOk result (λ n. SecondaryHas n (secondary_after (OpensToo 0) (secondary_opening settings (slice_get (S.contents store)) tuple))) }
+        ensures refused { IfErr result (λ e. peer_open_refuses e ≡ true) }
     {
         let mut node = Secondary::new(alloc, settings, store, tuple)?;
         let (outward, inward) = link;
@@ -71,29 +73,33 @@ impl<B: Beginning, O: FrameOut + Drop, I: FrameIn + Drop, S: Store + Drop> Peer<
         }
     }
 
-    /// Takes the next frame. The refusals are those of `Secondary::receive`.
+    /// Takes the next frame. The refusals are those of `Secondary::receive`: 7, 12, 13, 18, and of a frame that was taken 20 to
+    /// 23, 34 and 35.
     pub fn receive(&mut self) -> Result<Done, Refusal>
         ensures step { SecondaryReceives result self.old self.new }
         ensures runs { SecondaryRuns self.old self.new }
+        ensures refused { IfErr result (λ e. receive_refuses e ≡ true) }
     {
         self.node.receive()
     }
 
-    /// Sends the next frame. The refusals are those of `Secondary::ack_out`.
+    /// Sends the next frame. The refusals are those of `Secondary::ack_out`: 11, 12 and 13.
     pub fn ack_out(&mut self) -> Result<Done, Refusal>
         ensures step { SecondarySteps (Acknowledges (has_room result) (is_out_of_memory result)) self.old (replied (λ done. done) result) self.new }
         ensures runs { SecondaryRuns self.old self.new }
         ensures link { Sends result self.old.outgoing self.new.outgoing }
         ensures memory { IfErr result (λ e. e ≢ NoMemory) }
+        ensures refused { IfErr result (λ e. ack_out_refuses e ≡ true) }
     {
         self.node.ack_out()
     }
 
-    /// Performs the next item on the disk. `NothingThere` (13) if there is none; then nothing changes.
+    /// Performs the next item on the disk. `NothingThere` (13) if there is none, and no other refusal; then nothing changes.
     pub fn apply_next(&mut self) -> Result<Done, Refusal>
         ensures runs { SecondaryRuns self.old self.new }
         ensures applies { (h : SecondaryHistory) → SecondaryHas self.old h → IfSome (next_pending h) (λ place. AppliesOne place result self.old self.new) }
         ensures nothing { (h : SecondaryHistory) → SecondaryHas self.old h → next_pending h ≡ None → (result ≡ Err NothingThere) × (self.new ≡ self.old) }
+        ensures refused { IfErr result (λ e. e ≡ NothingThere) }
     {
         match self.node.next() {
             Ok(place) => self.apply_at(place),
@@ -109,9 +115,10 @@ impl<B: Beginning, O: FrameOut + Drop, I: FrameIn + Drop, S: Store + Drop> Peer<
         self.node.peer(place)
     }
 
-    /// Closes the end. `NotConnected` (12) if it is closed.
+    /// Closes the end. `NotConnected` (12) if it is closed, and no other refusal.
     pub fn close(&mut self) -> Result<(), Refusal>
         ensures step { SecondarySteps ClosesToo self.old (replied plainly result) self.new }
+        ensures refused { IfErr result (λ e. e ≡ NotConnected) }
     {
         self.node.close()
     }
@@ -140,11 +147,12 @@ impl<B: Beginning, O: FrameOut + Drop, I: FrameIn + Drop, S: Store + Drop> Peer<
     /// Opens the end again under the connection's number.
     ///
     /// `NotDrained` (36) if the end is open, if items are pending, and if the node had a connection of this number or a
-    /// higher one; then nothing changes.
+    /// higher one, and no other refusal; then nothing changes.
     pub fn reopen(&mut self, number: u32) -> Result<(), Refusal>
         ensures numbered { number ≤ self.old.core.number → result ≡ Err NotDrained }
         ensures step { self.old.core.number < number → SecondarySteps (OpensToo (number - (self.old.core.number + 1))) self.old (replied plainly result) self.new }
         ensures unchanged { OnErr result (self.new ≡ self.old) }
+        ensures refused { IfErr result (λ e. e ≡ NotDrained) }
     {
         if number <= self.node.number() {
             return Err(Refusal::NotDrained);
@@ -157,6 +165,7 @@ impl<B: Beginning, O: FrameOut + Drop, I: FrameIn + Drop, S: Store + Drop> Peer<
         requires above { self.old.core.number < number }
         ensures step { SecondarySteps (OpensToo (number - (self.old.core.number + 1))) self.old (replied plainly result) self.new }
         ensures unchanged { OnErr result (self.new ≡ self.old) }
+        ensures refused { IfErr result (λ e. e ≡ NotDrained) }
     {
         self.node.reopen(number)
     }

@@ -124,7 +124,7 @@ IsOtherChoice (Ok decided) = Unit {0}
 IsOtherChoice (Err refusal) = is_refused_frame refusal ≡ true
 
 -- what taking a frame of the secondary leads to
-abbrev IsOtherTaken : Taken → Type 0
+abbrev pub IsOtherTaken : Taken → Type 0
 IsOtherTaken (Ok done) = Unit {0}
 IsOtherTaken (Err error) = is_refused_frame error.0 ≡ true
 
@@ -217,7 +217,7 @@ ack-other (RsWriteAckFrame of) before h = taken-if _ _ _ refl
 ack-other (BarrierAckFrame number size) before h = taken-if _ _ _ refl
 
 -- a packet of the secondary
-taking-other : (packet : Packet) (before h : PrimaryHistory) → IsOtherTaken (taking (Ok packet) before h)
+pub taking-other : (packet : Packet) (before h : PrimaryHistory) → IsOtherTaken (taking (Ok packet) before h)
 taking-other packet before h = go (primary_connection before).begun
   where
     go : (begun : Bool) → IsOtherTaken

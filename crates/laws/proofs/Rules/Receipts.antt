@@ -1,5 +1,5 @@
 -- When a receipt is given: what holds of a refusal, of a failed write's and of each entry's, holds of what a caller gets.
-use Rattle.std.proofs.Common.{ℕ, ◌≡◌, ◌==◌, Bool, ◌&&◌, ◌||◌, [], ◌∷◌, Option, Some, None, is_none, Result, Ok, Err}
+use Rattle.std.proofs.Common.{ℕ, ◌≡◌, ◌==◌, Bool, true, false, ◌&&◌, ◌||◌, [], ◌∷◌, Option, Some, None, is_none, Result, Ok, Err}
 use Rattle.std.specs.Prelude.{find}
 use Rattle.std.specs.List.{list_any}
 use Rattle.blocks.specs.declared.refusal.Refusal.{Refusal}
@@ -25,6 +25,27 @@ receipt-has P number h refused failed given = go (first_refusal (take_completed_
     go (Some refusal) found = refused refusal
     go None None = failed
     go None (Some entry) = given entry
+
+-- What holds of an entry, and of each of the three refusals, holds of what a caller gets.
+pub receipt-or-refusal : (P : Result Completion Refusal → Type 0) (number : ℕ) (h : PrimaryHistory) → P (Err UnknownJob) → P (Err NotCompleted)
+    → P (Err LocalFault) → ((entry : Completion) → P (Ok entry)) → P (take_completed number h).0
+receipt-or-refusal P number h unknown waits failed given =
+    go (is_none (accepted_at h number) || list_any (λ taken. taken == number) h.receipts)
+    (list_any (λ (accepted : Accepted). (accepted.write.number == number) && is_open h accepted) h.writes)
+    (find (λ (entry : Completion). entry.write.number == number) h.journal)
+  where
+    go : (gone waiting : Bool) (found : Option Completion)
+        → P (elim (first_refusal ((gone, UnknownJob) ∷ (waiting, NotCompleted) ∷ [])) as (λ _. Result Completion Refusal × PrimaryHistory) [
+          | Some refusal ↦ (Err refusal, h)
+          | None ↦ elim found as (λ _. Result Completion Refusal × PrimaryHistory) [
+            | None ↦ (Err LocalFault, receipted number h)
+            | Some entry ↦ (Ok entry, receipted number h)
+          ]
+        ]).0
+    go true waiting found = unknown
+    go false true found = waits
+    go false false None = failed
+    go false false (Some entry) = given entry
 
 -- what a caller gets, by what is asked: whether the number is unknown or its receipt was taken, whether its write is open, its entry
 abbrev pub receipt_by : ℕ → PrimaryHistory → Bool → Bool → Option Completion → Result Completion Refusal × PrimaryHistory

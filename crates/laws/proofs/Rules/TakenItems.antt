@@ -241,3 +241,20 @@ module _ (P : Checked → Type 0) (place : ℕ) (c : SecondaryConnection) (h : S
 
   pub takes-end : (tuple : Tuple) → place < 4294967295 → is_in_resync c ≡ true → P (checking_item (UuidsFrame tuple) place c h)
   takes-end tuple room resync = taken-if P _ _ _ (and_from _ _ (lt-ltb place 4294967295 room) resync) taken
+
+-- What holds of each item that is taken, and of the two refusals, holds of what is checked.
+pub item-has : (P : Checked → Type 0) → ((done : What × SecondaryHistory) → P (Ok done)) → P (Err BadField) → P (Err BadCommand) → (packet : Packet) (place : ℕ)
+    (c : SecondaryConnection) (h : SecondaryHistory) → P (checking_item packet place c h)
+item-has P taken field command packet place c h = go packet
+  where
+    by : (good : Bool) (name : What) (later : SecondaryHistory) → P (checked_if good name later)
+    by true name later = taken (name, later)
+    by false name later = field
+
+    go : (p : Packet) → P (checking_item p place c h)
+    go (DataFrame write at) = by _ _ _
+    go (RsDataReplyFrame block contents at) = by _ _ _
+    go (BarrierFrame number) = by _ _ _
+    go (SyncUuidFrame word) = by _ _ _
+    go (UuidsFrame tuple) = by _ _ _
+    go p = command

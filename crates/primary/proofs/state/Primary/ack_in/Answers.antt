@@ -4,7 +4,7 @@ use Rattle.blocks.specs.declared.refusal.Refusal.TheVariants.{NoMemory, NotConne
 use Rattle.endpoint.proofs.Faults.{never-nothing}
 use Rattle.primary_protocol.specs.Core.{is_established}
 use Rattle.primary_protocol.proofs.Node.Takes.{not-open, not-ready}
-use Rattle.primary.proofs.Taking.{readied-same, readied-some, takes-none, takes-some, takes-is}
+use Rattle.primary.proofs.Taking.{readied-same, readied-some, takes-none, takes-some, takes-is, takes-refused}
 use Rattle.primary.proofs.state.Primary.ack_in.Goals as goal
 use Rattle.primary.proofs.state.Primary.ack_in.Goals.{then-not-is_established+in_ok-ready, else-not-is_established}
 
@@ -45,3 +45,14 @@ returns-clause-step g c =
     c.take-2.ensures
     c.in_ok-frame.ensures.taken _ c.self.view_is c.in_ok-frame.ensures.row c.in_ok-frame.ensures.exact
     (never-nothing c.in_ok-frame.frame c.in_ok-frame.ensures.faults)
+
+pub returns-clause-refused : goal.returns-clause-refused
+returns-clause-refused g c =
+    let some : is_some c.self.inside.core.state.end ≡ true = sym c.is_open.ensures ∙ c.if-not-is_open.false in
+    let readied : (ready : Bool) × (c.if-not-is_established.incoming ≡ record c.in-Some.incoming { is_ready = ready }) = elim c.if-not-is_established.branch [
+      | then-not-is_established+in_ok-ready w ↦ (true, w.incoming-is ∙ w.in_ok-ready.ensures.ready)
+      | else-not-is_established w ↦ (c.in-Some.incoming.is_ready, w.incoming-is)
+    ] in
+    takes-refused _ c.self.invariant c.in-Some.incoming c.if-not-is_established.incoming c.take.new.self c.in_ok-frame.frame _ _ c.in-Some.is some readied
+    c.take-2.ensures
+    c.in_ok-frame.ensures.taken c.in_ok-frame.ensures.faults

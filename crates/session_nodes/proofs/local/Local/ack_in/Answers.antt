@@ -34,4 +34,5 @@ returns g c = rw (← c.self.view_is) (record {
   step = takes-over g c;
   runs = let took = c.ack_in.ensures.step in runs-step (Takes took.frame (is_none took.frame && is_out_of_memory c.ack_in.result)) tt c.self.inside.node
       c.ack_in.new.self (replied reply.Ok c.ack_in.result) (λ h. refl) (takes-over g c).step;
+  refused = c.ack_in.ensures.refused;
 })

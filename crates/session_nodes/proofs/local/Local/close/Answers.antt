@@ -7,6 +7,11 @@ use Rattle.model.specs.LocalRuns.{Closes}
 use Rattle.primary_protocol.specs.Node.{primary_step}
 use Rattle.primary_protocol.specs.Steps.{replied}
 use Rattle.session_nodes.specs.Primaries.{PrimarySteps}
+use Rattle.std.proofs.Common.{◌≡◌}
+use Rattle.std.specs.Prelude.{IfErr}
+use Rattle.blocks.specs.declared.refusal.Refusal.TheVariants.{NotConnected}
+use Rattle.laws.proofs.Pair.CallRefusals.{closes-so}
+use Rattle.session_nodes.proofs.Answers.{primary-refused}
 use Rattle.session_nodes.proofs.local.Local.close.Goals as goal
 
 abbrev step-over : (g : _) (c : goal.After-close g) → PrimarySteps Closes c.self.inside.node (replied reply.Closed c.close.result) c.close.new.self
@@ -20,5 +25,8 @@ invariant_of-self g c = had-over Closes (primary_step Closes) c.self.inside.node
     (λ h. refl) c.self.invariant
     (step-over g c)
 
+refused : (g : _) (c : goal.After-close g) → IfErr c.close.result (λ e. e ≡ NotConnected)
+refused g c = primary-refused (λ e. e ≡ NotConnected) reply.Closed _ Closes _ c.close.new.self c.close.result c.self.invariant c.close.ensures.step closes-so
+
 pub returns : goal.returns
-returns g c = rw (← c.self.view_is) (record { step = step-over g c })
+returns g c = rw (← c.self.view_is) (record { step = step-over g c; refused = refused g c })

@@ -1,5 +1,6 @@
-use Rattle.std.proofs.Common.{refl, ap}
+use Rattle.std.proofs.Common.{refl, ap, Err}
 use Rattle.primary.specs.State.{PrimaryView}
+use Rattle.session_nodes.proofs.Answers.{first-refused}
 use Rattle.session_nodes.proofs.Primaries.{first-over, had-from}
 use Rattle.session_nodes.proofs.local.Local.open.Goals as goal
 
@@ -17,4 +18,9 @@ returns-in-Ok g c = record {
       (g.I.FrameIn.state c.args.link.1) c.requires.outward c.requires.inward refl
       c.in_ok-node.ensures.history c.in-Ok.ensures.step (ap (λ (v : PrimaryView). v.outgoing) c.in-Ok.ensures.link)
       (ap (λ (v : PrimaryView). v.incoming) c.in-Ok.ensures.link);
+  refused = tt;
 }
+
+pub returns-in-Err-clause-refused : goal.returns-in-Err-clause-refused
+returns-in-Err-clause-refused g c = first-refused c.args.words.sync c.args.words.loss _ _ _ _ _ c.in_ok-node.node c.open.new.self (Err c.in-Err.refusal)
+    c.in_ok-node.ensures.history c.in-Err.ensures.step

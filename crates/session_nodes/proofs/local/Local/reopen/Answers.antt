@@ -5,6 +5,10 @@ use Rattle.primary_protocol.specs.Node.{primary_step}
 use Rattle.primary_protocol.specs.Steps.{plainly, replied}
 use Rattle.session_nodes.specs.Primaries.{PrimarySteps}
 use Rattle.session_nodes.proofs.Primaries.{reopens-over, had-over, is-there}
+use Rattle.std.proofs.Common.{◌≡◌, true}
+use Rattle.model.specs.CallRefusals.{reopen_refuses}
+use Rattle.laws.proofs.Pair.CallRefusals.{opens-so}
+use Rattle.session_nodes.proofs.Answers.{primary-refused}
 use Rattle.session_nodes.proofs.local.Local.reopen.Goals as goal
 
 pub reopen-requires-clause-opened : goal.reopen-requires-clause-opened
@@ -26,3 +30,8 @@ invariant_of-self g c = had-over (Opens c.args.sync c.args.loss (is_out_of_memor
 
 pub returns-clause-step : goal.returns-clause-step
 returns-clause-step g c = rw (← c.self.view_is) (steps g c)
+
+pub returns-clause-refused : goal.returns-clause-refused
+returns-clause-refused g c = primary-refused (λ e. reopen_refuses e ≡ true) (λ number. plainly tt) _
+    (Opens c.args.sync c.args.loss (is_out_of_memory c.reopen.result)) _ c.reopen.new.self c.reopen.result c.self.invariant c.reopen.ensures.step
+    (λ h. opens-so c.args.sync c.args.loss (is_out_of_memory c.reopen.result) h)

@@ -8,6 +8,7 @@ use Rattle.primary_protocol.specs.Steps.{replied}
 use Rattle.session_nodes.specs.Primaries.{PrimaryRuns}
 use Rattle.session_nodes.proofs.Ends.{SameEnds, ends-of}
 use Rattle.session_nodes.proofs.Primaries.{steps-over, runs-step, had-runs}
+use Rattle.session_nodes.proofs.Answers.{copy-refused}
 use Rattle.session_nodes.proofs.local.Local.resync_next.Goals as goal
 
 abbrev same : (g : _) (c : goal.After-resync_next g)
@@ -32,4 +33,8 @@ pub invariant_of-self : goal.invariant_of-self
 invariant_of-self g c = had-runs c.self.inside.node c.resync_next.new.self c.self.invariant (ran g c)
 
 pub returns : goal.returns
-returns g c = rw (← c.self.view_is) (record { runs = ran g c; copies = c.resync_next.ensures.step })
+returns g c = rw (← c.self.view_is) (record {
+  runs = ran g c;
+  copies = c.resync_next.ensures.step;
+  refused = copy-refused _ _ c.resync_next.new.self c.resync_next.result c.self.invariant c.resync_next.ensures.step;
+})

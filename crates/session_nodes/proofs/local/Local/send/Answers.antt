@@ -11,6 +11,9 @@ use Rattle.primary_protocol.specs.Steps.{replied}
 use Rattle.session_nodes.specs.Primaries.{PrimarySteps}
 use Rattle.session_nodes.proofs.Ends.{ends-sent}
 use Rattle.session_nodes.proofs.Primaries.{runs-step, steps-over, had-over}
+use Rattle.model.specs.CallRefusals.{send_refuses}
+use Rattle.laws.proofs.Pair.CallRefusals.{send-so}
+use Rattle.session_nodes.proofs.Answers.{primary-refused}
 use Rattle.session_nodes.proofs.local.Local.send.Goals as goal
 
 abbrev step-over : (g : _) (c : goal.After-send g)
@@ -38,3 +41,7 @@ returns-clause-runs g c = rw (← c.self.view_is)
 pub returns-clause-memory : goal.returns-clause-memory
 returns-clause-memory g c = subst (λ (v : PrimaryView). IfErr c.send.result (λ e. e ≡ NoMemory → owes_blocks v.core ≡ true)) c.self.view_is
     c.send.ensures.memory
+
+pub returns-clause-refused : goal.returns-clause-refused
+returns-clause-refused g c = primary-refused (λ e. send_refuses e ≡ true) reply.Ok _ (Sends (has_room c.send.result) (is_out_of_memory c.send.result)) _
+    c.send.new.self c.send.result c.self.invariant c.send.ensures.step (λ h. send-so (has_room c.send.result) (is_out_of_memory c.send.result) h)

@@ -9,6 +9,10 @@ use Rattle.primary_protocol.specs.Node.{primary_step}
 use Rattle.primary_protocol.specs.Steps.{replied}
 use Rattle.primary_protocol.specs.Transitions.{whole_blocks}
 use Rattle.session_nodes.specs.Primaries.{PrimarySteps}
+use Rattle.std.proofs.Common.{◌≡◌, true}
+use Rattle.model.specs.CallRefusals.{submit_refuses}
+use Rattle.laws.proofs.Pair.CallRefusals.{submit-so}
+use Rattle.session_nodes.proofs.Answers.{primary-refused}
 use Rattle.session_nodes.proofs.local.Local.submit.Goals as goal
 
 abbrev step-over : (g : _) (c : goal.After-submit g)
@@ -28,3 +32,8 @@ invariant_of-self g c = had-over (Submits c.args.first (whole_blocks c.args.byte
 
 pub returns-clause-step : goal.returns-clause-step
 returns-clause-step g c = rw (← c.self.view_is) (step-over g c)
+
+pub returns-clause-refused : goal.returns-clause-refused
+returns-clause-refused g c = primary-refused (λ e. submit_refuses e ≡ true) (λ returned. reply.Ok returned.1) _
+    (Submits c.args.first (whole_blocks c.args.bytes.now) (is_out_of_memory c.submit.result)) _ c.submit.new.self c.submit.result c.self.invariant
+    c.submit.ensures.step (λ h. submit-so c.args.first (whole_blocks c.args.bytes.now) (is_out_of_memory c.submit.result) h)

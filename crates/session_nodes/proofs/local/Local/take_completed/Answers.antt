@@ -5,6 +5,9 @@ use Rattle.session_nodes.proofs.Primaries.{steps-over, had-over}
 use Rattle.model.specs.LocalRuns.{Receipts}
 use Rattle.primary_protocol.specs.Node.{take_receipt}
 use Rattle.session_nodes.specs.Primaries.{IsPrimaryStep}
+use Rattle.std.proofs.Common.{◌≡◌, true}
+use Rattle.model.specs.CallRefusals.{take_completed_refuses}
+use Rattle.session_nodes.proofs.Answers.{receipt-refused}
 use Rattle.session_nodes.proofs.local.Local.take_completed.Goals as goal
 
 abbrev step-over : (g : _) (c : goal.After-take_completed g)
@@ -21,3 +24,6 @@ invariant_of-self g c = had-over (Receipts c.args.number) (take_receipt c.args.n
 
 pub returns-clause-step : goal.returns-clause-step
 returns-clause-step g c = rw (← c.self.view_is) (step-over g c)
+
+pub returns-clause-refused : goal.returns-clause-refused
+returns-clause-refused g c = receipt-refused _ c.args.number _ c.take_completed.new.self c.take_completed.result c.self.invariant c.take_completed.ensures.step

@@ -5,6 +5,10 @@ use Rattle.secondary.specs.State.{SecondaryView}
 use Rattle.secondary_protocol.specs.Steps.{plainly, replied}
 use Rattle.session_nodes.specs.Secondaries.{SecondarySteps}
 use Rattle.session_nodes.proofs.Secondaries.{reopens-over, had-over}
+use Rattle.std.proofs.Common.{◌≡◌}
+use Rattle.blocks.specs.declared.refusal.Refusal.TheVariants.{NotDrained}
+use Rattle.laws.proofs.Pair.CallRefusals.{opens-too-so}
+use Rattle.session_nodes.proofs.Answers.{secondary-refused}
 use Rattle.session_nodes.proofs.peer.Peer.open_again.Goals as goal
 
 abbrev steps : (g : _) (c : goal.After-reopen g)
@@ -19,3 +23,7 @@ invariant_of-self g c = had-over (OpensToo (c.args.number - (c.self.inside.node.
 
 pub returns-clause-step : goal.returns-clause-step
 returns-clause-step g c = rw (← c.self.view_is) (steps g c)
+
+pub returns-clause-refused : goal.returns-clause-refused
+returns-clause-refused g c = secondary-refused (λ e. e ≡ NotDrained) plainly _ (OpensToo (c.args.number - (c.self.inside.node.core.number + 1))) _
+    c.reopen.new.self c.reopen.result c.self.invariant c.reopen.ensures.step (λ h. opens-too-so (c.args.number - (c.self.inside.node.core.number + 1)) h)

@@ -30,4 +30,5 @@ returns g c = rw (← c.self.view_is) (record {
   step = takes-over g c;
   runs = let took = c.receive.ensures.step in runs-step (Receives took.frame (is_none took.frame && is_out_of_memory c.receive.result)) tt c.self.inside.node
       c.receive.new.self (replied (λ done. done) c.receive.result) (λ h. refl) (takes-over g c).step;
+  refused = c.receive.ensures.refused;
 })
