@@ -1,6 +1,7 @@
 //! A mirrored device, as its callers see it.
-ghost use Rattle.std.specs.Prelude.{◌≡◌, ◌⊎◌, ◌*◌, length, vec_len, IfErr, IfOk};
+ghost use Rattle.std.specs.Prelude.{◌≡◌, ◌⊎◌, ◌*◌, true, length, vec_len, IfErr, IfOk};
 ghost use Rattle.blocks.specs.declared.refusal.Refusal.TheVariants.{BadRange, NoMemory, ReadFault};
+ghost use Rattle.model.specs.CallRefusals.{begin_refuses, complete_refuses, reconnect_refuses, write_refuses};
 
 use crate::Begun;
 use blocks::Refusal;
@@ -31,29 +32,34 @@ pub trait Device {
     ///
     /// It tries again on `Conflict` (2), `LogFull` (3) and `ActivityFull` (4), waits while the write is open, and
     /// returns every other refusal of `Primary::submit` and `Primary::take_completed`: `BadRange` (1), `JournalFull`
-    /// (5), `StreamFull` (6), `NoMemory` (7), `LocalFault` (8), `NotConnected` (12). A receipt of another range would
-    /// be `UnknownJob` (16).
+    /// (5), `StreamFull` (6), `NoMemory` (7), `LocalFault` (8), `NotConnected` (12), and `UnknownJob` (16), which a receipt
+    /// of another range would be, too. It returns no other.
     fn write(&self, first: u64, bytes: &Bytes) -> Result<Receipt, Refusal>
         ensures own { IfOk result (λ receipt. (receipt.first ≡ first) × (receipt.count * 4096 ≡ length bytes.now)) }
-        ensures accepted { IfOk result (λ receipt. accepts receipt.number first bytes.now) };
+        ensures accepted { IfOk result (λ receipt. accepts receipt.number first bytes.now) }
+        ensures refused { IfErr result (λ e. write_refuses e ≡ true) };
 
     /// Begins a write of whole blocks from `first` on: it is accepted, and sent if there is room for it. A caller with
     /// many writes begins them all, and then waits for one after another.
     ///
     /// It tries again on `Conflict` (2), `LogFull` (3) and `ActivityFull` (4), and returns every other refusal of
-    /// `Primary::submit`: `BadRange` (1), `JournalFull` (5), `StreamFull` (6), `NoMemory` (7), `NotConnected` (12).
+    /// `Primary::submit`: `BadRange` (1), `JournalFull` (5), `StreamFull` (6), `NoMemory` (7), `NotConnected` (12). It
+    /// returns no other.
     fn begin(&self, first: u64, bytes: Bytes) -> Result<Begun, Refusal>
         ensures range { IfOk result (λ begun. (begun.first ≡ first) × (begun.count * 4096 ≡ length bytes)) }
         ensures contents { IfOk result (λ begun. begun.contents ≡ bytes) }
-        ensures accepted { IfOk result (λ begun. accepts begun.number first bytes) };
+        ensures accepted { IfOk result (λ begun. accepts begun.number first bytes) }
+        ensures refused { IfErr result (λ e. begin_refuses e ≡ true) };
 
     /// Waits until a write that was begun is completed as the protocol says, and returns its receipt.
     ///
     /// It returns the refusals of `Primary::take_completed` except `NotCompleted` (9): `LocalFault` (8), and
-    /// `UnknownJob` (16) for a write of another session. A receipt of another range would be `UnknownJob` (16), too.
+    /// `UnknownJob` (16) for a write of another session. A receipt of another range would be `UnknownJob` (16), too. It
+    /// returns no other.
     fn complete(&self, begun: Begun) -> Result<Receipt, Refusal>
         ensures number { IfOk result (λ receipt. receipt.number ≡ begun.number) }
-        ensures own { IfOk result (λ receipt. (receipt.first ≡ begun.first) × (receipt.count ≡ begun.count)) };
+        ensures own { IfOk result (λ receipt. (receipt.first ≡ begun.first) × (receipt.count ≡ begun.count)) }
+        ensures refused { IfErr result (λ e. complete_refuses e ≡ true) };
 
     /// Reads blocks of the local disk, 1 to 32 inside the device and inside one extent.
     ///
@@ -73,9 +79,10 @@ pub trait Device {
     /// `NotConnected` (12) if the session goes over streams: it has one connection, and this is checked first. Else
     /// `NotDrained` (36) if an end is not closed, or if the secondary has items to do; the caller tries again. Else
     /// `UsedIdentifier` (33) if a word is zero or occurs in a known tuple, or if both words are equal; `StreamFull` (6)
-    /// after 4,294,967,295 connections; `NoMemory` (7). Then nothing has changed. If the secondary refuses at last, the
+    /// after 4,294,967,295 connections; `NoMemory` (7). No other refusal comes. Then nothing has changed. If the secondary refuses at last, the
     /// primary closes again before its stream began, and the number is used up.
-    fn reconnect(&self, sync: u64, loss: u64) -> Result<u32, Refusal>;
+    fn reconnect(&self, sync: u64, loss: u64) -> Result<u32, Refusal>
+        ensures refused { IfErr result (λ e. reconnect_refuses e ≡ true) };
 
     /// Returns what the status lines of the primary and of the secondary show. Each is its node's at a moment of the call,
     /// and these are two moments.

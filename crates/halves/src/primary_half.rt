@@ -1,6 +1,7 @@
 //! The primary's half.
-ghost use Rattle.std.specs.Prelude.{◌≡◌, ◌⊎◌, ◌*◌, vec_len, IfErr, IfOk};
+ghost use Rattle.std.specs.Prelude.{◌≡◌, ◌⊎◌, ◌*◌, true, vec_len, IfErr, IfOk};
 ghost use Rattle.blocks.specs.declared.refusal.Refusal.TheVariants.{BadRange, NoMemory, ReadFault};
+ghost use Rattle.model.specs.CallRefusals.{ack_in_refuses, reopen_refuses, send_refuses, submit_refuses, take_completed_refuses};
 
 use bell::Bell;
 use blocks::{Done, Refusal};
@@ -10,7 +11,7 @@ use status_lines::PrimaryLine;
 use turns::{LocalRole, SentItems, Turn};
 
 /// The primary's half of a session, over any link and disk. Each call locks the node, does what it says, and unlocks
-/// the node. Its refusals are those of the node's call of the same name.
+/// the node. Its refusals are those of the node's call of the same name, and no other.
 pub trait PrimaryHalf {
     ghost use Rattle.std.specs.Prelude.{ℕ, List};
     ghost use Rattle.status_lines.specs.declared.lines.PrimaryLine.{PrimaryLine};
@@ -27,13 +28,15 @@ pub trait PrimaryHalf {
     /// `shows line`: the primary's status line was this one.
     ghost shows: { PrimaryLine → Type 0 };
 
-    /// Accepts a write and returns its number.
+    /// Accepts a write and returns its number. Refuses with 1 to 7 and 12.
     fn submit(&self, first: u64, bytes: &Bytes) -> Result<u64, Refusal>
-        ensures accepted { IfOk result (λ number. accepts number first bytes.now) };
+        ensures accepted { IfOk result (λ number. accepts number first bytes.now) }
+        ensures refused { IfErr result (λ e. submit_refuses e ≡ true) };
 
-    /// Returns the receipt of a write, once.
+    /// Returns the receipt of a write, once. Refuses with 8, 9 and 16.
     fn take_completed(&self, number: u64) -> Result<Receipt, Refusal>
-        ensures number { IfOk result (λ receipt. receipt.number ≡ number) };
+        ensures number { IfOk result (λ receipt. receipt.number ≡ number) }
+        ensures refused { IfErr result (λ e. take_completed_refuses e ≡ true) };
 
     /// Reads blocks of the local disk.
     fn read(&self, first: u64, count: u64) -> Result<Vec<u8>, Refusal>
@@ -41,11 +44,13 @@ pub trait PrimaryHalf {
         ensures length { IfOk result (λ bytes. vec_len bytes ≡ count * 4096) }
         ensures refused { IfErr result (λ e. (e ≡ BadRange) ⊎ ((e ≡ NoMemory) ⊎ (e ≡ ReadFault))) };
 
-    /// Sends the next frame.
-    fn send(&self) -> Result<Done, Refusal>;
+    /// Sends the next frame. Refuses with 7, 11, 12 and 13.
+    fn send(&self) -> Result<Done, Refusal>
+        ensures refused { IfErr result (λ e. send_refuses e ≡ true) };
 
-    /// Takes the next frame.
-    fn ack_in(&self) -> Result<Done, Refusal>;
+    /// Takes the next frame. Refuses with 7, 12, 13, and a frame that was taken with 20 to 25 and 30 to 35.
+    fn ack_in(&self) -> Result<Done, Refusal>
+        ensures refused { IfErr result (λ e. ack_in_refuses e ≡ true) };
 
     /// Does a turn of a thread, and wakes the writers if it concerns them.
     fn turn(&self, role: LocalRole) -> Turn;
@@ -56,8 +61,9 @@ pub trait PrimaryHalf {
     /// Closes the end if its connection is this one or an earlier one.
     fn close_lost(&self, connection: u32);
 
-    /// Opens the end again and returns the connection's number.
-    fn reopen(&self, sync: u64, loss: u64) -> Result<u32, Refusal>;
+    /// Opens the end again and returns the connection's number. Refuses with 6, 7, 33 and 36.
+    fn reopen(&self, sync: u64, loss: u64) -> Result<u32, Refusal>
+        ensures refused { IfErr result (λ e. reopen_refuses e ≡ true) };
 
     /// Returns whether the disk has a write to do.
     fn has_unfinished(&self) -> bool;

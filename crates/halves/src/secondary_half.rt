@@ -1,22 +1,28 @@
 //! The secondary's half.
+ghost use Rattle.std.specs.Prelude.{◌≡◌, true, IfErr};
+ghost use Rattle.blocks.specs.declared.refusal.Refusal.TheVariants.{NotDrained};
+ghost use Rattle.model.specs.CallRefusals.{ack_out_refuses, receive_refuses};
+
 use bell::Bell;
 use blocks::{Done, Refusal};
 use status_lines::SecondaryLine;
 use turns::{PeerRole, SentItems, Turn};
 
 /// The secondary's half of a session, over any link and disk. Each call locks the node, does what it says, and unlocks
-/// the node. Its refusals are those of the node's call of the same name.
+/// the node. Its refusals are those of the node's call of the same name, and no other.
 pub trait SecondaryHalf {
     ghost use Rattle.status_lines.specs.declared.lines.SecondaryLine.{SecondaryLine};
 
     /// `shows line`: the secondary's status line was this one.
     ghost shows: { SecondaryLine → Type 0 };
 
-    /// Takes the next frame.
-    fn receive(&self) -> Result<Done, Refusal>;
+    /// Takes the next frame. Refuses with 7, 12, 13, 18, and a frame that was taken with 20 to 23, 34 and 35.
+    fn receive(&self) -> Result<Done, Refusal>
+        ensures refused { IfErr result (λ e. receive_refuses e ≡ true) };
 
-    /// Sends the next frame.
-    fn ack_out(&self) -> Result<Done, Refusal>;
+    /// Sends the next frame. Refuses with 11, 12 and 13.
+    fn ack_out(&self) -> Result<Done, Refusal>
+        ensures refused { IfErr result (λ e. ack_out_refuses e ≡ true) };
 
     /// Does a turn of a thread.
     fn turn(&self, role: PeerRole) -> Turn;
@@ -27,11 +33,13 @@ pub trait SecondaryHalf {
     /// Closes the end if its connection is this one or an earlier one.
     fn close_lost(&self, connection: u32);
 
-    /// Checks that the end may open again.
-    fn may_reopen(&self) -> Result<(), Refusal>;
+    /// Checks that the end may open again: `NotDrained` (36) if not, and no other refusal.
+    fn may_reopen(&self) -> Result<(), Refusal>
+        ensures refused { IfErr result (λ e. e ≡ NotDrained) };
 
-    /// Opens the end again under the connection's number.
-    fn reopen(&self, number: u32) -> Result<(), Refusal>;
+    /// Opens the end again under the connection's number: `NotDrained` (36) if it may not, and no other refusal.
+    fn reopen(&self, number: u32) -> Result<(), Refusal>
+        ensures refused { IfErr result (λ e. e ≡ NotDrained) };
 
     /// Returns whether nothing of what was sent is on its way: the end has taken as many items on the same connection, or it is
     /// closed.

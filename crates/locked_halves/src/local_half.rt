@@ -1,7 +1,8 @@
 //! The primary under its lock.
-ghost use Rattle.std.specs.Prelude.{◌≡◌, false, slice_get, unwrap_or, IfSome};
+ghost use Rattle.std.specs.Prelude.{◌≡◌, true, false, slice_get, unwrap_or, IfErr, IfSome};
 ghost use Rattle.endpoint.specs.Calls.{IsNewIn, IsNewOut};
 ghost use Rattle.locked_halves.specs.Shown.{HasReleased, PrimaryHasShown};
+ghost use Rattle.model.specs.CallRefusals.{local_open_refuses};
 ghost use Rattle.model.specs.Primary.{primary_opening};
 ghost use Rattle.model.specs.Theorems.{primary_at};
 ghost use Rattle.session_nodes.specs.Primaries.{PrimaryIsHad};
@@ -44,7 +45,7 @@ impl<
     S: Store + Drop,
 > LocalHalf<R, B, O, I, S> {
     /// Creates the half of a primary over this disk, opened over unused ends of a link under two words. The refusals
-    /// are those of `Local::open`.
+    /// are those of `Local::open`: 7, 15 and 33.
     pub fn open(
         rt: R,
         alloc: Global,
@@ -59,6 +60,7 @@ impl<
         requires inward { IsNewIn (I.state link.1) }
         requires began { IfSome B.opening (λ opening. primary_opening settings (slice_get (S.contents store)) tuple (λ block. unwrap_or (slice_get marks block) false)
             ≡ primary_at opening) }
+        ensures refused { IfErr result (λ e. local_open_refuses e ≡ true) }
     {
         match Local::open(alloc, settings, store, tuple, marks, link, words) {
             Ok(node) => Ok(LocalHalf {

@@ -1,7 +1,8 @@
 //! The secondary under its lock.
-ghost use Rattle.std.specs.Prelude.{◌≡◌, slice_get, IfSome};
+ghost use Rattle.std.specs.Prelude.{◌≡◌, true, slice_get, IfErr, IfSome};
 ghost use Rattle.endpoint.specs.Calls.{IsNewIn, IsNewOut};
 ghost use Rattle.locked_halves.specs.Shown.{SecondaryHasShown};
+ghost use Rattle.model.specs.CallRefusals.{peer_open_refuses};
 ghost use Rattle.model.specs.Secondary.{secondary_opening};
 ghost use Rattle.model.specs.Theorems.{secondary_at};
 ghost use Rattle.session_nodes.specs.Secondaries.{SecondaryIsHad};
@@ -41,7 +42,7 @@ impl<R: Wait + Drop, B: Beginning, O: FrameOut + Drop, I: FrameIn + Drop, S: Sto
     S,
 > {
     /// Creates the half of a secondary over this disk, opened over unused ends of a link. The refusals are those of
-    /// `Peer::open`.
+    /// `Peer::open`: 7 and 15.
     pub fn open(
         rt: R,
         alloc: Global,
@@ -53,6 +54,7 @@ impl<R: Wait + Drop, B: Beginning, O: FrameOut + Drop, I: FrameIn + Drop, S: Sto
         requires outward { IsNewOut (O.state link.0) }
         requires inward { IsNewIn (I.state link.1) }
         requires began { IfSome B.opening (λ opening. secondary_opening settings (slice_get (S.contents store)) tuple ≡ secondary_at opening) }
+        ensures refused { IfErr result (λ e. peer_open_refuses e ≡ true) }
     {
         match Peer::open(alloc, settings, store, tuple, link) {
             Ok(node) => Ok(PeerHalf {

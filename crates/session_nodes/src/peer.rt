@@ -137,6 +137,7 @@ impl<B: Beginning, O: FrameOut + Drop, I: FrameIn + Drop, S: Store + Drop> Peer<
     pub fn may_reopen(&self) -> Result<(), Refusal>
         ensures may { (h : SecondaryHistory) → NodeHas (node self.now) h → OnOk result (((secondary_connection h).closed ≡ true) × (is_drained h ≡ true)) }
         ensures refused { (h : SecondaryHistory) → NodeHas (node self.now) h → IfErr result (λ e. (e ≡ NotDrained) × (((secondary_connection h).closed && is_drained h) ≡ false)) }
+        ensures only { IfErr result (λ e. e ≡ NotDrained) }
     {
         if self.node.is_open() || !self.node.is_drained() {
             return Err(Refusal::NotDrained);

@@ -1,6 +1,7 @@
 //! The pumps of a session over streams, each in a thread of its own, and the thread that receives the reports of their
 //! ends.
-ghost use Rattle.std.specs.Prelude.{◌<◌, IfOk};
+ghost use Rattle.std.specs.Prelude.{◌≡◌, ◌<◌, ◌*◌, IfErr, IfOk};
+ghost use Rattle.blocks.specs.declared.refusal.Refusal.TheVariants.{NoMemory};
 ghost use Rattle.endpoint.specs.Calls.{IsNewIn, IsNewOut};
 ghost use Rattle.ruled_link.specs.Inward.{taking};
 ghost use Rattle.ruled_link.specs.Outward.{sending};
@@ -42,8 +43,8 @@ pub struct Rows<R: Wait + Drop> {
     pub peer: PumpEnds<R>,
 }
 
-/// Creates the two rows of a half, and returns the node's ends and the pumps'. Each row has room for `link` of the
-/// longest frames. `NoMemory` (7) if there is no memory for them.
+/// Creates the two rows of a half, and returns the node's ends and the pumps'. Each row has room for exactly `link` of the
+/// longest frames, of 94 pieces each (`room`). `NoMemory` (7) if there is no memory for them, and no other refusal.
 pub fn half_rows<R: Wait + Copy + Drop>(
     rt: R,
     alloc: Global,
@@ -51,6 +52,8 @@ pub fn half_rows<R: Wait + Copy + Drop>(
 ) -> Result<((RuledOut<R>, RuledIn<R>), PumpEnds<R>), Refusal>
     requires { 0 < link }
     ensures unused { IfOk result (λ r. IsNewOut (sending r.0.0) × IsNewIn (taking r.0.1)) }
+    ensures room { IfOk result (λ r. (r.0.0.row.slots ≡ 94 * link) × (r.0.1.row.slots ≡ 94 * link)) }
+    ensures refused { IfErr result (λ e. e ≡ NoMemory) }
 {
     let (pushed, leaving) = row(rt, alloc, FRAME_PIECES * link as usize)?;
     let (coming, popped) = row(rt, alloc, FRAME_PIECES * link as usize)?;
@@ -105,7 +108,9 @@ impl Carrier {
         alloc: Global,
         workers: &mut Workers,
         shared: &Arc<Shared<R, A, B>, Global>,
-    ) -> Result<Carrier, Refusal> {
+    ) -> Result<Carrier, Refusal>
+        ensures refused { IfErr result (λ e. e ≡ NoMemory) }
+    {
         let (ends, notices) = bounded(alloc, PUMPS)?;
         workers.handles.try_reserve(1)?;
         let listener = Arc::try_clone(shared)?;
@@ -130,7 +135,9 @@ impl Carrier {
         route: Route,
         rows: (PieceIn<R>, PieceOut<R>),
         way: Way<W, D>,
-    ) -> Result<(), Refusal> {
+    ) -> Result<(), Refusal>
+        ensures refused { IfErr result (λ e. e ≡ NoMemory) }
+    {
         let (leaving, coming) = rows;
         let Way { writer, reader } = way;
         self.start_out(workers, shared, route.from, leaving, writer)?;
@@ -150,7 +157,9 @@ impl Carrier {
         side: Side,
         row: PieceIn<R>,
         writer: W,
-    ) -> Result<(), Refusal> {
+    ) -> Result<(), Refusal>
+        ensures refused { IfErr result (λ e. e ≡ NoMemory) }
+    {
         let buffer = Buffer::new(self.alloc)?;
         let ends = self.ends.clone()?;
         workers.handles.try_reserve(1)?;
@@ -177,7 +186,9 @@ impl Carrier {
         side: Side,
         row: PieceOut<R>,
         reader: D,
-    ) -> Result<(), Refusal> {
+    ) -> Result<(), Refusal>
+        ensures refused { IfErr result (λ e. e ≡ NoMemory) }
+    {
         let buffer = Buffer::new(self.alloc)?;
         let ends = self.ends.clone()?;
         workers.handles.try_reserve(1)?;

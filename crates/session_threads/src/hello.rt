@@ -1,4 +1,7 @@
 //! The hello exchange of a session.
+ghost use Rattle.std.specs.Prelude.{◌≡◌, true, IfErr};
+ghost use Rattle.model.specs.CallRefusals.{hello_refuses, streams_hello_refuses};
+
 use crate::shared::Shared;
 use blocks::{Done, Refusal};
 use halves::{PrimaryHalf, SecondaryHalf};
@@ -21,7 +24,9 @@ const FRAMES: u32 = 3;
 
 impl<R: Wait, A: PrimaryHalf, B: SecondaryHalf> Shared<R, A, B> {
     /// Exchanges the hellos of both ends over a link. Stops at the first refusal.
-    pub(crate) fn greet(&self) -> Result<(), Refusal> {
+    pub(crate) fn greet(&self) -> Result<(), Refusal>
+        ensures refused { IfErr result (λ e. hello_refuses e ≡ true) }
+    {
         for _ in 0..FRAMES {
             for step in STEPS {
                 self.step(step)?;
@@ -31,7 +36,9 @@ impl<R: Wait, A: PrimaryHalf, B: SecondaryHalf> Shared<R, A, B> {
     }
 
     // Does a step of the hello.
-    fn step(&self, step: Step) -> Result<Done, Refusal> {
+    fn step(&self, step: Step) -> Result<Done, Refusal>
+        ensures refused { IfErr result (λ e. hello_refuses e ≡ true) }
+    {
         match step {
             Step::Send => self.local.send(),
             Step::Receive => self.peer.receive(),
@@ -44,7 +51,9 @@ impl<R: Wait, A: PrimaryHalf, B: SecondaryHalf> Shared<R, A, B> {
 impl<R: Wait + Clock, A: PrimaryHalf, B: SecondaryHalf> Shared<R, A, B> {
     /// Exchanges the hellos of both ends while pumps carry their frames: waits until each step can be done. Stops at
     /// the first refusal other than `LinkFull` (11) and `NothingThere` (13).
-    pub(crate) fn greet_over_ways(&self) -> Result<(), Refusal> {
+    pub(crate) fn greet_over_ways(&self) -> Result<(), Refusal>
+        ensures refused { IfErr result (λ e. streams_hello_refuses e ≡ true) }
+    {
         for _ in 0..FRAMES {
             for step in STEPS {
                 self.await_step(step)?;
@@ -54,7 +63,9 @@ impl<R: Wait + Clock, A: PrimaryHalf, B: SecondaryHalf> Shared<R, A, B> {
     }
 
     // Does a step of the hello, once it can be done.
-    fn await_step(&self, step: Step) -> Result<(), Refusal> {
+    fn await_step(&self, step: Step) -> Result<(), Refusal>
+        ensures refused { IfErr result (λ e. streams_hello_refuses e ≡ true) }
+    {
         let (bell, sent) = match step {
             Step::Send => (self.local.work_bell(), Some(self.local.pump_bell())),
             Step::Receive => (self.peer.work_bell(), None),

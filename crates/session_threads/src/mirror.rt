@@ -1,5 +1,6 @@
 //! A running session as a device.
-ghost use Rattle.std.specs.Prelude.{◌≡◌, IfOk};
+ghost use Rattle.std.specs.Prelude.{◌≡◌, true, IfErr, IfOk};
+ghost use Rattle.model.specs.CallRefusals.{begin_refuses, complete_refuses, reopen_refuses};
 
 use crate::shared::{Path, Shared};
 use blocks::{BLOCK_BYTES, Refusal};
@@ -60,15 +61,7 @@ impl<R: Wait + Clock, A: PrimaryHalf, B: SecondaryHalf> Device for Mirror<R, A, 
         if shared.path == Path::Wire {
             return Err(Refusal::NotConnected);
         }
-        let _connecting = shared.connecting.lock(&shared.rt);
-        shared.peer.may_reopen()?;
-        let number = shared.local.reopen(sync, loss)?;
-        if let Err(refusal) = shared.peer.reopen(number) {
-            shared.local.close();
-            return Err(refusal);
-        }
-        shared.ring();
-        Ok(number)
+        self.reconnect_over_link(sync, loss)
     }
 
     fn status(&self) -> (PrimaryLine, SecondaryLine) {
@@ -99,11 +92,31 @@ impl<R: Wait + Clock, A: PrimaryHalf, B: SecondaryHalf> Device for Mirror<R, A, 
     }
 }
 
+impl<R: Wait, A: PrimaryHalf, B: SecondaryHalf> Mirror<R, A, B> {
+    /// Opens both ends again as `Device::reconnect` does, of a session that goes over one link: its rows take any number of
+    /// connections. `NotConnected` (12) does not come.
+    pub fn reconnect_over_link(&self, sync: u64, loss: u64) -> Result<u32, Refusal>
+        ensures refused { IfErr result (λ e. reopen_refuses e ≡ true) }
+    {
+        let shared = &self.shared;
+        let _connecting = shared.connecting.lock(&shared.rt);
+        shared.peer.may_reopen()?;
+        let number = shared.local.reopen(sync, loss)?;
+        if let Err(refusal) = shared.peer.reopen(number) {
+            shared.local.close();
+            return Err(refusal);
+        }
+        shared.ring();
+        Ok(number)
+    }
+}
+
 impl<R: Wait + Clock, A: PrimaryHalf, B: SecondaryHalf> Mirror<R, A, B> {
     // Submits a write. If it conflicts or a log is full, does a turn, or waits if the turn did nothing, and submits it
     // again.
     fn submit(&self, first: u64, bytes: &Bytes) -> Result<u64, Refusal>
-        ensures { IfOk result (λ number. A.accepts number first bytes.now) }
+        ensures accepted { IfOk result (λ number. A.accepts number first bytes.now) }
+        ensures refused { IfErr result (λ e. begin_refuses e ≡ true) }
     {
         let shared = &self.shared;
         let mut looks = 0u32;
@@ -127,7 +140,8 @@ impl<R: Wait + Clock, A: PrimaryHalf, B: SecondaryHalf> Mirror<R, A, B> {
     // Waits until a write is completed or failed. A thread that was woken does a turn first: it may have been woken for
     // that.
     fn completed(&self, number: u64) -> Result<Receipt, Refusal>
-        ensures { IfOk result (λ receipt. receipt.number ≡ number) }
+        ensures number { IfOk result (λ receipt. receipt.number ≡ number) }
+        ensures refused { IfErr result (λ e. complete_refuses e ≡ true) }
     {
         let shared = &self.shared;
         let taken = shared.local.take_completed(number);

@@ -1,6 +1,7 @@
 //! A session from its start to its end.
-ghost use Rattle.std.specs.Prelude.{◌≡◌, IfErr};
-ghost use Rattle.blocks.specs.declared.refusal.Refusal.TheVariants.{NotDrained};
+ghost use Rattle.std.specs.Prelude.{◌≡◌, true, IfErr};
+ghost use Rattle.blocks.specs.declared.refusal.Refusal.TheVariants.{NoMemory, NotDrained};
+ghost use Rattle.model.specs.CallRefusals.{hello_refuses, streams_hello_refuses};
 
 use crate::Mirror;
 use crate::carriers::{Carrier, LOCAL_TO_PEER, PEER_TO_LOCAL, Rows};
@@ -30,14 +31,17 @@ impl<
     /// threads. If it `is_cut`, the link is cut between the two.
     ///
     /// The refusals are those of the hello (30 to 33), and `NoMemory` (7) if there is no memory, or if a thread cannot
-    /// be started. Then nothing runs, and both halves are dropped.
+    /// be started. Then nothing runs, and both halves are dropped. Of halves over one link no other comes; the contract,
+    /// which sees each half by itself, says besides that 11, 12, 13, 18, 20 to 25, 34 and 35 may (`hello_refuses`).
     pub fn start(
         rt: R,
         alloc: Global,
         local: A,
         peer: B,
         is_cut: bool,
-    ) -> Result<Running<R, A, B>, Refusal> {
+    ) -> Result<Running<R, A, B>, Refusal>
+        ensures refused { IfErr result (λ e. hello_refuses e ≡ true) }
+    {
         let mut running = Running::idle(rt, alloc, local, peer, Path::Link)?;
         match running.begin(is_cut) {
             Ok(()) => Ok(running),
@@ -53,7 +57,8 @@ impl<
     /// pump that ends drops its writer or reader, and then both ends of the link close.
     ///
     /// The refusals are those of `start`, `NotConnected` (12) if a way ends during the hello, and 20 to 25, 34 or 35 if
-    /// foreign bytes arrive over it. Then nothing runs, and all that was handed over is dropped.
+    /// foreign bytes arrive over it. Then nothing runs, and all that was handed over is dropped. The contract says besides
+    /// that 18 may come, and no other (`streams_hello_refuses`).
     pub fn start_over<W: Sink, D: Source, V: Sink, E: Source>(
         rt: R,
         alloc: Global,
@@ -62,7 +67,9 @@ impl<
         rows: Rows<R>,
         ways: Ways<Way<W, D>, Way<V, E>>,
         is_cut: bool,
-    ) -> Result<Running<R, A, B>, Refusal> {
+    ) -> Result<Running<R, A, B>, Refusal>
+        ensures refused { IfErr result (λ e. streams_hello_refuses e ≡ true) }
+    {
         let mut running = Running::idle(rt, alloc, local, peer, Path::Wire)?;
         match running.begin_over(rows, ways, is_cut) {
             Ok(()) => Ok(running),
@@ -80,7 +87,9 @@ impl<
         local: A,
         peer: B,
         path: Path,
-    ) -> Result<Running<R, A, B>, Refusal> {
+    ) -> Result<Running<R, A, B>, Refusal>
+        ensures refused { IfErr result (λ e. e ≡ NoMemory) }
+    {
         let shared = Arc::new(alloc, Shared::new(rt, local, peer, path))?;
         Ok(Running {
             mirror: Mirror { alloc, shared },
@@ -89,13 +98,17 @@ impl<
     }
 
     // Exchanges the hellos, and starts the threads.
-    fn begin(&mut self, is_cut: bool) -> Result<(), Refusal> {
+    fn begin(&mut self, is_cut: bool) -> Result<(), Refusal>
+        ensures refused { IfErr result (λ e. hello_refuses e ≡ true) }
+    {
         self.mirror.shared.greet()?;
         self.work(is_cut)
     }
 
     // Starts the threads of both nodes. No thread has sent anything of the stream when the link is cut.
-    fn work(&mut self, is_cut: bool) -> Result<(), Refusal> {
+    fn work(&mut self, is_cut: bool) -> Result<(), Refusal>
+        ensures refused { IfErr result (λ e. e ≡ NoMemory) }
+    {
         let shared = &self.mirror.shared;
         if is_cut {
             shared.cut();
@@ -109,7 +122,9 @@ impl<
         rows: Rows<R>,
         ways: Ways<Way<W, D>, Way<V, E>>,
         is_cut: bool,
-    ) -> Result<(), Refusal> {
+    ) -> Result<(), Refusal>
+        ensures refused { IfErr result (λ e. streams_hello_refuses e ≡ true) }
+    {
         let Ways { to_peer, to_local } = ways;
         let Rows { local, peer } = rows;
         let carrier = Carrier::start(self.mirror.alloc, &mut self.workers, &self.mirror.shared)?;

@@ -1,4 +1,7 @@
 //! The threads of a session.
+ghost use Rattle.std.specs.Prelude.{◌≡◌, IfErr};
+ghost use Rattle.blocks.specs.declared.refusal.Refusal.TheVariants.{NoMemory};
+
 use crate::shared::Shared;
 use blocks::Refusal;
 use halves::{PrimaryHalf, SecondaryHalf};
@@ -39,7 +42,9 @@ impl Workers {
         R: Threads + Wait + Clock + Drop + Send + Sync + 'static,
         A: PrimaryHalf + Drop + Send + Sync + 'static,
         B: SecondaryHalf + Drop + Send + Sync + 'static,
-    >(&mut self, shared: &Arc<Shared<R, A, B>, Global>) -> Result<(), Refusal> {
+    >(&mut self, shared: &Arc<Shared<R, A, B>, Global>) -> Result<(), Refusal>
+        ensures refused { IfErr result (λ e. e ≡ NoMemory) }
+    {
         self.handles
             .try_reserve(LOCAL_ROLES.len() + PEER_ROLES.len())?;
         for role in LOCAL_ROLES {

@@ -1,7 +1,8 @@
 //! A session over a link in this process.
-ghost use Rattle.std.specs.Prelude.{◌≡◌, ◌≤◌, ◌⊎◌, ◌*◌, Some, length, slice_get, vec_len, IfErr, IfOk, IsTrue};
+ghost use Rattle.std.specs.Prelude.{◌≡◌, ◌≤◌, ◌⊎◌, ◌*◌, true, Some, length, slice_get, vec_len, IfErr, IfOk, IsTrue};
 ghost use Rattle.blocks.specs.declared.refusal.Refusal.TheVariants.{BadRange, NoMemory, NotDrained, ReadFault};
 ghost use Rattle.halves.specs.Opening.{opening_of};
+ghost use Rattle.model.specs.CallRefusals.{reopen_refuses, start_refuses, write_refuses};
 ghost use Rattle.model.specs.Headline.{IsJoined};
 ghost use Rattle.model.specs.Primary.{PrimaryHistory};
 ghost use Rattle.model.specs.Secondary.{SecondaryHistory};
@@ -63,7 +64,8 @@ impl<
     ///
     /// `BadSetting` (15), `UsedIdentifier` (33) and the refusals of the hello (30 to 33) come as for the nodes;
     /// `NoMemory` (7) if there is no memory, and if a thread cannot be started. Then nothing runs, and all that was
-    /// handed over is dropped.
+    /// handed over is dropped. The contract, which sees each node by itself, says besides that 11, 12, 13, 18, 20 to 25, 34
+    /// and 35 may come, and no other (`start_refuses`).
     pub fn start(
         rt: R,
         alloc: Global,
@@ -76,6 +78,7 @@ impl<
         requires there { AreEndsOf L.link names.There there }
         requires back { AreEndsOf L.link names.Back back }
         requires opening { L.opening ≡ opening_of parts (slice_get (S.contents local)) (slice_get (T.contents peer)) }
+        ensures refused { IfErr result (λ e. start_refuses e ≡ true) }
     {
         let (local_ends, peer_ends) = named_ends::<R, L>(there, back);
         let local = LocalHalf::open(
@@ -116,11 +119,12 @@ impl<R: Threads + Wait + Clock + Drop, L: Linked, S: Store + Drop, T: Store + Dr
     }
 
     /// Writes whole blocks from `first` on, and returns the receipt once the write is completed as the protocol says:
-    /// `Device::write` of the mirror, with its refusals. A primary that began as the session did accepted these bytes under
+    /// `Device::write` of the mirror, with its refusals, 1, 5 to 8, 12 and 16. A primary that began as the session did accepted these bytes under
     /// the receipt's number.
     pub fn write(&self, first: u64, bytes: &Bytes) -> Result<Receipt, Refusal>
         ensures own { IfOk result (λ receipt. (receipt.first ≡ first) × (receipt.count * 4096 ≡ length bytes.now)) }
         ensures accepted { IfOk result (λ receipt. HasAccepted (Some L.opening) receipt.number first bytes.now) }
+        ensures refused { IfErr result (λ e. write_refuses e ≡ true) }
     {
         self.running.mirror().write(first, bytes)
     }
@@ -141,10 +145,12 @@ impl<R: Threads + Wait + Clock + Drop, L: Linked, S: Store + Drop, T: Store + Dr
         self.running.mirror().cut();
     }
 
-    /// Opens both ends again under fresh words, and returns the connection's number: `Device::reconnect` of the mirror, with
-    /// its refusals.
-    pub fn reconnect(&self, sync: u64, loss: u64) -> Result<u32, Refusal> {
-        self.running.mirror().reconnect(sync, loss)
+    /// Opens both ends again under fresh words, and returns the connection's number, as `Device::reconnect` of the mirror does.
+    /// The session goes over a link, so `NotConnected` (12) does not come: its refusals are 36, 33, 6 and 7.
+    pub fn reconnect(&self, sync: u64, loss: u64) -> Result<u32, Refusal>
+        ensures refused { IfErr result (λ e. reopen_refuses e ≡ true) }
+    {
+        self.running.mirror().reconnect_over_link(sync, loss)
     }
 
     /// Ends the session: cuts the link, lets the disks finish all pending work, stops the threads, and returns both

@@ -1,7 +1,8 @@
 //! A session whose frames go over streams of bytes, such as sockets.
-ghost use Rattle.std.specs.Prelude.{◌≡◌, ◌<◌, ◌≤◌, ◌⊎◌, ◌*◌, false, length, slice_get, unwrap_or, vec_len, IfErr, IfOk, IfSome, IsTrue};
-ghost use Rattle.blocks.specs.declared.refusal.Refusal.TheVariants.{BadRange, NoMemory, NotDrained, ReadFault};
+ghost use Rattle.std.specs.Prelude.{◌≡◌, ◌<◌, ◌≤◌, ◌⊎◌, ◌*◌, true, false, Err, length, slice_get, unwrap_or, vec_len, IfErr, IfOk, IfSome, IsTrue};
+ghost use Rattle.blocks.specs.declared.refusal.Refusal.TheVariants.{BadRange, NoMemory, NotConnected, NotDrained, ReadFault};
 ghost use Rattle.halves.specs.Opening.{opening_of};
+ghost use Rattle.model.specs.CallRefusals.{local_open_refuses, peer_open_refuses, start_over_refuses, write_refuses};
 ghost use Rattle.model.specs.Primary.{primary_opening};
 ghost use Rattle.model.specs.Secondary.{secondary_opening};
 ghost use Rattle.model.specs.Theorems.{primary_at, secondary_at};
@@ -57,7 +58,7 @@ impl<
     /// `BadSetting` (15), `UsedIdentifier` (33) and the refusals of the hello (30 to 33) come as for the nodes;
     /// `NotConnected` (12) if a way ends during the hello; 20 to 25, 34 or 35 if foreign bytes arrive over it;
     /// `NoMemory` (7) if there is no memory, and if a thread cannot be started. Then nothing runs, and all that was
-    /// handed over is dropped.
+    /// handed over is dropped. The contract says besides that 18 may come, and no other (`start_over_refuses`).
     pub fn start_over<W: Sink, D: Source, V: Sink, E: Source>(
         rt: R,
         alloc: Global,
@@ -67,6 +68,7 @@ impl<
         ways: Ways<Way<W, D>, Way<V, E>>,
     ) -> Result<WireSession<R, B, S, T>, Refusal>
         requires opening { IfSome B.opening (λ opening. opening ≡ opening_of parts (slice_get (S.contents local)) (slice_get (T.contents peer))) }
+        ensures refused { IfErr result (λ e. start_over_refuses e ≡ true) }
     {
         parts.settings.check()?;
         let words = ConnectionWords {
@@ -115,6 +117,7 @@ fn open_local<R: Wait + Copy + Drop, B: Beginning, S: Store + Drop>(
     requires link { 0 < settings.link }
     requires began { IfSome B.opening (λ opening. primary_opening settings (slice_get (S.contents store)) tuple (λ block. unwrap_or (slice_get marks block) false)
         ≡ primary_at opening) }
+    ensures refused { IfErr result (λ e. local_open_refuses e ≡ true) }
 {
     let (ends, rows) = half_rows(rt, alloc, settings.link)?;
     match LocalHalf::open(rt, alloc, settings, store, tuple, marks, ends, words) {
@@ -133,6 +136,7 @@ fn open_peer<R: Wait + Copy + Drop, B: Beginning, T: Store + Drop>(
 ) -> Result<(WirePeer<R, B, T>, PumpEnds<R>), Refusal>
     requires link { 0 < settings.link }
     requires began { IfSome B.opening (λ opening. secondary_opening settings (slice_get (T.contents store)) tuple ≡ secondary_at opening) }
+    ensures refused { IfErr result (λ e. peer_open_refuses e ≡ true) }
 {
     let (ends, rows) = half_rows(rt, alloc, settings.link)?;
     match PeerHalf::open(rt, alloc, settings, store, tuple, ends) {
@@ -153,11 +157,12 @@ impl<R: Threads + Wait + Clock + Drop, B: Beginning, S: Store + Drop, T: Store +
     }
 
     /// Writes whole blocks from `first` on, and returns the receipt once the write is completed as the protocol says:
-    /// `Device::write` of the mirror, with its refusals. A primary that began as the session did accepted these bytes under
+    /// `Device::write` of the mirror, with its refusals, 1, 5 to 8, 12 and 16. A primary that began as the session did accepted these bytes under
     /// the receipt's number.
     pub fn write(&self, first: u64, bytes: &Bytes) -> Result<Receipt, Refusal>
         ensures own { IfOk result (λ receipt. (receipt.first ≡ first) × (receipt.count * 4096 ≡ length bytes.now)) }
         ensures accepted { IfOk result (λ receipt. HasAccepted B.opening receipt.number first bytes.now) }
+        ensures refused { IfErr result (λ e. write_refuses e ≡ true) }
     {
         self.running.mirror().write(first, bytes)
     }
@@ -178,9 +183,12 @@ impl<R: Threads + Wait + Clock + Drop, B: Beginning, S: Store + Drop, T: Store +
         self.running.mirror().cut();
     }
 
-    /// Returns `NotConnected` (12), since a session over streams has one connection: `Device::reconnect` of the mirror.
-    pub fn reconnect(&self, sync: u64, loss: u64) -> Result<u32, Refusal> {
-        self.running.mirror().reconnect(sync, loss)
+    /// Returns `NotConnected` (12), whatever the words are, since a session over streams has one connection: `Device::reconnect`
+    /// of the mirror does so, too.
+    pub fn reconnect(&self, _sync: u64, _loss: u64) -> Result<u32, Refusal>
+        ensures refused { result ≡ Err NotConnected }
+    {
+        Err(Refusal::NotConnected)
     }
 
     /// Ends the session: closes both ends, lets the disks finish all pending work, stops the threads, and returns both

@@ -1,6 +1,8 @@
-use Rattle.std.proofs.Common.{sym, ap}
+use Rattle.std.proofs.Common.{◌≡◌, ◌||◌, Bool, true, false, refl, sym, ap}
 use Rattle.std.proofs.lemmas.Option.{IfSome_then}
 use Rattle.model.specs.Theorems.{primary_at, secondary_at}
+use Rattle.blocks.specs.declared.refusal.Refusal.{Refusal}
+use Rattle.model.specs.CallRefusals.{local_open_refuses, start_over_refuses, streams_hello_refuses}
 use Rattle.wire_session.proofs.wire.WireSession.start_over.Goals as goal
 
 pub open_local-requires-clause-began : goal.open_local-requires-clause-began
@@ -8,3 +10,14 @@ open_local-requires-clause-began g c = IfSome_then g.B.Beginning.opening c.requi
 
 pub open_peer-requires-clause-began : goal.open_peer-requires-clause-began
 open_peer-requires-clause-began g c = IfSome_then g.B.Beginning.opening c.requires.opening (λ opening is. sym (ap secondary_at is))
+
+-- what the hello may refuse, the start may refuse
+of-hello : (e : Refusal) → streams_hello_refuses e ≡ true → start_over_refuses e ≡ true
+of-hello e = go (local_open_refuses e) (streams_hello_refuses e)
+  where
+    go : (a b : Bool) → b ≡ true → (a || b) ≡ true
+    go true b is = refl
+    go false b is = is
+
+pub returns-in-Err-start_over : goal.returns-in-Err-start_over
+returns-in-Err-start_over g c = record { refused = of-hello c.in-Err-start_over.refusal c.in-Err-start_over.ensures.refused }
