@@ -10,21 +10,23 @@ use Rattle.blocks.specs.declared.refusal.Refusal.TheVariants.{ReadFault, Strange
 use Rattle.model.specs.Headline.{IsJoined, Cover, opening_marked}
 use Rattle.model.specs.LocalRuns.{primary_run, secondary_run}
 use Rattle.model.specs.Pair.{same_block}
-use Rattle.model.specs.Primary.{PrimaryHistory, items_sent, primary_connection}
+use Rattle.model.specs.Primary.{Completion, PrimaryHistory, items_sent, primary_connection}
 use Rattle.model.specs.Refusals.{first_refusal}
 use Rattle.model.specs.Secondary.{SecondaryConnection, SecondaryHistory, no_secondary_connection, secondary_connection, secondary_connection_at, items_taken}
-use Rattle.model.specs.Settlement.{Receipt, Settlement, applied_items, has_strange, is_at_rest, settlement, settle, unmarked_differences}
+use Rattle.model.specs.Settlement.{Receipt, Settlement, applied_items, has_strange, is_at_rest, receipt_of, same_receipt, settlement, settle, unmarked_differences}
 use Rattle.model.specs.Theorems.{Opening, primary_at, secondary_at, marks_at, IsSoundOpening, Settles, SettlesAnyhow}
 use Rattle.model.specs.WriteOrder.{KeepsWriteOrder, IsUnharmed}
 use Rattle.laws.proofs.Theorems.Joined.{joined_settles, joined_settles_anyhow}
 use Rattle.laws.proofs.Theorems.WriteOrder.{joined_write_order}
+use Rattle.laws.proofs.Joining.Settlement.{given-once, known, receipts-same}
+use Rattle.laws.proofs.Lists.Picks.{pick-any}
 use Rattle.laws.proofs.Joining.Openings.{kept-opening-primary, kept-opening-secondary}
 use Rattle.laws.proofs.Lists.Elements.{same-at}
 use Rattle.laws.proofs.Lists.Last.{last-at}
 use Rattle.laws.proofs.Secondary.Numbers.{NumbersRise, numbers-rise, secondary-connection-there, secondary-connection-cases}
 use Rattle.primary_protocol.specs.Steps as primary
 use Rattle.secondary_protocol.specs.Node as secondary
-use Rattle.settle.specs.Settled.{WereHonest, kept}
+use Rattle.settle.specs.Settled.{AreEntries, WereHonest, kept}
 
 -- The connection of a number.
 
@@ -202,3 +204,20 @@ pub keeps-order : (p : PrimaryHistory) (s : SecondaryHistory) → primary.IsReac
     → KeepsWriteOrder p s
 keeps-order p s rp rs honest = of-runs (λ q t. IsJoined q t → IsUnharmed q t → KeepsWriteOrder q t) p s rp rs
     (joined_write_order (reached_from p s rp rs) rp.events rs.events (sound-opening p s rp rs honest))
+
+-- receipts of which none is strange
+pub entries-by : (p : PrimaryHistory) (receipts : List Receipt) (found : Bool) → found ≡ true → found ≡ not (has_strange p.journal [] receipts)
+    → AreEntries p receipts
+entries-by p receipts found given is = record {
+  each = λ i receipt at.
+      let any = pick-any (λ (entry : Completion). same_receipt (receipt_of entry) receipt) p.journal (known p.journal [] receipts none i receipt at).0 in
+      (any.0, any.1, any.2, sym (receipts-same (receipt_of any.1) receipt any.3));
+  once = given-once p.journal [] receipts none;
+}
+  where
+    turned : (b : Bool) → true ≡ not b → b ≡ false
+    turned true is = absurd (cc)
+    turned false is = refl
+
+    none : has_strange p.journal [] receipts ≡ false
+    none = turned (has_strange p.journal [] receipts) (sym given ∙ is)

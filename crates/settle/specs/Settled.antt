@@ -1,11 +1,11 @@
 -- A settlement as its caller sees it, in plain values.
-use Rattle.std.specs.Prelude.{ℕ, Bool, true, false, [], ◌∷◌, Result, Ok, Err}
+use Rattle.std.specs.Prelude.{ℕ, ◌≡◌, Bool, true, false, List, [], ◌∷◌, Some, slice_get, Result, Ok, Err}
 use Rattle.blocks.specs.declared.refusal.Refusal.{Refusal}
 use Rattle.blocks.specs.declared.refusal.Refusal.TheVariants.{ReadFault}
-use Rattle.model.specs.Primary.{PrimaryHistory}
+use Rattle.model.specs.Primary.{Completion, PrimaryHistory}
 use Rattle.model.specs.Secondary.{SecondaryHistory, secondary_connection}
 use Rattle.model.specs.Headline.{IsHonest, opening_marked}
-use Rattle.model.specs.Settlement.{Settlement}
+use Rattle.model.specs.Settlement.{Receipt, Settlement, receipt_of}
 use Rattle.model.specs.Theorems.{Opening, marks_at}
 use Rattle.settle.specs.declared.settlement.Confirmed.{Confirmed}
 use Rattle.settle.specs.declared.settlement.Settled.{Settled}
@@ -45,3 +45,10 @@ WasHonest o = IsHonest o.own o.peer_tuple (marks_at o) o.local o.peer
 -- A secondary's history with its last connection alone, the only one whose numbers are kept.
 abbrev pub kept : SecondaryHistory → SecondaryHistory
 kept s = record s { connections = secondary_connection s ∷ [] }
+
+-- Each receipt is that of an entry of the primary's journal: its number, its range, its kind and its home. None is given twice, and so no
+-- two are of the same entry.
+pub record AreEntries (p : PrimaryHistory) (receipts : List Receipt) : Type 0 where
+  pub each : (i : ℕ) (receipt : Receipt) → slice_get receipts i ≡ Some receipt
+      → (n : ℕ) × (entry : Completion) × (slice_get p.journal n ≡ Some entry) × (receipt ≡ receipt_of entry)
+  pub once : (i j : ℕ) (receipt : Receipt) → slice_get receipts i ≡ Some receipt → slice_get receipts j ≡ Some receipt → i ≡ j

@@ -11,7 +11,7 @@ ghost use Rattle.primary.specs.State.{node as primary_node};
 ghost use Rattle.primary_protocol.specs.Node.{NodeHas as PrimaryHas};
 ghost use Rattle.secondary.specs.State.{node as secondary_node};
 ghost use Rattle.secondary_protocol.specs.Node.{NodeHas as SecondaryHas};
-ghost use Rattle.settle.specs.Settled.{WereHonest, compared, is_read_fault, kept, numbers, settled, with_unmarked};
+ghost use Rattle.settle.specs.Settled.{AreEntries, WereHonest, compared, is_read_fault, kept, numbers, settled, with_unmarked};
 
 use crate::compare::unmarked;
 use blocks::{Refusal, Store};
@@ -57,7 +57,8 @@ pub struct Confirmed {
 /// The secondary knows `taken` and `applied` of its own last connection alone. If that is numbered above the
 /// primary's last one, which no session brings about, both are 0.
 ///
-/// Of joined nodes that began with honest identifiers it says all that is promised of a mirror: what a completed write has at the
+/// Of any two nodes it says that they are at rest (`rest`), and that each receipt is that of an entry of the primary's journal, none
+/// given twice (`entries`). Of joined nodes that began with honest identifiers it says all that is promised of a mirror: what a completed write has at the
 /// peer (`settles`), that no difference is lost (`settles`), and that the peer's disk has an order of writes (`order`).
 pub fn settle<
     O: FrameOut + Drop,
@@ -91,6 +92,9 @@ pub fn settle<
     ensures anyhow { secondary.old.core.number ≤ primary.old.core.connections
         → IfOk result (λ n. IsTrue primary.new.faithful → IsTrue secondary.new.faithful → (p : PrimaryHistory) (s : SecondaryHistory) → PrimaryHas (primary_node primary.old) p → SecondaryHas (secondary_node secondary.old) s
         → IsJoined p s → SettlesAnyhow p s receipts.now (numbers n)) }
+    ensures rest { OnOk result ((p : PrimaryHistory) (s : SecondaryHistory) → PrimaryHas (primary_node primary.old) p → SecondaryHas (secondary_node secondary.old) s
+        → is_at_rest p s ≡ true) }
+    ensures entries { OnOk result ((p : PrimaryHistory) → PrimaryHas (primary_node primary.old) p → AreEntries p receipts.now) }
     ensures order { OnOk result ((p : PrimaryHistory) (s : SecondaryHistory) → PrimaryHas (primary_node primary.old) p → SecondaryHas (secondary_node secondary.old) s
         → IsJoined p s → WereHonest p s → IsUnharmed p s → KeepsWriteOrder p s) }
 {
@@ -117,7 +121,7 @@ pub fn settle<
 /// disk has done or failed every write; else `StrangeReceipt` (19) if a receipt matches no entry of the journal, or
 /// is given twice. It changes neither node, and takes no memory; it takes time for each receipt and each accepted write.
 ///
-/// It says what `settle` says of two disks: that no difference is lost follows from both histories, and needs no comparison.
+/// Of any two nodes it says what `settle` does (`rest`, `entries`), and of joined ones what `settle` says of two disks: that no difference is lost follows from both histories, and needs no comparison.
 pub fn confirm<
     O: FrameOut + Drop,
     I: FrameIn + Drop,
@@ -142,6 +146,9 @@ pub fn confirm<
     ensures anyhow { secondary.now.core.number ≤ primary.old.core.connections
         → IfOk result (λ n. (p : PrimaryHistory) (s : SecondaryHistory) → PrimaryHas (primary_node primary.old) p → SecondaryHas (secondary_node secondary.now) s
         → IsJoined p s → SettlesAnyhow p s receipts.now (with_unmarked (unmarked_differences p s) n)) }
+    ensures rest { OnOk result ((p : PrimaryHistory) (s : SecondaryHistory) → PrimaryHas (primary_node primary.old) p → SecondaryHas (secondary_node secondary.now) s
+        → is_at_rest p s ≡ true) }
+    ensures entries { OnOk result ((p : PrimaryHistory) → PrimaryHas (primary_node primary.old) p → AreEntries p receipts.now) }
 {
     if !is_at_rest(primary, secondary) {
         return Err(Refusal::NotDrained);

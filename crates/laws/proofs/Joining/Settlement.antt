@@ -42,7 +42,7 @@ homes-same (Some a) (Some b) same =
     ap (λ (n : ℕ). let pair : StreamPosition = record { index = n; place = a.place } in Some pair) (eqb-true a.index b.index parts.0)
     ∙ ap (λ (n : ℕ). let pair : StreamPosition = record { index = b.index; place = n } in Some pair) (eqb-true a.place b.place parts.1)
 
-receipts-same : (a b : Receipt) → same_receipt a b ≡ true → a ≡ b
+pub receipts-same : (a b : Receipt) → same_receipt a b ≡ true → a ≡ b
 receipts-same a b same =
     let parts = and_parts ((a.number == b.number) && (a.first == b.first)) ((a.count == b.count) && (same_kind a.kind b.kind && same_home a.home b.home))
     same in
@@ -69,7 +69,7 @@ receipt-itself a = and_from _ _ (and_from _ _ (eq-eqb a.number a.number refl) (e
 
 -- Where no receipt is strange, each is that of an entry, and none was given before.
 
-known : (journal : List Completion) (earlier receipts : List Receipt) → has_strange journal earlier receipts ≡ false → (i : ℕ) (receipt : Receipt)
+pub known : (journal : List Completion) (earlier receipts : List Receipt) → has_strange journal earlier receipts ≡ false → (i : ℕ) (receipt : Receipt)
     → slice_get receipts i ≡ Some receipt
     → (list_any (λ entry. same_receipt (receipt_of entry) receipt) journal ≡ true) × (list_any (same_receipt receipt) earlier ≡ false)
 known journal earlier [] none i receipt at = absurd (cc)
@@ -96,7 +96,7 @@ not-first journal earlier receipts first receipt none n at is =
     (known journal (first ∷ earlier) receipts rest n receipt at).1).0 in
     both_ways (same_receipt receipt first) new (subst (λ (r : Receipt). same_receipt receipt r ≡ true) (sym is) (receipt-itself receipt))
 
-given-once : (journal : List Completion) (earlier receipts : List Receipt) → has_strange journal earlier receipts ≡ false → (i j : ℕ) (receipt : Receipt)
+pub given-once : (journal : List Completion) (earlier receipts : List Receipt) → has_strange journal earlier receipts ≡ false → (i j : ℕ) (receipt : Receipt)
     → slice_get receipts i ≡ Some receipt → slice_get receipts j ≡ Some receipt → i ≡ j
 given-once journal earlier [] none i j receipt at too = absurd (cc)
 given-once journal earlier (first ∷ receipts) none zero zero receipt at too = refl
