@@ -20,7 +20,7 @@ use Rattle.run_threads.specs.Plan.{AreOfPlan}
 use Rattle.secondary.specs.State.{SecondaryView}
 use Rattle.session_nodes.specs.Primaries.{HasAccepted, PrimaryHas, PrimaryIsHad}
 use Rattle.session_nodes.specs.Secondaries.{SecondaryHas, SecondaryIsHad}
-use Rattle.session_run.specs.Outcome.{HasSettled, IsLinked, IsNumber, IsOpening, IsOutcome, IsRun}
+use Rattle.session_run.specs.Outcome.{AreAtRest, HasSettled, IsLinked, IsNumber, IsOpening, IsOutcome, IsRun}
 use Rattle.session_run.specs.declared.report.Report.{Report}
 use Rattle.settle.proofs.Openings.{were-honest}
 use Rattle.settle.proofs.Settling.{keeps-order}
@@ -54,17 +54,18 @@ pub outcome-of : (options : RunOptions) (o : Opening) (result : Result Report Re
     → IfOk result (λ report. IfOk worked (λ receipts. report.completed ≡ vec_len receipts))
     → IfOk result (λ report. IfOk worked (λ receipts. IfOk ended (λ nodes. IsNumber (λ n. n.confirmed) nodes.0 nodes.1 receipts.items report.confirmed)))
     → IfOk result (λ report. IfOk worked (λ receipts. IfOk ended (λ nodes. IsNumber (λ n. n.unmarked) nodes.0 nodes.1 receipts.items report.unmarked)))
+    → IfOk result (λ report. IfOk worked (λ receipts. IfOk ended (λ nodes. AreAtRest nodes.0 nodes.1 receipts.items)))
     → IfOk result (λ report. IfOk worked (λ receipts. IfOk ended (λ nodes. nodes.1.core.number ≤ nodes.0.core.connections
     → HasSettled nodes.0 nodes.1 receipts.items report.confirmed report.unmarked)))
     → IfOk result (λ report. IfOk ended (λ nodes. (report.disks.local ≡ nodes.0.disk) × (report.disks.peer ≡ nodes.1.disk) × IsTrue nodes.0.faithful))
     → IfOk ended (λ nodes. PrimaryIsHad (Some o) nodes.0 × SecondaryIsHad (Some o) nodes.1)
     → IfOk ended (λ nodes. nodes.1.core.number ≤ nodes.0.core.connections) → IfOk result (IsOutcome options o)
-outcome-of options o (Err refusal) worked ended honest unparted done planned count confirmed unmarked settles disks had numbered = tt
-outcome-of options o (Ok report) (Err refusal) ended honest unparted done planned count confirmed unmarked settles disks had numbered =
+outcome-of options o (Err refusal) worked ended honest unparted done planned count confirmed unmarked rest settles disks had numbered = tt
+outcome-of options o (Ok report) (Err refusal) ended honest unparted done planned count confirmed unmarked rest settles disks had numbered =
     absurd (let wrong : false ≡ true = done.0 in cc (wrong))
-outcome-of options o (Ok report) (Ok receipts) (Err refusal) honest unparted done planned count confirmed unmarked settles disks had numbered =
+outcome-of options o (Ok report) (Ok receipts) (Err refusal) honest unparted done planned count confirmed unmarked rest settles disks had numbered =
     absurd (let wrong : false ≡ true = done.1 in cc (wrong))
-outcome-of options o (Ok report) (Ok receipts) (Ok nodes) honest unparted done planned count confirmed unmarked settles disks had numbered =
+outcome-of options o (Ok report) (Ok receipts) (Ok nodes) honest unparted done planned count confirmed unmarked rest settles disks had numbered =
     let p = had.0 in
     let s = had.1 in
     let here : PrimaryHas nodes.0 (primary_run p.began.0 (primary_at o)) = subst (PrimaryHas nodes.0) p.began.1 p.has in
@@ -78,6 +79,8 @@ outcome-of options o (Ok report) (Ok receipts) (Ok nodes) honest unparted done p
       completed = omega (arith, count, receipts.ok);
       confirmed = confirmed (primary_run p.began.0 (primary_at o)) (secondary_run s.began.0 (secondary_at o)) here.has there.has;
       unmarked = unmarked (primary_run p.began.0 (primary_at o)) (secondary_run s.began.0 (secondary_at o)) here.has there.has;
+      rest = (rest (primary_run p.began.0 (primary_at o)) (secondary_run s.began.0 (secondary_at o)) here.has there.has).0;
+      entries = (rest (primary_run p.began.0 (primary_at o)) (secondary_run s.began.0 (secondary_at o)) here.has there.has).1;
       settles = λ joined.
           let settled = settles numbered (primary_run p.began.0 (primary_at o)) (secondary_run s.began.0 (secondary_at o)) here.has there.has joined were in
           subst (Settles (primary_run p.began.0 (primary_at o)) (secondary_run s.began.0 (secondary_at o)) receipts.items) settled.1.0.exact settled.1.0;
@@ -97,6 +100,7 @@ pub linked-of : (options : RunOptions) (o : Opening) (result : Result Report Ref
     → IfOk result (λ report. IfOk worked (λ receipts. report.completed ≡ vec_len receipts))
     → IfOk result (λ report. IfOk worked (λ receipts. IfOk ended (λ nodes. IsNumber (λ n. n.confirmed) nodes.0 nodes.1 receipts.items report.confirmed)))
     → IfOk result (λ report. IfOk worked (λ receipts. IfOk ended (λ nodes. IsNumber (λ n. n.unmarked) nodes.0 nodes.1 receipts.items report.unmarked)))
+    → IfOk result (λ report. IfOk worked (λ receipts. IfOk ended (λ nodes. AreAtRest nodes.0 nodes.1 receipts.items)))
     → IfOk result (λ report. IfOk worked (λ receipts. IfOk ended (λ nodes. nodes.1.core.number ≤ nodes.0.core.connections
     → HasSettled nodes.0 nodes.1 receipts.items report.confirmed report.unmarked)))
     → IfOk result (λ report. IfOk ended (λ nodes. (report.disks.local ≡ nodes.0.disk) × (report.disks.peer ≡ nodes.1.disk) × IsTrue nodes.0.faithful))
@@ -105,13 +109,13 @@ pub linked-of : (options : RunOptions) (o : Opening) (result : Result Report Ref
     → IfOk ended (λ nodes. (p : PrimaryHistory) (s : SecondaryHistory) → PrimaryHas nodes.0 p → SecondaryHas nodes.1 s → IsJoined p s)
     → IfOk result (IsLinked options o)
 unfolding outcome-of
-linked-of options o (Err refusal) worked ended honest unparted done planned count confirmed unmarked settles disks had numbered joined = tt
-linked-of options o (Ok report) (Err refusal) ended honest unparted done planned count confirmed unmarked settles disks had numbered joined =
+linked-of options o (Err refusal) worked ended honest unparted done planned count confirmed unmarked rest settles disks had numbered joined = tt
+linked-of options o (Ok report) (Err refusal) ended honest unparted done planned count confirmed unmarked rest settles disks had numbered joined =
     absurd (let wrong : false ≡ true = done.0 in cc (wrong))
-linked-of options o (Ok report) (Ok receipts) (Err refusal) honest unparted done planned count confirmed unmarked settles disks had numbered joined =
+linked-of options o (Ok report) (Ok receipts) (Err refusal) honest unparted done planned count confirmed unmarked rest settles disks had numbered joined =
     absurd (let wrong : false ≡ true = done.1 in cc (wrong))
-linked-of options o (Ok report) (Ok receipts) (Ok nodes) honest unparted done planned count confirmed unmarked settles disks had numbered joined = record {
-  outcome = outcome-of options o (Ok report) (Ok receipts) (Ok nodes) honest unparted done planned count confirmed unmarked settles disks had numbered;
+linked-of options o (Ok report) (Ok receipts) (Ok nodes) honest unparted done planned count confirmed unmarked rest settles disks had numbered joined = record {
+  outcome = outcome-of options o (Ok report) (Ok receipts) (Ok nodes) honest unparted done planned count confirmed unmarked rest settles disks had numbered;
   joined = joined _ _ (subst (PrimaryHas nodes.0) had.0.began.1 had.0.has) (subst (SecondaryHas nodes.1) had.1.began.1 had.1.has);
 }
 

@@ -1,5 +1,5 @@
 -- The outcome of a session, as the model's settlement of its nodes has it.
-use Rattle.std.specs.Prelude.{ℕ, ◌≡◌, ◌*◌, false, List, Option, Some, length, slice_get}
+use Rattle.std.specs.Prelude.{ℕ, ◌≡◌, ◌*◌, true, false, List, Option, Some, length, slice_get}
 use Rattle.std.specs.Io.KnownBytes.{Appends}
 use Rattle.std.specs.List.{list_any}
 use Rattle.blocks.specs.Contents.{blocks_of}
@@ -10,7 +10,7 @@ use Rattle.model.specs.Headline.{IsJoined}
 use Rattle.model.specs.LocalRuns.{PrimaryEvent, SecondaryEvent, primary_run, secondary_run}
 use Rattle.model.specs.Primary.{PrimaryHistory, is_failed, local_map}
 use Rattle.model.specs.Secondary.{SecondaryHistory, secondary_map}
-use Rattle.model.specs.Settlement.{Receipt, Settlement, settlement}
+use Rattle.model.specs.Settlement.{Receipt, Settlement, is_at_rest, settlement}
 use Rattle.model.specs.Theorems.{Opening, Settles, primary_at, secondary_at}
 use Rattle.model.specs.WriteOrder.{KeepsWriteOrder}
 use Rattle.options.specs.declared.run.Path.TheVariants as path
@@ -23,7 +23,7 @@ use Rattle.secondary.specs.State.{SecondaryView, node as secondary_node}
 use Rattle.secondary_protocol.specs.Node.{NodeHas as SecondaryHas}
 use Rattle.session_nodes.specs.Primaries.{HasAccepted}
 use Rattle.session_run.specs.declared.report.Report.{Report}
-use Rattle.settle.specs.Settled.{WereHonest}
+use Rattle.settle.specs.Settled.{AreEntries, WereHonest}
 
 -- This number is that of the settlement with these receipts, for all histories that the two nodes have.
 abbrev pub IsNumber : (Settlement → ℕ) → PrimaryView → SecondaryView → List Receipt → ℕ → Type 0
@@ -37,6 +37,13 @@ abbrev pub HasSettled : PrimaryView → SecondaryView → List Receipt → ℕ �
 HasSettled primary secondary receipts confirmed unmarked =
     (p : PrimaryHistory) (s : SecondaryHistory) → PrimaryHas (primary_node primary) p → SecondaryHas (secondary_node secondary) s → IsJoined p s
     → WereHonest p s → (numbers : Settlement) × (Settles p s receipts numbers × ((confirmed ≡ numbers.confirmed) × (unmarked ≡ numbers.unmarked)))
+
+-- For all histories that the two nodes have, joined or not: they are at rest, and the receipts are those of entries of the primary's
+-- journal.
+abbrev pub AreAtRest : PrimaryView → SecondaryView → List Receipt → Type 0
+AreAtRest primary secondary receipts =
+    (p : PrimaryHistory) (s : SecondaryHistory) → PrimaryHas (primary_node primary) p → SecondaryHas (secondary_node secondary) s
+    → (is_at_rest p s ≡ true) × AreEntries p receipts
 
 -- the identifiers of both disks where they are the same, and of an unknown disk
 abbrev pub first : Tuple
@@ -58,8 +65,8 @@ pub record IsOpening (chosen : Settings) (local_image peer_image : List ℕ) (o 
   pub marks : (block : ℕ) → o.marks block ≡ false
 
 -- What a run comes to: two runs of the model, one of each node, from the opening. Each receipt is that of a planned write, which the
--- primary accepted with the bytes of the plan. The report has the numbers of the settlement with all of them, and the disks that the
--- runs lead to. If the runs are joined, the settlement says all that the theorem on joined nodes says of one, and if no local write
+-- primary accepted with the bytes of the plan, and each is that of an entry of the journal to which the primary's run leads, none given
+-- twice. Both runs lead to rest. The report has the numbers of the settlement with all receipts, and the disks that the runs lead to. If the runs are joined, the settlement says all that the theorem on joined nodes says of one, and if no local write
 -- failed besides, the peer's disk has an order of writes while it calls itself consistent.
 pub record IsOutcome (options : RunOptions) (o : Opening) (report : Report) : Type 0 where
   pub here : List PrimaryEvent
@@ -69,6 +76,8 @@ pub record IsOutcome (options : RunOptions) (o : Opening) (report : Report) : Ty
   pub completed : report.completed ≡ length receipts
   pub confirmed : report.confirmed ≡ (settlement (primary_run here (primary_at o)) (secondary_run there (secondary_at o)) receipts).confirmed
   pub unmarked : report.unmarked ≡ (settlement (primary_run here (primary_at o)) (secondary_run there (secondary_at o)) receipts).unmarked
+  pub rest : is_at_rest (primary_run here (primary_at o)) (secondary_run there (secondary_at o)) ≡ true
+  pub entries : AreEntries (primary_run here (primary_at o)) receipts
   pub settles : IsJoined (primary_run here (primary_at o)) (secondary_run there (secondary_at o))
       → Settles (primary_run here (primary_at o)) (secondary_run there (secondary_at o)) receipts
       (settlement (primary_run here (primary_at o)) (secondary_run there (secondary_at o)) receipts)

@@ -1,6 +1,6 @@
 //! The outcome of a session.
 ghost use Rattle.std.specs.Prelude.{◌≡◌, ◌≤◌, ◌*◌, ◌↔◌, vec_len, IfOk, IsOk, IsTrue, Some};
-ghost use Rattle.session_run.specs.Outcome.{HasSettled, IsNumber};
+ghost use Rattle.session_run.specs.Outcome.{AreAtRest, HasSettled, IsNumber};
 
 use crate::fault::Fault;
 use crate::parts::Disks;
@@ -70,6 +70,7 @@ pub(crate) fn conclude<
     ensures count { IfOk result (λ report. IfOk worked (λ receipts. report.completed ≡ vec_len receipts)) }
     ensures confirmed { IfOk result (λ report. IfOk worked (λ receipts. IfOk ended (λ nodes. IsNumber (λ n. n.confirmed) nodes.0 nodes.1 receipts.items report.confirmed))) }
     ensures unmarked { IfOk result (λ report. IfOk worked (λ receipts. IfOk ended (λ nodes. IsNumber (λ n. n.unmarked) nodes.0 nodes.1 receipts.items report.unmarked))) }
+    ensures rest { IfOk result (λ report. IfOk worked (λ receipts. IfOk ended (λ nodes. AreAtRest nodes.0 nodes.1 receipts.items))) }
     ensures settles { IfOk result (λ report. IfOk worked (λ receipts. IfOk ended (λ nodes. nodes.1.core.number ≤ nodes.0.core.connections
         → HasSettled nodes.0 nodes.1 receipts.items report.confirmed report.unmarked))) }
     ensures disks { IfOk result (λ report. IfOk ended (λ nodes. (report.disks.local ≡ nodes.0.disk) × (report.disks.peer ≡ nodes.1.disk) × IsTrue nodes.0.faithful)) }
@@ -103,6 +104,7 @@ fn settled_by<O: FrameOut + Drop, I: FrameIn + Drop, P: FrameOut + Drop, J: Fram
     ensures count { IfOk result (λ settled. IfOk worked (λ receipts. settled.0 ≡ vec_len receipts)) }
     ensures confirmed { IfOk result (λ settled. IfOk worked (λ receipts. IsNumber (λ n. n.confirmed) primary.old secondary.old receipts.items settled.1.confirmed)) }
     ensures unmarked { IfOk result (λ settled. IfOk worked (λ receipts. IsNumber (λ n. n.unmarked) primary.old secondary.old receipts.items settled.1.unmarked)) }
+    ensures rest { IfOk result (λ settled. IfOk worked (λ receipts. AreAtRest primary.old secondary.old receipts.items)) }
     ensures settles { IfOk result (λ settled. IfOk worked (λ receipts. secondary.old.core.number ≤ primary.old.core.connections
         → HasSettled primary.old secondary.old receipts.items settled.1.confirmed settled.1.unmarked)) }
     ensures worked { IfOk result (λ _. IsOk worked) }

@@ -2,8 +2,8 @@ use Rattle.std.proofs.Common.{◌≡◌, ◌≤◌, List, false, refl, sym, ap, 
 use Rattle.std.specs.Prelude.{IfOk, IsTrue}
 use Rattle.model.specs.Settlement.{Receipt, Settlement, settlement}
 use Rattle.model.specs.Theorems.{Settles}
-use Rattle.settle.specs.Settled.{kept, numbers}
-use Rattle.session_run.specs.Outcome.{HasSettled, IsNumber}
+use Rattle.settle.specs.Settled.{AreEntries, kept, numbers}
+use Rattle.session_run.specs.Outcome.{AreAtRest, HasSettled, IsNumber}
 use Rattle.session_run.proofs.Outcome.{settled-numbers}
 use Rattle.session_run.proofs.report.settled_by.Goals as goal
 
@@ -30,4 +30,11 @@ returns-clause-settles g c = subst (λ w. IfOk w (λ receipts. c.args.secondary.
             (c.in_ok-settled.ensures.settles numbered (subst IsTrue c.store.ensures.faithful refl) (subst IsTrue c.store-2.ensures.faithful refl) p s hp hs joined honest),
         (refl, refl),
       ),
+    ))
+
+pub returns-clause-rest : goal.returns-clause-rest
+returns-clause-rest g c = subst (λ w. IfOk w (λ receipts. AreAtRest c.args.primary.now c.args.secondary.now receipts.items)) (sym c.in_ok-receipts.was)
+    (λ p s hp hs. (
+      c.in_ok-settled.ensures.rest p s hp hs,
+      subst (AreEntries p) c.as_slice.ensures.value (c.in_ok-settled.ensures.entries p hp),
     ))

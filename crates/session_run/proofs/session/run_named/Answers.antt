@@ -5,4 +5,4 @@ pub returns-in-Ok-clause-outcome : goal.returns-in-Ok-clause-outcome
 returns-in-Ok-clause-outcome g c =
     linked-of c.args.options.now g.L.Linked.opening c.conclude.result c.work-worked.result c.finish.result c.requires.honest c.requires.unparted
     c.conclude.ensures.done c.work-worked.ensures.plan c.conclude.ensures.count c.conclude.ensures.confirmed c.conclude.ensures.unmarked
-    c.conclude.ensures.settles c.conclude.ensures.disks c.finish.ensures.had c.finish.ensures.numbered c.finish.ensures.joined
+    c.conclude.ensures.rest c.conclude.ensures.settles c.conclude.ensures.disks c.finish.ensures.had c.finish.ensures.numbered c.finish.ensures.joined

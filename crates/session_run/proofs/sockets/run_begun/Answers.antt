@@ -13,6 +13,6 @@ returns-in-Ok-clause-outcome g c =
     c.work-worked.result c.finish.result c.requires.honest c.requires.unparted c.conclude.ensures.done
     (subst (λ o. IfOk c.work-worked.result (λ receipts. AreOfPlan (HasAccepted o) c.args.options.now receipts.items)) c.requires.opening
     c.work-worked.ensures.plan)
-    c.conclude.ensures.count c.conclude.ensures.confirmed c.conclude.ensures.unmarked c.conclude.ensures.settles c.conclude.ensures.disks
+    c.conclude.ensures.count c.conclude.ensures.confirmed c.conclude.ensures.unmarked c.conclude.ensures.rest c.conclude.ensures.settles c.conclude.ensures.disks
     (subst (λ o. IfOk c.finish.result (λ nodes. PrimaryIsHad o nodes.0 × SecondaryIsHad o nodes.1)) c.requires.opening c.finish.ensures.had)
     c.finish.ensures.numbered
