@@ -149,6 +149,8 @@ pub fn confirm<
     ensures rest { OnOk result ((p : PrimaryHistory) (s : SecondaryHistory) → PrimaryHas (primary_node primary.old) p → SecondaryHas (secondary_node secondary.now) s
         → is_at_rest p s ≡ true) }
     ensures entries { OnOk result ((p : PrimaryHistory) → PrimaryHas (primary_node primary.old) p → AreEntries p receipts.now) }
+    ensures order { OnOk result ((p : PrimaryHistory) (s : SecondaryHistory) → PrimaryHas (primary_node primary.old) p → SecondaryHas (secondary_node secondary.now) s
+        → IsJoined p s → WereHonest p s → IsUnharmed p s → KeepsWriteOrder p s) }
 {
     if !is_at_rest(primary, secondary) {
         return Err(Refusal::NotDrained);

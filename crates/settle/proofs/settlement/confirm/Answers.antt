@@ -5,7 +5,7 @@ use Rattle.primary.specs.State.{PrimaryView, node as primary_node}
 use Rattle.primary_protocol.specs.Node.{NodeHas as PrimaryHas}
 use Rattle.secondary.specs.State.{SecondaryView, node as secondary_node}
 use Rattle.secondary_protocol.specs.Node.{NodeHas as SecondaryHas}
-use Rattle.settle.proofs.Settling.{entries-by, kept-settles, settled-says, settled-says-anyhow}
+use Rattle.settle.proofs.Settling.{entries-by, keeps-order, kept-settles, settled-says, settled-says-anyhow}
 use Rattle.settle.proofs.settlement.confirm.Goals as goal
 
 -- a secondary's last connection is not numbered above the primary's last one
@@ -35,3 +35,6 @@ returns-clause-anyhow g c = λ least p s hp hs joined.
 
 pub returns-clause-entries : goal.returns-clause-entries
 returns-clause-entries g c = λ p hp. entries-by p c.args.receipts.now c.confirm-are_found.result c.if-not-are_found.false (c.confirm-are_found.ensures.found p hp)
+
+pub returns-clause-order : goal.returns-clause-order
+returns-clause-order g c = λ p s hp hs joined honest. keeps-order p s hp.reached hs.reached honest joined
