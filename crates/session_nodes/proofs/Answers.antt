@@ -21,6 +21,7 @@ use Rattle.std.specs.Result.{result_map_both}
 use Rattle.model.specs.Secondary.{SecondaryHistory, next_pending, secondary_opening}
 use Rattle.model.specs.SecondarySteps as step_too
 use Rattle.model.specs.Theorems.{Opening}
+use Rattle.laws.proofs.Rules.Memory.{first-open-refused}
 use Rattle.laws.proofs.Pair.CallRefusals.{applies-next, done-next, failed-next, fails-next, receipt-so, resync-fault-so, resync-so}
 use Rattle.primary_protocol.specs.Node as primary
 use Rattle.primary_protocol.specs.Steps as primary_steps
@@ -84,18 +85,7 @@ pub first-refused : (sync loss : ℕ) (out_of_memory : Bool) (settings : Setting
     → IfErr result (λ e. local_open_refuses e ≡ true)
 first-refused sync loss out_of_memory settings disk tuple marks v w result has steps =
     from_primary.if-refused (λ e. local_open_refuses e ≡ true) primary_steps.plainly result _
-    (steps.replies (primary_opening settings disk tuple marks) has) (go (are_fresh sync loss (tuple ∷ [])) out_of_memory)
-  where
-    h : PrimaryHistory
-    h = primary_opening settings disk tuple marks
-
-    go : (fresh short : Bool) (e : Refusal)
-        → (elim (first_refusal ((false, NotDrained) ∷ (not fresh, UsedIdentifier) ∷ (false, StreamFull) ∷ (short, NoMemory) ∷ [])) as
-        (λ _. Reply × PrimaryHistory) [ Some first ↦ (reply.Refused first, h) | None ↦ step.succeeding what.Nothing (step.opened h sync loss) ]).0
-        ≡ reply.Refused e → local_open_refuses e ≡ true
-    go false short e is = let one : UsedIdentifier ≡ e = cc in ap local_open_refuses (sym one)
-    go true true e is = let one : NoMemory ≡ e = cc in ap local_open_refuses (sym one)
-    go true false e is = absurd (cc)
+    (steps.replies (primary_opening settings disk tuple marks) has) (first-open-refused sync loss out_of_memory settings disk tuple marks)
 
 -- A secondary.
 

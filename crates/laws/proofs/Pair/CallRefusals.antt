@@ -24,12 +24,11 @@ use Rattle.model.specs.Refusals.{Test, done_with, first_refusal}
 use Rattle.model.specs.Secondary.{SecondaryConnection, SecondaryHistory, is_drained, is_pending, items_taken, next_pending, pending, secondary_connection, with_secondary_connection}
 use Rattle.model.specs.SecondarySteps.{Checked, applying, failing, peer, peer_fault, ack_out, ack_out_tests, answering_with, checking, checking_hello, checking_item, close_secondary, has_earlier, is_pending_at, open_secondary}
 use Rattle.model.specs.SecondarySteps.{opened_secondary, receive, receive_tests, succeeding_secondary, take_item}
-use Rattle.laws.specs.Statements.{is_refused_frame}
 use Rattle.laws.proofs.Lists.Picks.{any-pick, pick-filtered, pick-found}
 use Rattle.laws.proofs.Streams.Places.{placed-back}
 use Rattle.laws.proofs.Rules.DiskTurns.{none-before}
 use Rattle.laws.proofs.Primary.Moves.{pushing, with_frame}
-use Rattle.laws.proofs.Rules.Hellos.{checking-is, hello-has}
+use Rattle.laws.proofs.Rules.Hellos.{checking-is, hello-has, refused-frame-so}
 use Rattle.laws.proofs.Rules.RefusedFrames.{frame-has}
 use Rattle.laws.proofs.Rules.RefusedFrames as frame-taken
 use Rattle.laws.proofs.Rules.Receipts.{receipt-or-refusal}
@@ -122,22 +121,6 @@ receipt-so number h = receipt-or-refusal (λ r. (e : Refusal) → r ≡ Err e �
 
 -- The frame that a primary takes.
 
--- a refusal of a frame by its number
-of-frame : (e : Refusal) → is_refused_frame e ≡ true → ack_in_refuses e ≡ true
-of-frame refusal.BadMagic is = refl
-of-frame refusal.BadCommand is = refl
-of-frame refusal.BadLength is = refl
-of-frame refusal.BadField is = refl
-of-frame refusal.BadBarrierAck is = refl
-of-frame refusal.UnknownAck is = refl
-of-frame refusal.PrimaryStale is = refl
-of-frame refusal.SplitBrain is = refl
-of-frame refusal.Unrelated is = refl
-of-frame refusal.UsedIdentifier is = refl
-of-frame refusal.OtherProtocol is = refl
-of-frame refusal.OtherSize is = refl
-of-frame e is = absurd (cc)
-
 -- what taking a frame leads to
 abbrev IsSoTaken : Taken → Type 0
 IsSoTaken (Ok done) = Unit {0}
@@ -146,7 +129,7 @@ IsSoTaken (Err error) = ack_in_refuses error.0 ≡ true
 -- a packet
 so-taken : (v : Taken) → IsOtherTaken v → IsSoTaken v
 so-taken (Ok done) other = tt
-so-taken (Err error) other = of-frame error.0 other
+so-taken (Err error) other = refused-frame-so error.0 other
 
 pub ack-in-so : (frame : Option Received) (out_of_memory : Bool) (h : PrimaryHistory)
     → ((fault : Refusal) → frame ≡ Some (Err fault) → ack_in_refuses fault ≡ true)

@@ -6,15 +6,18 @@ use Rattle.blocks.specs.declared.settings.Settings.{Settings}
 use Rattle.blocks.specs.declared.settings.Protocol.{Protocol}
 use Rattle.blocks.specs.declared.tuple.Tuple.{Tuple}
 use Rattle.blocks.specs.declared.refusal.Refusal.{Refusal}
-use Rattle.blocks.specs.declared.refusal.Refusal.TheVariants.{BadCommand, OtherProtocol, OtherSize}
+use Rattle.blocks.specs.declared.refusal.Refusal.TheVariants.{BadBarrierAck, BadCommand, BadField, BadLength, BadMagic, OtherProtocol, OtherSize}
+use Rattle.blocks.specs.declared.refusal.Refusal.TheVariants.{PrimaryStale, SplitBrain, UnknownAck, Unrelated, UsedIdentifier}
 use Rattle.blocks.specs.declared.outcome.What.{What}
 use Rattle.blocks.specs.declared.outcome.What.TheVariants as what
 use Rattle.blocks.specs.declared.command.Command.TheVariants as command
+use Rattle.model.specs.CallRefusals.{ack_in_refuses}
 use Rattle.model.specs.Frames.{Packet, ProtocolFrame, SizesFrame, UuidsFrame}
 use Rattle.model.specs.Primary.{PrimaryHistory}
 use Rattle.model.specs.Acknowledgements.{same_protocol, Taken, meeting, taking_hello}
 use Rattle.model.specs.Secondary.{SecondaryHistory}
 use Rattle.model.specs.SecondarySteps.{Checked, checking_hello}
+use Rattle.laws.specs.Statements.{is_refused_frame}
 
 -- the next frame of a hello, by how many were taken before: its protocol, its size, and at last its tuple
 abbrev pub hello_by : {R : Type 0} → (What → R) → (Refusal → R) → (Tuple → R) → Settings → ℕ → Packet → R
@@ -82,3 +85,19 @@ hello-alike R accept refuse last accepts refuses lasts settings (suc zero) (Size
     go false = fails OtherSize
 hello-alike R accept refuse last accepts refuses lasts settings (suc (suc n)) (UuidsFrame peer) same fails ends = ends n peer refl refl
 hello-alike R accept refuse last accepts refuses lasts settings n packet same fails ends = fails BadCommand
+
+-- A primary's call that takes a frame may answer each refusal of a frame, those of a hello too.
+pub refused-frame-so : (e : Refusal) → is_refused_frame e ≡ true → ack_in_refuses e ≡ true
+refused-frame-so BadMagic is = refl
+refused-frame-so BadCommand is = refl
+refused-frame-so BadLength is = refl
+refused-frame-so BadField is = refl
+refused-frame-so BadBarrierAck is = refl
+refused-frame-so UnknownAck is = refl
+refused-frame-so PrimaryStale is = refl
+refused-frame-so SplitBrain is = refl
+refused-frame-so Unrelated is = refl
+refused-frame-so UsedIdentifier is = refl
+refused-frame-so OtherProtocol is = refl
+refused-frame-so OtherSize is = refl
+refused-frame-so e is = absurd (cc)

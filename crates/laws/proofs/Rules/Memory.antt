@@ -10,11 +10,15 @@ use Rattle.blocks.specs.declared.refusal.Refusal.TheVariants.{UsedIdentifier, No
 use Rattle.blocks.specs.declared.outcome.Done.{Done}
 use Rattle.blocks.specs.declared.outcome.Reply.{Reply}
 use Rattle.blocks.specs.declared.outcome.Reply.TheVariants as reply
+use Rattle.blocks.specs.declared.outcome.What.TheVariants as what
+use Rattle.blocks.specs.declared.settings.Settings.{Settings}
+use Rattle.model.specs.CallRefusals.{local_open_refuses}
+use Rattle.model.specs.Contents.{BlockMap}
 use Rattle.model.specs.Frames.{Received}
 use Rattle.model.specs.Identifiers.{are_fresh}
 use Rattle.model.specs.Refusals.{Test, first_refusal, done_with}
-use Rattle.model.specs.Primary.{PrimaryHistory, primary_connection, with_primary_connection, frames_due, resync_runs, under_way, free_block}
-use Rattle.model.specs.PrimarySteps.{succeeding, tested, known_tuples, open_tests, send_tests, sending, send, resync_tests}
+use Rattle.model.specs.Primary.{PrimaryHistory, primary_opening, primary_connection, with_primary_connection, frames_due, resync_runs, under_way, free_block}
+use Rattle.model.specs.PrimarySteps.{succeeding, tested, known_tuples, open_primary, opened, open_tests, send_tests, sending, send, resync_tests}
 use Rattle.model.specs.Acknowledgements.{take_frame, ack_in_tests, ack_in}
 use Rattle.model.specs.Secondary.{SecondaryHistory, secondary_connection, with_secondary_connection, pending, answers_due}
 use Rattle.model.specs.SecondarySteps.{tested_secondary, take_item, receive_tests, receive, ack_out_tests, answering_with, ack_out}
@@ -64,6 +68,22 @@ may-open h sync loss out_of_memory none =
     let one = test-passed (not (primary_connection h).closed) NotDrained (drop 1 (open_tests h sync loss out_of_memory)) none in
     let two = test-passed (not (are_fresh sync loss (known_tuples h))) UsedIdentifier (drop 2 (open_tests h sync loss out_of_memory)) one.1 in
     record { closed = not-false (primary_connection h).closed one.0; fresh = not-false (are_fresh sync loss (known_tuples h)) two.0 }
+
+-- At the first opening no end is open and no connection was had: what it refuses are words that are not fresh, and want of memory.
+pub first-open-refused : (sync loss : ℕ) (out_of_memory : Bool) (settings : Settings) (disk : BlockMap) (tuple : Tuple) (marks : ℕ → Bool) (e : Refusal)
+    → (open_primary sync loss out_of_memory (primary_opening settings disk tuple marks)).0 ≡ reply.Refused e → local_open_refuses e ≡ true
+first-open-refused sync loss out_of_memory settings disk tuple marks = go (are_fresh sync loss (tuple ∷ [])) out_of_memory
+  where
+    h : PrimaryHistory
+    h = primary_opening settings disk tuple marks
+
+    go : (fresh short : Bool) (e : Refusal)
+        → (elim (first_refusal ((false, NotDrained) ∷ (not fresh, UsedIdentifier) ∷ (false, StreamFull) ∷ (short, NoMemory) ∷ [])) as
+        (λ _. Reply × PrimaryHistory) [ Some first ↦ (reply.Refused first, h) | None ↦ succeeding what.Nothing (opened h sync loss) ]).0
+        ≡ reply.Refused e → local_open_refuses e ≡ true
+    go false short e is = let one : UsedIdentifier ≡ e = cc in ap local_open_refuses (sym one)
+    go true true e is = let one : NoMemory ≡ e = cc in ap local_open_refuses (sym one)
+    go true false e is = absurd (cc)
 
 -- what is refused with memory is refused so without
 pub open-refused : (h : PrimaryHistory) (sync loss : ℕ) (out_of_memory : Bool) (e : Refusal) → first_refusal (open_tests h sync loss false) ≡ Some e
