@@ -1,0 +1,11 @@
+use Rattle.metadata.proofs.metadata.Metadata.is_broken.Goals as goal
+
+pub returns-clause-stands : goal.returns-clause-stands
+returns-clause-stands g c = rw (← c.self.view_is) λ whole faithful.
+    let kept = c.self.invariant.kept whole faithful in
+    record {
+      opens = kept.says.opens;
+      exactly = kept.exactly;
+      left = λ f may. (kept.left f may).opens;
+      entered = λ f may. (kept.left f may).entered;
+    }
