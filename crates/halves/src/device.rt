@@ -76,11 +76,11 @@ pub trait Device {
     /// Opens both ends again under fresh words, and returns the connection's number, the first being 1. The threads
     /// exchange the hellos; if one is refused, both ends close.
     ///
-    /// `NotConnected` (12) if the session goes over streams: it has one connection, and this is checked first. Else
-    /// `NotDrained` (36) if an end is not closed, or if the secondary has items to do; the caller tries again. Else
-    /// `UsedIdentifier` (33) if a word is zero or occurs in a known tuple, or if both words are equal; `StreamFull` (6)
-    /// after 4,294,967,295 connections; `NoMemory` (7). No other refusal comes. Then nothing has changed. If the secondary refuses at last, the
-    /// primary closes again before its stream began, and the number is used up.
+    /// `NotConnected` (12) if the session goes over streams: it has one connection, and this is checked first. Else `NotDrained`
+    /// (36) if an end is not closed, or if the secondary has items to do; the caller tries again. Else `UsedIdentifier` (33) if
+    /// a word is zero or occurs in a known tuple, or if both words are equal; `StreamFull` (6) after 4,294,967,295 connections;
+    /// `NoMemory` (7). No other refusal comes. Then nothing has changed. If the secondary refuses at last, the primary closes
+    /// again before its stream began, and the number is used up.
     fn reconnect(&self, sync: u64, loss: u64) -> Result<u32, Refusal>
         ensures refused { IfErr result (λ e. reconnect_refuses e ≡ true) };
 

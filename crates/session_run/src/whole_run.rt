@@ -31,10 +31,10 @@ use wire_session::loopback;
 /// file that is first written beside it or does not have as many bytes as its blocks, or the disks differ on a block without a
 /// mark; `Refused` for any other refusal.
 ///
-/// Faults are found in this order: options out of their ranges (15), the local image, the peer's, the sockets, the
-/// start, the writes and the reconnections, the end, the settlement, blocks without a mark, saving. Then a line on `err` reports the first, which for a refusal R is
-/// `refused R`; nothing is printed, and if the fault came before saving, no image is changed. What the options ask for
-/// goes to `err` too.
+/// Faults are found in this order: options out of their ranges (15), the local image, the peer's, the sockets, the start, the
+/// writes and the reconnections, the end, the settlement, blocks without a mark, saving. Then a line on `err` reports the first,
+/// which for a refusal R is `refused R`; nothing is printed, and if the fault came before saving, no image is changed. What the
+/// options ask for goes to `err` too.
 pub fn run<
     H: Host + Files<File = File> + Net<Listener = TcpListener, Stream = TcpStream>,
     W: Write,

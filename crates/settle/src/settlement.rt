@@ -57,9 +57,10 @@ pub struct Confirmed {
 /// The secondary knows `taken` and `applied` of its own last connection alone. If that is numbered above the
 /// primary's last one, which no session brings about, both are 0.
 ///
-/// Of any two nodes it says that they are at rest (`rest`), and that each receipt is that of an entry of the primary's journal, none
-/// given twice (`entries`). Of joined nodes that began with honest identifiers it says all that is promised of a mirror: what a completed write has at the
-/// peer (`settles`), that no difference is lost (`settles`), and that the peer's disk has an order of writes (`order`).
+/// Of any two nodes it says that they are at rest (`rest`), and that each receipt is that of an entry of the primary's journal,
+/// none given twice (`entries`). Of joined nodes that began with honest identifiers it says all that is promised of a mirror:
+/// what a completed write has at the peer (`settles`), that no difference is lost (`settles`), and that the peer's disk has an
+/// order of writes (`order`).
 pub fn settle<
     O: FrameOut + Drop,
     I: FrameIn + Drop,
@@ -121,7 +122,8 @@ pub fn settle<
 /// disk has done or failed every write; else `StrangeReceipt` (19) if a receipt matches no entry of the journal, or
 /// is given twice. It changes neither node, and takes no memory; it takes time for each receipt and each accepted write.
 ///
-/// Of any two nodes it says what `settle` does (`rest`, `entries`), and of joined ones what `settle` says of two disks: that no difference is lost follows from both histories, and needs no comparison.
+/// Of any two nodes it says what `settle` does (`rest`, `entries`), and of joined ones what `settle` says, the order of writes too: that no
+/// difference is lost follows from both histories, and needs no comparison.
 pub fn confirm<
     O: FrameOut + Drop,
     I: FrameIn + Drop,

@@ -157,8 +157,8 @@ impl<R: Threads + Wait + Clock + Drop, B: Beginning, S: Store + Drop, T: Store +
     }
 
     /// Writes whole blocks from `first` on, and returns the receipt once the write is completed as the protocol says:
-    /// `Device::write` of the mirror, with its refusals, 1, 5 to 8, 12 and 16. A primary that began as the session did accepted these bytes under
-    /// the receipt's number.
+    /// `Device::write` of the mirror, with its refusals, 1, 5 to 8, 12 and 16. A primary that began as the session did accepted
+    /// these bytes under the receipt's number.
     pub fn write(&self, first: u64, bytes: &Bytes) -> Result<Receipt, Refusal>
         ensures own { IfOk result (λ receipt. (receipt.first ≡ first) × (receipt.count * 4096 ≡ length bytes.now)) }
         ensures accepted { IfOk result (λ receipt. HasAccepted B.opening receipt.number first bytes.now) }
