@@ -1,9 +1,9 @@
 -- A node takes what the peer sends.
-use Rattle.std.proofs.Common.{ℕ, ◌≡◌, ◌≤◌, Bool, true, false, ◌&&◌, List, [], ◌∷◌, ◌++◌, Option, Some, None, Result, Ok, Err, refl, sym, ◌∙◌, ap, subst}
+use Rattle.std.proofs.Common.{ℕ, ◌≡◌, ◌≤◌, Bool, true, false, List, [], ◌∷◌, ◌++◌, Option, Some, None, Result, Ok, Err, refl, sym, ◌∙◌, ap, subst}
 use Rattle.std.specs.Prelude.{is_some, IfSome, IfOk, IfErr, ◌↔◌}
 use Rattle.std.specs.Option.{option_map}
 use Rattle.blocks.specs.declared.refusal.Refusal.{Refusal}
-use Rattle.blocks.specs.declared.refusal.Refusal.TheVariants.{NoMemory, NotConnected, NothingThere, BadMagic, BadCommand, BadLength, BadField}
+use Rattle.blocks.specs.declared.refusal.Refusal.TheVariants.{NothingThere, BadMagic, BadCommand, BadLength, BadField}
 use Rattle.blocks.specs.declared.outcome.Done.{Done}
 use Rattle.blocks.specs.declared.outcome.Reply.TheVariants as reply
 use Rattle.packets.specs.declared.packet.Packet as packets
@@ -19,9 +19,9 @@ use Rattle.endpoint.specs.Calls.{is_out_of_memory, TookOne}
 use Rattle.endpoint.specs.Meaning.{meaning, received}
 use Rattle.endpoint.specs.PacketSender.{PacketSenderState}
 use Rattle.endpoint.specs.PacketReceiver.{PacketReceiverState, with_received, SameRow}
-use Rattle.primary_protocol.specs.Core.{PrimaryState, is_established}
+use Rattle.primary_protocol.specs.Core.{PrimaryState}
 use Rattle.primary_protocol.specs.Taking.{take_at, ack_in}
-use Rattle.primary_protocol.specs.Node.{NodeState, NodeSteps, primary_step}
+use Rattle.primary_protocol.specs.Node.{NodeSteps, primary_step}
 use Rattle.primary_protocol.specs.Steps.{replied}
 use Rattle.primary_protocol.proofs.Node.Due.{IsStill}
 use Rattle.primary_protocol.proofs.Node.Runs.{node-had}

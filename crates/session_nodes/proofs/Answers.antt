@@ -1,8 +1,8 @@
 -- What a locked node's call refuses is what its step of the model refuses.
-use Rattle.std.proofs.Common.{ℕ, ◌≡◌, ◌⊎◌, inl, inr, Bool, true, false, not, List, [], ◌∷◌, Option, Some, None, Result, Ok, Err, refl, sym, ◌∙◌, ap}
+use Rattle.std.proofs.Common.{ℕ, ◌≡◌, inl, inr, Bool, true, not, Option, Some, None, Result, Ok, Err, refl, sym, ◌∙◌, ap}
 use Rattle.std.specs.Prelude.{IfErr, ok_or}
 use Rattle.blocks.specs.declared.refusal.Refusal.{Refusal}
-use Rattle.blocks.specs.declared.refusal.Refusal.TheVariants.{LinkFull, NoMemory, NotConnected, NotDrained, NothingThere, StreamFull, UsedIdentifier}
+use Rattle.blocks.specs.declared.refusal.Refusal.TheVariants.{LinkFull, NoMemory, NotConnected, NothingThere}
 use Rattle.blocks.specs.declared.outcome.Done.{Done}
 use Rattle.blocks.specs.declared.outcome.Reply.{Reply}
 use Rattle.blocks.specs.declared.outcome.Reply.TheVariants as reply
@@ -11,11 +11,9 @@ use Rattle.blocks.specs.declared.settings.Settings.{Settings}
 use Rattle.blocks.specs.declared.tuple.Tuple.{Tuple}
 use Rattle.model.specs.CallRefusals.{ack_out_refuses, local_open_refuses, send_refuses, resync_next_refuses, take_completed_refuses}
 use Rattle.model.specs.Contents.{BlockMap}
-use Rattle.model.specs.Identifiers.{are_fresh}
-use Rattle.model.specs.LocalRuns.{Applies, FailsLocally, FailsToApply, OpensToo, Opens, PrimaryEvent, SecondaryEvent, WritesLocally}
+use Rattle.model.specs.LocalRuns.{OpensToo, Opens, PrimaryEvent, SecondaryEvent}
 use Rattle.model.specs.Primary.{Completion, PrimaryHistory, next_local, primary_opening}
 use Rattle.model.specs.PrimarySteps as step
-use Rattle.model.specs.Refusals.{Test, first_refusal}
 use Rattle.model.specs.Settlement.{Receipt, receipt_of}
 use Rattle.std.specs.Result.{result_map_both}
 use Rattle.model.specs.Secondary.{SecondaryHistory, next_pending, secondary_opening}

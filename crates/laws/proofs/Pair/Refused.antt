@@ -1,7 +1,7 @@
 -- A step of the pair that is refused leaves the history as it was, but where a frame is refused: then that end closes.
 use Rattle.std.proofs.Common.{ℕ, zero, suc, ◌≡◌, Bool, true, false, not, ◌&&◌, ◌||◌, nat_lt, List, [], ◌∷◌, ◌++◌, length, Option, Some, None, Result}
 use Rattle.std.proofs.Common.{Ok, Err, slice_get, refl, ap, subst, ◌⊎◌, inl, inr, sym, ◌∙◌}
-use Rattle.std.specs.Prelude.{option_map, if◌then◌else◌, unwrap_or}
+use Rattle.std.specs.Prelude.{option_map, if◌then◌else◌}
 use Rattle.std.proofs.lemmas.Bool.{both_ways}
 use Rattle.blocks.specs.declared.tuple.Tuple.{Tuple}
 use Rattle.blocks.specs.declared.refusal.Refusal.{Refusal}
@@ -13,15 +13,15 @@ use Rattle.blocks.specs.declared.outcome.What.{What}
 use Rattle.blocks.specs.declared.outcome.What.TheVariants as what
 use Rattle.blocks.specs.declared.outcome.Reply.{Reply}
 use Rattle.blocks.specs.declared.outcome.Reply.TheVariants as reply
-use Rattle.model.specs.Stream.{ResyncItem, below, contents_of}
+use Rattle.model.specs.Stream.{below, contents_of}
 use Rattle.model.specs.Frames.{Packet, DataFrame, RsDataReplyFrame, BarrierFrame, ProtocolFrame, UuidsFrame, SizesFrame, SyncUuidFrame, RecvAckFrame}
 use Rattle.model.specs.Frames.{WriteAckFrame, RsWriteAckFrame, BarrierAckFrame, Received}
 use Rattle.model.specs.Refusals.{Test, first_refusal, done_with}
 use Rattle.model.specs.Identifiers.{stands_in, decision}
-use Rattle.model.specs.Primary.{PrimaryHistory, OnDisk, primary_connection, with_primary_connection, local_map, free_block, PrimaryConnection}
+use Rattle.model.specs.Primary.{PrimaryHistory, OnDisk, primary_connection, with_primary_connection, free_block, PrimaryConnection}
 use Rattle.model.specs.Primary.{no_primary_connection, last_of, change_last}
 use Rattle.model.specs.Marks.{releasing}
-use Rattle.model.specs.PrimarySteps.{follows, appending, succeeding, open_primary, submit_tests, submitted, submit, is_unfinished, with_outcome, local_done}
+use Rattle.model.specs.PrimarySteps.{follows, succeeding, open_primary, submit_tests, submitted, submit, is_unfinished, with_outcome, local_done}
 use Rattle.model.specs.PrimarySteps.{accepted_at, faulted, local_fault, send_tests, sending, send, resync_tests, resync_next, resync_fault, closing}
 use Rattle.model.specs.PrimarySteps.{close_primary, open_tests, opened}
 use Rattle.model.specs.Acknowledgements.{Taken, begun_with, meeting, taking_hello, taking_ack, taking, take_frame, ack_in}

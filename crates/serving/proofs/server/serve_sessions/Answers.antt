@@ -1,4 +1,4 @@
-use Rattle.std.proofs.Common.{ℕ, ◌≡◌, ap, refl, subst, rules}
+use Rattle.std.proofs.Common.{◌≡◌, ap, subst, rules}
 use Rattle.std.specs.Prelude.{IfSome}
 use Rattle.serving.specs.Disks.{AreFaithful, WereRead, unmarked_between}
 use Rattle.serving.specs.Sessions.{Rest}

@@ -5,8 +5,6 @@ use Rattle.session_nodes.proofs.Primaries.{steps-over, had-over}
 use Rattle.model.specs.LocalRuns.{Receipts}
 use Rattle.primary_protocol.specs.Node.{take_receipt}
 use Rattle.session_nodes.specs.Primaries.{IsPrimaryStep}
-use Rattle.std.proofs.Common.{◌≡◌, true}
-use Rattle.model.specs.CallRefusals.{take_completed_refuses}
 use Rattle.session_nodes.proofs.Answers.{receipt-refused}
 use Rattle.session_nodes.proofs.local.Local.take_completed.Goals as goal
 
