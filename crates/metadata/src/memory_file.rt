@@ -4,7 +4,7 @@ use std::alloc::{AllocError, Global};
 use std::collections::BTreeMap;
 use std::io;
 
-/// The bytes of a file, most of which are zero.
+/// A file's bytes, kept where they are not zero.
 #[derive(Drop)]
 pub struct SparseBytes {
     len: u64,

@@ -3,37 +3,34 @@ use Rattle.std.proofs.Common.{ℕ, ◌≡◌, ◌≤◌, ◌<◌, ◌⊎◌, inl
 use Rattle.std.proofs.Common.{Ok, refl, sym, ◌∙◌, ap, subst, arith, ◌==◌}
 use Rattle.std.specs.Prelude.{if◌then◌else◌, option_map}
 use Rattle.std.proofs.lemmas.Bool.{both_ways, not-true, false_from_ne_true}
-use Rattle.std.proofs.lemmas.Option.{slice_get-map, slice_get_within}
-use Rattle.blocks.specs.Positions.{StreamPosition}
+use Rattle.std.proofs.lemmas.Option.{slice_get-map}
 use Rattle.blocks.specs.declared.settings.Settings.{Settings}
 use Rattle.blocks.specs.declared.tuple.Tuple.{Tuple}
 use Rattle.blocks.specs.declared.outcome.Decision.{Decision}
 use Rattle.blocks.specs.declared.outcome.Decision.TheVariants.{NoSync, BitmapSync, FullSync}
 use Rattle.model.specs.Contents.{Write}
-use Rattle.model.specs.Stream.{StreamItem, WriteItem, ResyncItem, BarrierItem, SyncUuidItem, UuidsItem, IsBeginning, epoch_of, last_epoch, within}
+use Rattle.model.specs.Stream.{StreamItem, WriteItem, ResyncItem, BarrierItem, SyncUuidItem, UuidsItem, IsBeginning, last_epoch, within}
 use Rattle.model.specs.Frames.{UuidsFrame, Received}
 use Rattle.model.specs.Identifiers.{sync_end}
 use Rattle.model.specs.Primary.{LocalOutcome, Waiting, OnDisk, Failed, Accepted, PrimaryConnection, PrimaryHistory, no_primary_connection}
 use Rattle.model.specs.Primary.{primary_connection, last_index}
-use Rattle.model.specs.Primary.{change_last, with_primary_connection, is_established, accepted_frames, is_barrier_ack, barrier_acknowledged}
-use Rattle.model.specs.Primary.{is_waiting, is_confirmed}
-use Rattle.model.specs.Primary.{is_alone, is_released, unreleased}
+use Rattle.model.specs.Primary.{change_last, with_primary_connection, is_established, accepted_frames}
+use Rattle.model.specs.Primary.{is_waiting}
+use Rattle.model.specs.Primary.{is_released, unreleased}
 use Rattle.model.specs.PrimarySteps.{follows, submission, submitted, set_outcome, faulted, accepted_at, opened}
 use Rattle.model.specs.PrimarySteps.{submitted_with, faulted_by}
 use Rattle.model.specs.Acknowledgements.{begun_with}
 use Rattle.model.specs.LocalRuns.{primary_run}
-use Rattle.laws.proofs.Lists.Beginnings.{begins-self, any-grows}
+use Rattle.laws.proofs.Lists.Beginnings.{begins-self}
 use Rattle.laws.proofs.Lists.Last.{get-change, change-twice}
-use Rattle.laws.proofs.Streams.Places.{epoch-grows}
 use Rattle.laws.proofs.Primary.Moves.{following-from, IsKeptByMoves, IsKeptByReleases, keeps-run, with_frame, pushing}
-use Rattle.laws.proofs.Primary.Homes.{alone-homeless, HasHomes, alone-at, confirmed-at}
+use Rattle.laws.proofs.Primary.Homes.{HasHomes}
 use Rattle.laws.proofs.Primary.HomesMoves.{homes-kept, homes-marks, homes-opening}
 use Rattle.laws.proofs.Lists.Elements.{get-left, get-more}
 use Rattle.laws.proofs.Lists.Picks.{pick-filtered}
 use Rattle.laws.proofs.Primary.Ends.{not-refused, frames-taking}
 use Rattle.laws.proofs.Primary.HomesFollowing.{homes-completions, homes-ending, homes-parting}
 use Rattle.laws.proofs.Rules.RefusedFrames.{refused_out, refused-last}
-use Rattle.laws.proofs.Rules.Releases.{is_freed, freed-cases, freed-confirmed, freed-alone, released-parts, released-by}
 use Rattle.std.proofs.Common.{nat_lt, ◌||◌, ◌&&◌, length-append}
 use Rattle.std.specs.List.{list_any}
 use Rattle.std.proofs.lemmas.Bool.{cases_Bool, or_parts, or_cases, and_from, eqb-true}
@@ -51,6 +48,7 @@ use Rattle.laws.proofs.Lists.Elements.{get-end}
 use Rattle.laws.proofs.Lists.Last.{change-none}
 use Rattle.laws.proofs.Lists.Picks.{pick-any, pick-found}
 use Rattle.laws.proofs.Pair.RefusedFrames.{others-count}
+use Rattle.laws.proofs.Primary.ExtentsMoves.{KeepsRelease, keeps-self, keeps-growing, keeps-closed, AllKeep, LaterWrites, later-self, released-later}
 use Rattle.laws.proofs.Primary.HomesMoves.{homes-released}
 use Rattle.laws.proofs.Primary.Moves.{keeps-after}
 use Rattle.laws.proofs.Rules.CloseMarks.{close-marks}
@@ -58,69 +56,6 @@ use Rattle.laws.proofs.Rules.RefusedFrames.{refused_by, refusing_frame, refusing
 use Rattle.laws.proofs.Rules.Releases.{held-waiting}
 use Rattle.laws.proofs.Tracked.Outcomes.{unfinished-waits}
 use Rattle.stops.specs.Hooks.{CoverGrowsByHooks, HasGrown, HasNewWrite, begun_count, begun_by}
-
--- A later state of a connection, at which what was released stays so: a closed end stays closed, and what is confirmed
--- stays confirmed, or the end is closed.
-pub record KeepsRelease (c d : PrimaryConnection) : Type 0 where
-  pub closed : c.closed ≡ true → d.closed ≡ true
-  pub confirmed : (place : ℕ) → place < length c.stream → barrier_acknowledged c (epoch_of c.stream place) ≡ true
-      → (barrier_acknowledged d (epoch_of d.stream place) ≡ true) ⊎ (d.closed ≡ true)
-
-keeps-self : (c : PrimaryConnection) → KeepsRelease c c
-keeps-self c = record { closed = λ was. was; confirmed = λ place within was. inl was }
-
--- a stream and accepted frames that have only grown
-keeps-growing : (c d : PrimaryConnection) → d.closed ≡ c.closed → IsBeginning c.stream d.stream → IsBeginning (accepted_frames c) (accepted_frames d)
-    → KeepsRelease c d
-keeps-growing c d same stream frames = record {
-  closed = λ was. same ∙ was;
-  confirmed = λ place within was.
-      let epoch : epoch_of d.stream place ≡ epoch_of c.stream place = ap (λ (l : List StreamItem). epoch_of l place) (sym stream.1)
-      ∙ epoch-grows c.stream stream.0 place (omega arith) in
-      inl (ap (barrier_acknowledged d) epoch ∙ any-grows (is_barrier_ack (epoch_of c.stream place)) (accepted_frames c) (accepted_frames d) frames was);
-}
-
--- an end that is closed now
-keeps-closed : (c d : PrimaryConnection) → d.closed ≡ true → KeepsRelease c d
-keeps-closed c d closed = record { closed = λ was. closed; confirmed = λ place within was. inr closed }
-
--- each connection keeps what was released
-abbrev AllKeep : List PrimaryConnection → List PrimaryConnection → Type 0
-AllKeep cs ds = (k : ℕ) (c : PrimaryConnection) → slice_get cs k ≡ Some c → (d : PrimaryConnection) × (slice_get ds k ≡ Some d) × KeepsRelease c d
-
--- accepted writes that are the same, but that the local disk may have finished
-abbrev LaterWrites : List Accepted → List Accepted → Type 0
-LaterWrites ws vs = (i : ℕ) (b : Accepted) → slice_get vs i ≡ Some b
-    → (a : Accepted) × (slice_get ws i ≡ Some a) × (b.write ≡ a.write) × (b.home ≡ a.home) × (is_waiting a.outcome ≡ false → is_waiting b.outcome ≡ false)
-
-later-self : (ws : List Accepted) → LaterWrites ws ws
-later-self ws i b at = (b, at, refl, refl, λ done. done)
-
--- a write that was released is so later
-released-later : (h later : PrimaryHistory) (i : ℕ) (a b : Accepted) → HasHomes h → AllKeep h.connections later.connections → slice_get h.writes i ≡ Some a
-    → b.home ≡ a.home
-    → (is_waiting a.outcome ≡ false → is_waiting b.outcome ≡ false)
-    → is_released h a ≡ true → is_released later b ≡ true
-released-later h later i a b homes keep at same done released =
-    let parts = released-parts h a released in released-by later b (done parts.done) (go a.home refl parts.freed)
-  where
-    go : (v : Option StreamPosition) → a.home ≡ v → is_freed h a ≡ true → is_freed later b ≡ true
-    go None is was = freed-alone later b (alone-homeless later b (same ∙ is))
-    go (Some home) is was =
-        let housed = homes.housed i home.index home.place a at is in
-        let c : PrimaryConnection = housed.0 in
-        let now = keep home.index c housed.1 in
-        let d : PrimaryConnection = now.0 in
-        let confirmed : is_confirmed later b ≡ barrier_acknowledged d (epoch_of d.stream home.place) = confirmed-at later b home d (same ∙ is) now.1 in
-        let alone : is_alone later b ≡ d.closed = alone-at later b home d (same ∙ is) now.1 in
-        elim (freed-cases h a was) [
-          | inl before ↦ elim (now.2.confirmed home.place (slice_get_within c.stream home.place (WriteItem a.write) housed.2)
-              (sym (confirmed-at h a home c is housed.1) ∙ before)) [
-                | inl still ↦ freed-confirmed later b (confirmed ∙ still)
-                | inr closed ↦ freed-alone later b (alone ∙ closed)
-              ]
-          | inr before ↦ freed-alone later b (alone ∙ now.2.closed (sym (alone-at h a home c is housed.1) ∙ before))
-        ]
 
 -- no connection changes
 keep-same : (cs ds : List PrimaryConnection) → ds ≡ cs → AllKeep cs ds

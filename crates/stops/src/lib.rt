@@ -57,8 +57,8 @@ pub fn worked_moments()
 {}
 
 /// States worked examples by its contract, and does nothing. Histories meet the premises of the other functions' laws: three
-/// sessions one after the other, of which the first ends with a kill of the primary amid writes, the second with a kill of
-/// the secondary amid a resync, and the third at rest, each leaving disks that hold anything within the marks; a new primary
+/// sessions one after the other: the first ends with a kill of the primary amid writes, the second with a kill of the
+/// secondary amid a resync, and the third at rest, and each leaves disks that hold anything within the marks; a new primary
 /// that ran two sessions alone, to which the old one comes back; and events that cover blocks.
 pub fn premises_are_met()
     ensures sessions { SessionsAreLeft }

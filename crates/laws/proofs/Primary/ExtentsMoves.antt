@@ -43,11 +43,11 @@ pub record KeepsRelease (c d : PrimaryConnection) : Type 0 where
   pub confirmed : (place : ℕ) → place < length c.stream → barrier_acknowledged c (epoch_of c.stream place) ≡ true
       → (barrier_acknowledged d (epoch_of d.stream place) ≡ true) ⊎ (d.closed ≡ true)
 
-keeps-self : (c : PrimaryConnection) → KeepsRelease c c
+pub keeps-self : (c : PrimaryConnection) → KeepsRelease c c
 keeps-self c = record { closed = λ was. was; confirmed = λ place within was. inl was }
 
 -- a stream and accepted frames that have only grown
-keeps-growing : (c d : PrimaryConnection) → d.closed ≡ c.closed → IsBeginning c.stream d.stream → IsBeginning (accepted_frames c) (accepted_frames d)
+pub keeps-growing : (c d : PrimaryConnection) → d.closed ≡ c.closed → IsBeginning c.stream d.stream → IsBeginning (accepted_frames c) (accepted_frames d)
     → KeepsRelease c d
 keeps-growing c d same stream frames = record {
   closed = λ was. same ∙ was;
@@ -58,23 +58,23 @@ keeps-growing c d same stream frames = record {
 }
 
 -- an end that is closed now
-keeps-closed : (c d : PrimaryConnection) → d.closed ≡ true → KeepsRelease c d
+pub keeps-closed : (c d : PrimaryConnection) → d.closed ≡ true → KeepsRelease c d
 keeps-closed c d closed = record { closed = λ was. closed; confirmed = λ place within was. inr closed }
 
 -- each connection keeps what was released
-abbrev AllKeep : List PrimaryConnection → List PrimaryConnection → Type 0
+abbrev pub AllKeep : List PrimaryConnection → List PrimaryConnection → Type 0
 AllKeep cs ds = (k : ℕ) (c : PrimaryConnection) → slice_get cs k ≡ Some c → (d : PrimaryConnection) × (slice_get ds k ≡ Some d) × KeepsRelease c d
 
 -- accepted writes that are the same, but that the local disk may have finished
-abbrev LaterWrites : List Accepted → List Accepted → Type 0
+abbrev pub LaterWrites : List Accepted → List Accepted → Type 0
 LaterWrites ws vs = (i : ℕ) (b : Accepted) → slice_get vs i ≡ Some b
     → (a : Accepted) × (slice_get ws i ≡ Some a) × (b.write ≡ a.write) × (b.home ≡ a.home) × (is_waiting a.outcome ≡ false → is_waiting b.outcome ≡ false)
 
-later-self : (ws : List Accepted) → LaterWrites ws ws
+pub later-self : (ws : List Accepted) → LaterWrites ws ws
 later-self ws i b at = (b, at, refl, refl, λ done. done)
 
 -- a write that was released is so later
-released-later : (h later : PrimaryHistory) (i : ℕ) (a b : Accepted) → HasHomes h → AllKeep h.connections later.connections → slice_get h.writes i ≡ Some a
+pub released-later : (h later : PrimaryHistory) (i : ℕ) (a b : Accepted) → HasHomes h → AllKeep h.connections later.connections → slice_get h.writes i ≡ Some a
     → b.home ≡ a.home
     → (is_waiting a.outcome ≡ false → is_waiting b.outcome ≡ false)
     → is_released h a ≡ true → is_released later b ≡ true
