@@ -1,2 +1,2 @@
 -- How many of a client's requests are under way at most.
-pub mod Places
+pub mod RequestBudget

@@ -17,7 +17,11 @@ const MAX_CLIENTS: u32 = 256;
 const PAUSE_MS: u64 = 100;
 
 /// Lets clients in, each with a thread of its own, until the server ends.
-pub(crate) fn let_in<R: Runtime>(rt: R, service: &Arc<Service, Global>, listener: &TcpListener) {
+pub(crate) fn accept_clients<R: Runtime>(
+    rt: R,
+    service: &Arc<Service, Global>,
+    listener: &TcpListener,
+) {
     for _ in rt.forever() {
         let accepted = listener.accept();
         if service.is_over() {

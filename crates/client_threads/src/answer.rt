@@ -1,12 +1,12 @@
 //! Requests done together.
 use crate::client::Client;
 use crate::job::Job;
-use crate::places::places_of;
+use crate::request_budget::places_of;
 use crate::service::Service;
 use crate::sync_queue::Unsynced;
 use halves::Device;
 use primary::Receipt;
-use requests::{Answer, UnderWay, asks_for_sync};
+use requests::{Answer, RequestUnderWay, asks_for_sync};
 use std::alloc::{AllocError, Global};
 use std::sync::{Arc, Wait};
 use std::time::Clock;
@@ -21,7 +21,7 @@ const SHORT_BLOCKS: u32 = 512;
 /// A request that was begun, and the client that waits for its reply.
 #[derive(Drop)]
 struct Pending {
-    under_way: UnderWay,
+    under_way: RequestUnderWay,
     client: Arc<Client, Global>,
     // Whether it waits for stable storage.
     syncs: bool,

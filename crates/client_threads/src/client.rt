@@ -1,8 +1,8 @@
 //! A client's connection, shared by the threads that answer its requests.
 ghost use Rattle.std.specs.Io.{ReadsAtMost};
 
-use crate::outbox::Outbox;
-use crate::places::Places;
+use crate::reply_queue::ReplyQueue;
+use crate::request_budget::RequestBudget;
 use crate::timed_writer::{Outcome, is_passing};
 use crate::waiting::Waiting;
 use nbd::Reply;
@@ -43,7 +43,7 @@ pub(crate) struct Client {
     waiting: Mutex<Waiting>,
     // Whether the connection failed. Then nothing more is written.
     is_closed: AtomicBool,
-    places: Places,
+    places: RequestBudget,
     alloc: Global,
 }
 
@@ -54,7 +54,7 @@ impl Client {
             stream,
             waiting: Mutex::new(Waiting::new(alloc)),
             is_closed: AtomicBool::new(false),
-            places: Places::new(),
+            places: RequestBudget::new(),
             alloc,
         }
     }
@@ -111,19 +111,19 @@ impl Client {
     }
 
     // Begins a turn of writing, unless another thread has it or nothing waits.
-    fn begin<R: Wait>(&self, rt: &R) -> Option<Outbox> {
+    fn begin<R: Wait>(&self, rt: &R) -> Option<ReplyQueue> {
         self.waiting.lock(rt).begin()
     }
 
     // Takes what other threads were to send meanwhile. If there is nothing, or the client's own thread waits for the turn, ends
     // it.
-    fn go_on<R: Wait>(&self, rt: &R, written: Outbox) -> Option<Outbox> {
+    fn go_on<R: Wait>(&self, rt: &R, written: ReplyQueue) -> Option<ReplyQueue> {
         self.waiting.lock(rt).go_on(written)
     }
 
     // Leaves the turn, and what is left, to the client's own thread. If there is no memory for that, closes the connection:
     // under the lock, so that no thread writes what stands behind missing bytes.
-    fn leave<R: Wait>(&self, rt: &R, left: Outbox) {
+    fn leave<R: Wait>(&self, rt: &R, left: ReplyQueue) {
         let mut waiting = self.waiting.lock(rt);
         if waiting.leave(left).is_err() {
             self.close();
@@ -131,7 +131,7 @@ impl Client {
     }
 
     // Ends the turn on a connection that failed: closes it, and drops what was taken and all that waits.
-    fn give_up<R: Wait>(&self, rt: &R, taken: Outbox) {
+    fn give_up<R: Wait>(&self, rt: &R, taken: ReplyQueue) {
         self.close();
         let mut taken = taken;
         let dropped = self.waiting.lock(rt).give_up();
@@ -189,12 +189,12 @@ impl Client {
     }
 
     // Takes all that was left to the client's own thread. If nothing waits, lets any thread write again.
-    fn take_late<R: Wait>(&self, rt: &R) -> Option<Outbox> {
+    fn take_late<R: Wait>(&self, rt: &R) -> Option<ReplyQueue> {
         self.waiting.lock(rt).take_late()
     }
 
     // Writes what waits, unless the connection is closed.
-    fn write<R: Wait + Clock>(&self, rt: &R, outbox: &mut Outbox, ms_per_mib: u16) -> Outcome {
+    fn write<R: Wait + Clock>(&self, rt: &R, outbox: &mut ReplyQueue, ms_per_mib: u16) -> Outcome {
         if self.is_closed() {
             return Outcome::Failed;
         }

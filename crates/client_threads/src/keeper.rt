@@ -4,7 +4,7 @@ use crate::standstill::Standstill;
 use blocks::ConnectionWords;
 use halves::Device;
 use status_lines::LinkState;
-use status_page::{Report, Resync};
+use status_page::{Resync, StatusReport};
 use std::sync::Wait;
 use std::sync::atomic::{AtomicBool, Ordering};
 use std::thread;
@@ -124,7 +124,7 @@ fn give_report<R: Wait>(rt: &R, service: &Service, device: &impl Device, most: u
 }
 
 // Returns the session's report on its nodes. While blocks are marked and the link is up, a resync goes on.
-fn report(service: &Service, device: &impl Device, most: u32) -> Report {
+fn report(service: &Service, device: &impl Device, most: u32) -> StatusReport {
     let (primary, secondary) = device.status();
     let resync = match primary.words.link {
         LinkState::SyncSource => Some(Resync {
@@ -133,7 +133,7 @@ fn report(service: &Service, device: &impl Device, most: u32) -> Report {
         }),
         _ => None,
     };
-    Report {
+    StatusReport {
         primary,
         secondary,
         resync,

@@ -76,7 +76,7 @@ pub(crate) fn wait_for_quit<R: Wait + Clock + Net<Stream = TcpStream>, I: Read +
     input: I,
     addresses: (SocketAddr, Option<SocketAddr>),
 ) {
-    if !comes(rt, input) {
+    if !reads_quit(rt, input) {
         return;
     }
     service.end();
@@ -88,7 +88,7 @@ pub(crate) fn wait_for_quit<R: Wait + Clock + Net<Stream = TcpStream>, I: Read +
 }
 
 // Reads lines up to the order to end. Returns whether it came: not if the input ends before, or cannot be read.
-fn comes<R: Wait + Clock, I: Read + Drop>(rt: &R, input: I) -> bool {
+fn reads_quit<R: Wait + Clock, I: Read + Drop>(rt: &R, input: I) -> bool {
     let mut input = input;
     let mut line = Line::new();
     let mut buffer = [0u8; BUFFER_BYTES];

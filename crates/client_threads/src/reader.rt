@@ -1,7 +1,7 @@
 //! The thread of a client, which takes its requests.
 use crate::client::Client;
 use crate::job::Job;
-use crate::places::{PLACES, places_of};
+use crate::request_budget::{PLACES, places_of};
 use crate::service::Service;
 use crate::timed_writer::is_passing;
 use blocks::Refusal;

@@ -1,7 +1,7 @@
 //! The channels by which the status page asks the session for a report.
 use blocks::Refusal;
 use crossbeam_channel::{Receiver, Sender, bounded};
-use status_page::Report;
+use status_page::StatusReport;
 use std::alloc::Global;
 use std::sync::Wait;
 use std::time::{Clock, Duration};
@@ -16,8 +16,8 @@ const PATIENCE_MS: u64 = 2000;
 pub(crate) struct Reports {
     asked: Sender<()>,
     questions: Receiver<()>,
-    given: Sender<Report>,
-    answers: Receiver<Report>,
+    given: Sender<StatusReport>,
+    answers: Receiver<StatusReport>,
 }
 
 impl Reports {
@@ -34,7 +34,7 @@ impl Reports {
     }
 
     /// Asks for a report, and waits for it. Returns `None` if no session gives one in time.
-    pub(crate) fn ask<R: Wait + Clock>(&self, rt: &R) -> Option<Report> {
+    pub(crate) fn ask<R: Wait + Clock>(&self, rt: &R) -> Option<StatusReport> {
         // A report that came too late for the question before is old now.
         let _ = self.answers.try_recv(rt);
         let _ = self.asked.try_send(rt, ());
@@ -49,7 +49,7 @@ impl Reports {
     }
 
     /// Gives the report that was asked for.
-    pub(crate) fn give<R: Wait>(&self, rt: &R, report: Report) {
+    pub(crate) fn give<R: Wait>(&self, rt: &R, report: StatusReport) {
         let _ = self.given.try_send(rt, report);
     }
 }

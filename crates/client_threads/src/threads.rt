@@ -1,5 +1,5 @@
 //! The start of a server's threads.
-use crate::accept::let_in;
+use crate::accept::accept_clients;
 use crate::listeners::{Listener, Listeners};
 use crate::page::serve_page;
 use crate::quit::wait_for_quit;
@@ -63,7 +63,7 @@ pub fn start_threads<
     if thread::spawn(&rt, move || wait_for_quit(&rt, &waiting, input, addresses)).is_err() {
         return Err(StartFault::Unthreaded);
     }
-    if thread::spawn(&rt, move || let_in(rt, &letting, &clients.socket)).is_err() {
+    if thread::spawn(&rt, move || accept_clients(rt, &letting, &clients.socket)).is_err() {
         return Err(StartFault::Unthreaded);
     }
     Ok(())

@@ -1,5 +1,5 @@
 //! What waits to be written to a client, and whose turn it is to write it.
-use crate::outbox::Outbox;
+use crate::reply_queue::ReplyQueue;
 use std::alloc::{AllocError, Global};
 use std::mem;
 
@@ -41,7 +41,7 @@ pub(crate) enum Writer {
 pub(crate) struct Waiting {
     alloc: Global,
     // Whole replies. What was left of one that is written in part stands at the front.
-    outbox: Outbox,
+    outbox: ReplyQueue,
     writer: Writer,
     // Writes of the worker that has the turn.
     writes: u32,
@@ -56,7 +56,7 @@ impl Waiting {
     pub(crate) fn new(alloc: Global) -> Waiting {
         Waiting {
             alloc,
-            outbox: Outbox::new(alloc),
+            outbox: ReplyQueue::new(alloc),
             writer: Writer::Anyone,
             writes: 0,
             is_asked: false,
@@ -64,7 +64,7 @@ impl Waiting {
         }
     }
 
-    /// Appends a header and the data behind it, as `Outbox::put` does.
+    /// Appends a header and the data behind it, as `ReplyQueue::put` does.
     pub(crate) fn put(
         &mut self,
         header: &[u8],
@@ -81,7 +81,7 @@ impl Waiting {
 
     /// Begins a worker's turn, and takes all that waits. Returns `None` if nothing waits, or if another thread has the turn:
     /// that one sends it.
-    pub(crate) fn begin(&mut self) -> Option<Outbox> {
+    pub(crate) fn begin(&mut self) -> Option<ReplyQueue> {
         if self.outbox.is_empty() {
             return None;
         }
@@ -92,12 +92,12 @@ impl Waiting {
         self.writer = Writer::Worker;
         self.writes = 0;
         self.is_asked = false;
-        Some(mem::replace(&mut self.outbox, Outbox::new(self.alloc)))
+        Some(mem::replace(&mut self.outbox, ReplyQueue::new(self.alloc)))
     }
 
     /// Goes on with a worker's turn after a write: takes what waits if another worker asked for that since the last look. If
     /// none did, or the owner waits for the turn, ends it. The room of `written`, which is empty, is used again.
-    pub(crate) fn go_on(&mut self, written: Outbox) -> Option<Outbox> {
+    pub(crate) fn go_on(&mut self, written: ReplyQueue) -> Option<ReplyQueue> {
         if self.is_wanted {
             self.writer = Writer::Owner;
             return None;
@@ -117,7 +117,7 @@ impl Waiting {
     /// Leaves a worker's turn to the client's own thread: what the worker has taken and not written goes before what came
     /// meanwhile. If there is no memory for that, bytes are missing and only the places count, so the caller closes the
     /// connection.
-    pub(crate) fn leave(&mut self, left: Outbox) -> Result<(), AllocError> {
+    pub(crate) fn leave(&mut self, left: ReplyQueue) -> Result<(), AllocError> {
         self.writer = Writer::Owner;
         let newer = mem::replace(&mut self.outbox, left);
         self.outbox.append(newer)
@@ -145,7 +145,7 @@ impl Waiting {
     }
 
     /// Takes all that waits in the owner's turn. If nothing does, ends the turn. Returns `None` also if it is not its turn.
-    pub(crate) fn take_late(&mut self) -> Option<Outbox> {
+    pub(crate) fn take_late(&mut self) -> Option<ReplyQueue> {
         if self.writer != Writer::Owner {
             return None;
         }
@@ -153,6 +153,6 @@ impl Waiting {
             self.writer = Writer::Anyone;
             return None;
         }
-        Some(mem::replace(&mut self.outbox, Outbox::new(self.alloc)))
+        Some(mem::replace(&mut self.outbox, ReplyQueue::new(self.alloc)))
     }
 }

@@ -77,7 +77,7 @@ fn work_if_kept<R: Runtime>(
     device: &(impl Device + Sync),
     is_kept: &AtomicBool,
 ) -> Result<Vec<Receipt>, Refusal> {
-    if !keeper_comes(rt, is_kept) {
+    if !is_keeper_running(rt, is_kept) {
         return Err(Refusal::NoMemory);
     }
     let done = do_requests(rt, service, device);
@@ -86,7 +86,7 @@ fn work_if_kept<R: Runtime>(
 }
 
 // Waits until the thread that keeps the link up says that it runs. Returns whether it did in time.
-fn keeper_comes<R: Clock>(rt: &R, is_kept: &AtomicBool) -> bool {
+fn is_keeper_running<R: Clock>(rt: &R, is_kept: &AtomicBool) -> bool {
     for _ in 0..LOOKS_FOR_KEEPER {
         if is_kept.load(Ordering::SeqCst) {
             return true;

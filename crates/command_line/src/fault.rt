@@ -6,7 +6,7 @@ use std::io::Write;
 
 /// Why a command line was not accepted.
 #[derive(Drop)]
-pub enum Fault<'a> {
+pub enum UsageFault<'a> {
     /// They ask for help, which is then in the error, or they are wrong.
     Words(Error),
     /// A server is to listen at this, which is no numeric address with a port.
@@ -15,21 +15,21 @@ pub enum Fault<'a> {
     SharedImage(&'a str),
 }
 
-impl Fault<'_> {
+impl UsageFault<'_> {
     /// Prints help on `out` if it was asked for, and else what is wrong with the words on `err`. Returns how the
     /// program then ends: `Done` for help, `Failed` if it could not be written or there was no memory, and else
     /// `Misused`.
     pub fn print<W: Write, E: Write>(&self, out: &mut W, err: &mut E) -> Status {
         match self {
-            Fault::Words(error) => print_words(error, out, err),
-            Fault::Address(address) => {
+            UsageFault::Words(error) => print_words(error, out, err),
+            UsageFault::Address(address) => {
                 let _ = writeln!(
                     err,
                     "error: --listen {address}: give an IP address and a port, as in 127.0.0.1:10809"
                 );
                 Status::Misused
             }
-            Fault::SharedImage(image) => {
+            UsageFault::SharedImage(image) => {
                 let _ = writeln!(
                     err,
                     "error: --local and --peer are both {image}: give two images"

@@ -8,5 +8,5 @@ mod order;
 mod run;
 mod serve;
 
-pub use fault::Fault;
+pub use fault::UsageFault;
 pub use order::{HelpTexts, Order, parse};

@@ -1,5 +1,5 @@
 //! The order that a command line gives.
-use crate::fault::Fault;
+use crate::fault::UsageFault;
 use crate::help::{RunHelp, ScriptHelp, ServeHelp, TcpHelp};
 use crate::{run, serve};
 use clap::{Arg, ArgMatches, Command, Error};
@@ -44,17 +44,17 @@ impl HelpTexts {
 
 /// Reads the program's words; the first one is its name. `progress` says whether a long run shows its progress.
 ///
-/// `Fault::Words` if they ask for help or are wrong, `Fault::SharedImage` if both disks are to have the same image,
-/// `Fault::Address` if a server is to listen at no numeric address with a port.
+/// `UsageFault::Words` if they ask for help or are wrong, `UsageFault::SharedImage` if both disks are to have the same image,
+/// `UsageFault::Address` if a server is to listen at no numeric address with a port.
 pub fn parse<'a, S: AsStr>(
     alloc: Global,
     helps: &'a HelpTexts,
     words: &'a [S],
     progress: bool,
-) -> Result<Order<'a>, Fault<'a>> {
+) -> Result<Order<'a>, UsageFault<'a>> {
     match matches_of(alloc, helps, words) {
         Ok(matches) => order_of(&matches, progress),
-        Err(error) => Err(Fault::Words(error)),
+        Err(error) => Err(UsageFault::Words(error)),
     }
 }
 
@@ -83,7 +83,7 @@ fn matches_of<'a, S: AsStr>(
         .try_get_matches_from(words)
 }
 
-fn order_of<'a>(matches: &ArgMatches<'a>, progress: bool) -> Result<Order<'a>, Fault<'a>> {
+fn order_of<'a>(matches: &ArgMatches<'a>, progress: bool) -> Result<Order<'a>, UsageFault<'a>> {
     match matches.subcommand() {
         Some(("run", words)) => run_of(words, Path::Link, progress),
         Some(("tcp", words)) => run_of(words, Path::Sockets, progress),
@@ -94,21 +94,25 @@ fn order_of<'a>(matches: &ArgMatches<'a>, progress: bool) -> Result<Order<'a>, F
 }
 
 // Returns the order for a run whose frames take this path.
-fn run_of<'a>(words: &ArgMatches<'a>, path: Path, progress: bool) -> Result<Order<'a>, Fault<'a>> {
+fn run_of<'a>(
+    words: &ArgMatches<'a>,
+    path: Path,
+    progress: bool,
+) -> Result<Order<'a>, UsageFault<'a>> {
     match shared_image(words) {
-        Some(image) => Err(Fault::SharedImage(image)),
+        Some(image) => Err(UsageFault::SharedImage(image)),
         None => Ok(Order::Run(run::options(words, path, progress), run::images(words))),
     }
 }
 
 // Returns the order for a server.
-fn serve_of<'a>(words: &ArgMatches<'a>) -> Result<Order<'a>, Fault<'a>> {
+fn serve_of<'a>(words: &ArgMatches<'a>) -> Result<Order<'a>, UsageFault<'a>> {
     if let Some(image) = shared_image(words) {
-        return Err(Fault::SharedImage(image));
+        return Err(UsageFault::SharedImage(image));
     }
     match serve::options(words) {
         Some(options) => Ok(Order::Serve(options)),
-        None => Err(Fault::Address(serve::listen(words))),
+        None => Err(UsageFault::Address(serve::listen(words))),
     }
 }
 

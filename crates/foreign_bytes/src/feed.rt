@@ -1,15 +1,16 @@
 //! Streams that are fed to a node through a pump.
 use crate::nodes::{
-    RowEnds, RowLocal, RowPeer, open_local, open_peer, submit, work_local, work_peer,
+    RowEnds, RowPrimary, RowSecondary, open_primary, open_secondary, submit, work_primary,
+    work_secondary,
 };
 use bell::Bell;
 use blocks::{Done, Refusal};
 use pumps::{Buffer, PumpEnd, pump_in};
-use ruled_link::PieceOut;
 use std::alloc::Global;
 use std::sync::Wait;
 use std::sync::atomic::AtomicBool;
 use std::time::Clock;
+use thread_link::PieceOut;
 
 /// The outcome of a stream.
 #[derive(Clone, Copy, Debug, PartialEq, Eq)]
@@ -83,26 +84,32 @@ pub(crate) fn feed_secondary<R: Wait + Clock + Copy + Drop>(
     alloc: Global,
     stream: &Vec<u8>,
 ) -> Result<Fed, Refusal> {
-    match open_peer(rt, alloc) {
-        Ok((mut peer, mut rows)) => feed_peer(rt, alloc, &mut peer, &mut rows, stream),
+    match open_secondary(rt, alloc) {
+        Ok((mut secondary, mut rows)) => feed_open_secondary(
+            rt,
+            alloc,
+            &mut secondary,
+            &mut rows,
+            stream,
+        ),
         Err(refusal) => Err(refusal),
     }
 }
 
-fn feed_peer<R: Wait + Clock + Drop>(
+fn feed_open_secondary<R: Wait + Clock + Drop>(
     rt: R,
     alloc: Global,
-    peer: &mut RowPeer<R>,
+    secondary: &mut RowSecondary<R>,
     rows: &mut RowEnds<R>,
     stream: &Vec<u8>,
 ) -> Result<Fed, Refusal> {
     let is_whole = pump(rt, alloc, rows, stream)?;
-    Ok(take_all(peer, rows, stream.len(), is_whole))
+    Ok(take_all(secondary, rows, stream.len(), is_whole))
 }
 
 // Has a secondary take frames while there are any: each has a byte at least.
 fn take_all<R: Wait + Drop>(
-    peer: &mut RowPeer<R>,
+    secondary: &mut RowSecondary<R>,
     rows: &mut RowEnds<R>,
     bytes: usize,
     is_whole: bool,
@@ -112,13 +119,13 @@ fn take_all<R: Wait + Drop>(
         is_sound: is_whole,
     };
     for _ in 0..bytes {
-        work_peer(peer);
+        work_secondary(secondary);
         drop_sent(rows);
-        let came = judged(peer.receive());
-        if came == Came::NotNow && peer.has_unfinished() {
+        let came = judged(secondary.receive());
+        if came == Came::NotNow && secondary.has_unfinished() {
             continue;
         }
-        let is_closed = came != Came::Refused || peer.receive() == Err(Refusal::NotConnected);
+        let is_closed = came != Came::Refused || secondary.receive() == Err(Refusal::NotConnected);
         if !fed.note(came, is_closed) {
             break;
         }
@@ -132,27 +139,33 @@ pub(crate) fn feed_primary<R: Wait + Clock + Copy + Drop>(
     alloc: Global,
     stream: &Vec<u8>,
 ) -> Result<Fed, Refusal> {
-    match open_local(rt, alloc) {
-        Ok((mut local, mut rows)) => feed_local(rt, alloc, &mut local, &mut rows, stream),
+    match open_primary(rt, alloc) {
+        Ok((mut primary, mut rows)) => feed_open_primary(
+            rt,
+            alloc,
+            &mut primary,
+            &mut rows,
+            stream,
+        ),
         Err(refusal) => Err(refusal),
     }
 }
 
-fn feed_local<R: Wait + Clock + Drop>(
+fn feed_open_primary<R: Wait + Clock + Drop>(
     rt: R,
     alloc: Global,
-    local: &mut RowLocal<R>,
+    primary: &mut RowPrimary<R>,
     rows: &mut RowEnds<R>,
     stream: &Vec<u8>,
 ) -> Result<Fed, Refusal> {
     let is_whole = pump(rt, alloc, rows, stream)?;
-    take_acks(alloc, local, rows, stream.len(), is_whole)
+    take_acks(alloc, primary, rows, stream.len(), is_whole)
 }
 
 // Has a primary write, and take frames while there are any.
 fn take_acks<R: Wait + Drop>(
     alloc: Global,
-    local: &mut RowLocal<R>,
+    primary: &mut RowPrimary<R>,
     rows: &mut RowEnds<R>,
     bytes: usize,
     is_whole: bool,
@@ -165,12 +178,12 @@ fn take_acks<R: Wait + Drop>(
     for _ in 0..bytes {
         // A frame is acknowledged only after it was sent.
         for _ in 0..4 {
-            write = submit(alloc, local, write)?;
-            work_local(local);
+            write = submit(alloc, primary, write)?;
+            work_primary(primary);
         }
         drop_sent(rows);
-        let came = judged(local.ack_in());
-        let is_closed = came != Came::Refused || local.ack_in() == Err(Refusal::NotConnected);
+        let came = judged(primary.ack_in());
+        let is_closed = came != Came::Refused || primary.ack_in() == Err(Refusal::NotConnected);
         if !fed.note(came, is_closed) {
             break;
         }

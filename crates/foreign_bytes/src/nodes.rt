@@ -1,16 +1,16 @@
 //! The two nodes, each at the ends of two rows.
 ghost use Rattle.std.specs.Prelude.{◌<◌, IfOk};
 ghost use Rattle.endpoint.specs.Calls.{IsNewIn, IsNewOut};
-ghost use Rattle.ruled_link.specs.Inward.{taking};
-ghost use Rattle.ruled_link.specs.Outward.{sending};
+ghost use Rattle.thread_link.specs.Inward.{taking};
+ghost use Rattle.thread_link.specs.Outward.{sending};
 
 use bitmap::Bitmap;
 use blocks::{BLOCK_BYTES, ConnectionWords, MemStore, Refusal, Settings, Tuple};
 use bytes::Bytes;
-use ruled_link::{PieceIn, PieceOut, RuledIn, RuledOut, row};
-use session_nodes::{Local, Peer, Unknown};
+use session_nodes::{SessionPrimary, SessionSecondary, Unknown};
 use std::alloc::Global;
 use std::sync::Wait;
+use thread_link::{PieceIn, PieceOut, RuledIn, RuledOut, row};
 
 /// Pieces of a row: more than a recorded stream has.
 const PIECES: usize = 1_024;
@@ -36,10 +36,10 @@ const OWN: Tuple = Tuple {
 const WORDS: ConnectionWords = ConnectionWords { sync: 5, loss: 7 };
 
 /// A primary at the ends of two rows.
-pub(crate) type RowLocal<R> = Local<Unknown, RuledOut<R>, RuledIn<R>, MemStore>;
+pub(crate) type RowPrimary<R> = SessionPrimary<Unknown, RuledOut<R>, RuledIn<R>, MemStore>;
 
 /// A secondary at the ends of two rows.
-pub(crate) type RowPeer<R> = Peer<Unknown, RuledOut<R>, RuledIn<R>, MemStore>;
+pub(crate) type RowSecondary<R> = SessionSecondary<Unknown, RuledOut<R>, RuledIn<R>, MemStore>;
 
 /// The other ends of a node's two rows.
 #[derive(Drop)]
@@ -66,27 +66,27 @@ fn rows<R: Wait + Copy + Drop>(
 }
 
 /// Opens a primary over a disk filled with zeros.
-pub(crate) fn open_local<R: Wait + Copy + Drop>(
+pub(crate) fn open_primary<R: Wait + Copy + Drop>(
     rt: R,
     alloc: Global,
-) -> Result<(RowLocal<R>, RowEnds<R>), Refusal> {
+) -> Result<(RowPrimary<R>, RowEnds<R>), Refusal> {
     let disk = MemStore::zeroed(alloc, SETTINGS.blocks)?;
     let marks = Bitmap::unmarked(alloc, u64::from(SETTINGS.blocks))?;
     let (ends, rows) = rows(rt, alloc)?;
-    match Local::open(alloc, SETTINGS, disk, OWN, marks, ends, WORDS) {
+    match SessionPrimary::open(alloc, SETTINGS, disk, OWN, marks, ends, WORDS) {
         Ok(node) => Ok((node, rows)),
         Err(refusal) => Err(refusal),
     }
 }
 
 /// Opens a secondary over a disk filled with zeros.
-pub(crate) fn open_peer<R: Wait + Copy + Drop>(
+pub(crate) fn open_secondary<R: Wait + Copy + Drop>(
     rt: R,
     alloc: Global,
-) -> Result<(RowPeer<R>, RowEnds<R>), Refusal> {
+) -> Result<(RowSecondary<R>, RowEnds<R>), Refusal> {
     let disk = MemStore::zeroed(alloc, SETTINGS.blocks)?;
     let (ends, rows) = rows(rt, alloc)?;
-    match Peer::open(alloc, SETTINGS, disk, Tuple::new(0, 0, 0, 0), ends) {
+    match SessionSecondary::open(alloc, SETTINGS, disk, Tuple::new(0, 0, 0, 0), ends) {
         Ok(node) => Ok((node, rows)),
         Err(refusal) => Err(refusal),
     }
@@ -96,7 +96,7 @@ pub(crate) fn open_peer<R: Wait + Copy + Drop>(
 /// the same one if it was not accepted.
 pub(crate) fn submit<R: Wait + Drop>(
     alloc: Global,
-    node: &mut RowLocal<R>,
+    node: &mut RowPrimary<R>,
     write: u64,
 ) -> Result<u64, Refusal> {
     if write >= WRITES {
@@ -121,14 +121,14 @@ fn contents(alloc: Global, write: u64) -> Result<Bytes, Refusal>
 }
 
 /// Does what a primary can do without a frame. A call that has nothing to do is refused, and changes nothing.
-pub(crate) fn work_local<R: Wait + Drop>(node: &mut RowLocal<R>) {
+pub(crate) fn work_primary<R: Wait + Drop>(node: &mut RowPrimary<R>) {
     let _ = node.write_next();
     let _ = node.resync_next();
     let _ = node.send();
 }
 
 /// Does what a secondary can do without a frame.
-pub(crate) fn work_peer<R: Wait + Drop>(node: &mut RowPeer<R>) {
+pub(crate) fn work_secondary<R: Wait + Drop>(node: &mut RowSecondary<R>) {
     let _ = node.apply_next();
     let _ = node.ack_out();
 }

@@ -1,11 +1,12 @@
 //! The recorded streams of a session.
 use crate::nodes::{
-    RowEnds, RowLocal, RowPeer, open_local, open_peer, submit, work_local, work_peer,
+    RowEnds, RowPrimary, RowSecondary, open_primary, open_secondary, submit, work_primary,
+    work_secondary,
 };
 use blocks::Refusal;
-use ruled_link::{Piece, PieceIn, PieceOut};
 use std::alloc::Global;
 use std::sync::Wait;
+use thread_link::{Piece, PieceIn, PieceOut};
 
 /// More turns than both nodes need until they are idle.
 const TURNS: u32 = 400;
@@ -20,8 +21,8 @@ pub(crate) struct Recorded {
 impl Recorded {
     /// Records a session in which all blocks are copied while writes go on.
     pub(crate) fn new<R: Wait + Copy + Drop>(rt: R, alloc: Global) -> Result<Recorded, Refusal> {
-        match open_local(rt, alloc) {
-            Ok(mut local) => Recorded::of(rt, alloc, &mut local),
+        match open_primary(rt, alloc) {
+            Ok(mut primary) => Recorded::of(rt, alloc, &mut primary),
             Err(refusal) => Err(refusal),
         }
     }
@@ -30,14 +31,14 @@ impl Recorded {
     fn of<R: Wait + Copy + Drop>(
         rt: R,
         alloc: Global,
-        local: &mut (RowLocal<R>, RowEnds<R>),
+        primary: &mut (RowPrimary<R>, RowEnds<R>),
     ) -> Result<Recorded, Refusal> {
         let mut recorded = Recorded {
             there: Vec::new(alloc),
             back: Vec::new(alloc),
         };
-        match open_peer(rt, alloc) {
-            Ok(mut peer) => recorded.record(alloc, local, &mut peer)?,
+        match open_secondary(rt, alloc) {
+            Ok(mut secondary) => recorded.record(alloc, primary, &mut secondary)?,
             Err(refusal) => return Err(refusal),
         }
         Ok(recorded)
@@ -47,18 +48,26 @@ impl Recorded {
     fn record<R: Wait + Drop>(
         &mut self,
         alloc: Global,
-        local: &mut (RowLocal<R>, RowEnds<R>),
-        peer: &mut (RowPeer<R>, RowEnds<R>),
+        primary: &mut (RowPrimary<R>, RowEnds<R>),
+        secondary: &mut (RowSecondary<R>, RowEnds<R>),
     ) -> Result<(), Refusal> {
         let mut write = 0u64;
         for _ in 0..TURNS {
-            write = submit(alloc, &mut local.0, write)?;
-            work_local(&mut local.0);
-            carry(&mut local.1.sent, &mut peer.1.to_take, &mut self.there)?;
-            let _ = peer.0.receive();
-            work_peer(&mut peer.0);
-            carry(&mut peer.1.sent, &mut local.1.to_take, &mut self.back)?;
-            let _ = local.0.ack_in();
+            write = submit(alloc, &mut primary.0, write)?;
+            work_primary(&mut primary.0);
+            carry(
+                &mut primary.1.sent,
+                &mut secondary.1.to_take,
+                &mut self.there,
+            )?;
+            let _ = secondary.0.receive();
+            work_secondary(&mut secondary.0);
+            carry(
+                &mut secondary.1.sent,
+                &mut primary.1.to_take,
+                &mut self.back,
+            )?;
+            let _ = primary.0.ack_in();
         }
         Ok(())
     }

@@ -3,10 +3,10 @@
 #![tactic(auto)]
 
 mod decision;
-mod turn;
+mod rotation;
 mod words;
 
 pub use blocks::Tuple;
 pub use decision::decide;
-pub use turn::Generations;
+pub use rotation::Generations;
 pub use words::{fresh, stands_in};

@@ -2,10 +2,10 @@
 use Rattle.std.specs.Prelude.{false, slice_get, unwrap_or}
 use Rattle.model.specs.Contents.{BlockMap}
 use Rattle.model.specs.Theorems.{Opening}
-use Rattle.halves.specs.declared.parts.Parts.{Parts}
+use Rattle.halves.specs.declared.session_start.SessionStart.{SessionStart}
 
 -- the opening of a session of these parts over these two disks
-abbrev pub opening_of : Parts → BlockMap → BlockMap → Opening
+abbrev pub opening_of : SessionStart → BlockMap → BlockMap → Opening
 opening_of parts local peer = record {
   settings = parts.settings;
   peer_settings = parts.settings;

@@ -5,13 +5,13 @@
 mod begun;
 mod device;
 mod host;
-mod parts;
 mod primary_half;
 mod secondary_half;
+mod session_start;
 
 pub use begun::Begun;
 pub use device::Device;
 pub use host::{Host, Runtime};
-pub use parts::Parts;
 pub use primary_half::PrimaryHalf;
 pub use secondary_half::SecondaryHalf;
+pub use session_start::SessionStart;

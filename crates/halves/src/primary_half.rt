@@ -8,7 +8,7 @@ use blocks::{Done, Refusal};
 use bytes::Bytes;
 use primary::Receipt;
 use status_lines::PrimaryLine;
-use turns::{LocalRole, SentItems, Turn};
+use turns::{PrimaryRole, SentItems, Turn};
 
 /// The primary's half of a session, over any link and disk. Each call locks the node, does what it says, and unlocks
 /// the node. Its refusals are those of the node's call of the same name, and no other.
@@ -53,7 +53,7 @@ pub trait PrimaryHalf {
         ensures refused { IfErr result (λ e. ack_in_refuses e ≡ true) };
 
     /// Does a turn of a thread, and wakes the writers if it concerns them.
-    fn turn(&self, role: LocalRole) -> Turn;
+    fn turn(&self, role: PrimaryRole) -> Turn;
 
     /// Closes the end, if it is open.
     fn close(&self);

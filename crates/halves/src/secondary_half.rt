@@ -6,7 +6,7 @@ ghost use Rattle.model.specs.CallRefusals.{ack_out_refuses, receive_refuses};
 use bell::Bell;
 use blocks::{Done, Refusal};
 use status_lines::SecondaryLine;
-use turns::{PeerRole, SentItems, Turn};
+use turns::{SecondaryRole, SentItems, Turn};
 
 /// The secondary's half of a session, over any link and disk. Each call locks the node, does what it says, and unlocks
 /// the node. Its refusals are those of the node's call of the same name, and no other.
@@ -25,7 +25,7 @@ pub trait SecondaryHalf {
         ensures refused { IfErr result (λ e. ack_out_refuses e ≡ true) };
 
     /// Does a turn of a thread.
-    fn turn(&self, role: PeerRole) -> Turn;
+    fn turn(&self, role: SecondaryRole) -> Turn;
 
     /// Closes the end, if it is open.
     fn close(&self);

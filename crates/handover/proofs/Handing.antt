@@ -20,7 +20,7 @@ use Rattle.primary_protocol.specs.Steps as primary
 use Rattle.secondary_protocol.specs.Node as secondary
 use Rattle.settle.proofs.Settling.{reached_from, of-runs, sound-opening}
 use Rattle.settle.specs.Settled.{WereHonest}
-use Rattle.halves.specs.declared.parts.Parts.{Parts}
+use Rattle.halves.specs.declared.session_start.SessionStart.{SessionStart}
 
 -- what two histories leave is a sound opening, where they are joined and at rest
 abbrev LeaveSound : PrimaryHistory → SecondaryHistory → Type 0
@@ -41,7 +41,7 @@ reached-parts p s rp rs honest =
     of-runs LeaveNoPart p s rp rs (leaves_no_part (reached_from p s rp rs) rp.events rs.events (sound-opening p s rp rs honest))
 
 -- The parts that are left over the disks as they are: the same opening, over settings that both nodes have.
-pub parts-sound : (parts : Parts) (p : PrimaryHistory) (s : SecondaryHistory) → IsLeft parts p s → p.settings ≡ s.settings
+pub parts-sound : (parts : SessionStart) (p : PrimaryHistory) (s : SecondaryHistory) → IsLeft parts p s → p.settings ≡ s.settings
     → IsSoundOpening (left_by p s parts.peer) → IsSoundOpening (opening_of parts (local_map p) (secondary_map s))
 parts-sound parts p s left same sound = record {
   ranges = record { here = range; there = range };

@@ -5,7 +5,7 @@ use Rattle.blocks.specs.declared.tuple.Tuple.{Tuple}
 use Rattle.model.specs.Headline.{is_marked}
 use Rattle.model.specs.Primary.{PrimaryHistory}
 use Rattle.model.specs.Secondary.{SecondaryHistory}
-use Rattle.halves.specs.declared.parts.Parts.{Parts}
+use Rattle.halves.specs.declared.session_start.SessionStart.{SessionStart}
 
 -- the identifiers of an unknown disk
 abbrev pub unknown : Tuple
@@ -17,7 +17,7 @@ identifiers_of consistent peer own = if consistent && is_ok (decision own peer) 
 
 -- The parts that two nodes leave: the primary's settings, identifiers and marks, one for each block; and what the peer's
 -- disk is known by.
-pub record IsLeft (parts : Parts) (p : PrimaryHistory) (s : SecondaryHistory) : Type 0 where
+pub record IsLeft (parts : SessionStart) (p : PrimaryHistory) (s : SecondaryHistory) : Type 0 where
   pub settings : parts.settings ≡ p.settings
   pub own : parts.own ≡ p.tuple
   pub peer : parts.peer ≡ identifiers_of s.consistent s.tuple p.tuple

@@ -16,7 +16,7 @@ ghost use Rattle.settle.specs.Settled.{WereHonest};
 
 use blocks::{ConnectionWords, Refusal, Store, Tuple};
 use generations::decide;
-use halves::Parts;
+use halves::SessionStart;
 use link::{FrameIn, FrameOut};
 use primary::Primary;
 use secondary::Secondary;
@@ -52,7 +52,7 @@ pub fn parts_after<
     primary: &Primary<O, I, S>,
     secondary: &Secondary<P, J, T>,
     words: ConnectionWords,
-) -> Result<Parts, Refusal>
+) -> Result<SessionStart, Refusal>
     ensures left { IfOk result (λ parts. (p : PrimaryHistory) (s : SecondaryHistory) → PrimaryHas (primary_node primary.now) p → SecondaryHas (secondary_node secondary.now) s
         → IsLeft parts p s) }
     ensures words { IfOk result (λ parts. (parts.sync ≡ words.sync) × (parts.loss ≡ words.loss)) }
@@ -79,7 +79,7 @@ pub fn parts_after<
     let marks = primary.bitmap().copy(alloc)?;
     let own = primary.tuple();
     let peer = identifiers_of(secondary.is_consistent(), secondary.tuple(), &own);
-    Ok(Parts {
+    Ok(SessionStart {
         settings,
         own,
         peer,

@@ -2,8 +2,8 @@
 //! other half.
 #![tactic(auto)]
 
-mod local_half;
-mod peer_half;
+mod locked_primary;
+mod locked_secondary;
 
-pub use local_half::LocalHalf;
-pub use peer_half::PeerHalf;
+pub use locked_primary::LockedPrimary;
+pub use locked_secondary::LockedSecondary;

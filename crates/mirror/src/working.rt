@@ -18,7 +18,7 @@ use secondary::Secondary;
 /// it may be called again. A hello takes some five turns, a write or a block of a resync a few.
 ///
 /// If the nodes are closed, their disks do what they have to do. The link has to deliver its frames by itself, as
-/// `ruled_link::RuledLink` does: a `link::PlainLink` needs a caller that carries its queue from one end to the
+/// `thread_link::RuledLink` does: a `link::PlainLink` needs a caller that carries its queue from one end to the
 /// other.
 ///
 /// A step that has nothing to do now, or waits for another one, is no failure. Every other refusal ends the work

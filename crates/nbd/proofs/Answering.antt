@@ -5,8 +5,8 @@ use Rattle.std.specs.List.{AllByRecursion}
 use Rattle.std.proofs.lemmas.Bool.{eqb-true, eqb-false}
 use Rattle.std.proofs.lemmas.List.Concat.{flat_map-cons}
 use Rattle.blocks.specs.declared.refusal.Refusal.{Refusal}
-use Rattle.nbd.specs.declared.command.Command.{Command}
-use Rattle.nbd.specs.declared.command.Command.TheVariants as command
+use Rattle.nbd.specs.declared.command.NbdCommand.{NbdCommand}
+use Rattle.nbd.specs.declared.command.NbdCommand.TheVariants as command
 use Rattle.nbd.specs.declared.errno.Errno.{Errno}
 use Rattle.nbd.specs.declared.header.RequestHeader.{RequestHeader}
 use Rattle.nbd.specs.declared.phase.Part.TheVariants as part
@@ -27,7 +27,7 @@ pub none_of : (xs : List ℕ) → length xs ≡ 0 → xs ≡ []
 none_of [] h = refl
 none_of (x ∷ xs) h = absurd (omega (arith, h))
 
-served_kind : (e : Exported) (h : RequestHeader) (c : Command) → judged e h ≡ Ok c → command_at h.kind ≡ Some c
+served_kind : (e : Exported) (h : RequestHeader) (c : NbdCommand) → judged e h ≡ Ok c → command_at h.kind ≡ Some c
 unfolding judged
 served_kind e h c is = (served_as e (command_at h.kind) h c is).0
 
@@ -35,14 +35,14 @@ write_kind : (h : RequestHeader) → eqb h.kind 1 ≡ true → command_at h.kind
 write_kind h is = ap command_at (eqb-true _ _ is)
 
 -- only a WRITE has a payload
-no_payload_as : (h : RequestHeader) (c : Command) (t : Bool) → eqb h.kind 1 ≡ t → command_at h.kind ≡ Some c → c ≢ command.Write → cond t h.length 0 ≡ 0
+no_payload_as : (h : RequestHeader) (c : NbdCommand) (t : Bool) → eqb h.kind 1 ≡ t → command_at h.kind ≡ Some c → c ≢ command.Write → cond t h.length 0 ≡ 0
 no_payload_as h c true is known other =
     let same : Some c ≡ Some command.Write = sym known ∙ write_kind h is in
     let command : c ≡ command.Write = cc in
     absurd (other command)
 no_payload_as h c false is known other = refl
 
-pub no_payload : (e : Exported) (h : RequestHeader) (c : Command) → judged e h ≡ Ok c → c ≢ command.Write → payload_length h ≡ 0
+pub no_payload : (e : Exported) (h : RequestHeader) (c : NbdCommand) → judged e h ≡ Ok c → c ≢ command.Write → payload_length h ≡ 0
 no_payload e h c is other = no_payload_as h c (eqb h.kind 1) refl (served_kind e h c is) other
 
 write_only : (a b c d f : Bool)
@@ -68,11 +68,11 @@ whole_payload e h is = whole_payload_as h (eqb h.kind 1)
 -- ---- one message
 
 -- what comes of a header that was judged so, and its payload
-abbrev finished : Exported → Message → Result Command Errno → Fed
+abbrev finished : Exported → Message → Result NbdCommand Errno → Fed
 finished e m r = let first = after_step e (begins m.header r) in then_fed first (fed first.machine m.payload)
 
 -- a message that has no payload, where its header is answered
-served_now : (e : Exported) (h : RequestHeader) (payload : List ℕ) (c : Command) → payload ≡ []
+served_now : (e : Exported) (h : RequestHeader) (payload : List ℕ) (c : NbdCommand) → payload ≡ []
     → (finished e (record { header = h; payload = [] }) (Ok c) ≡ answer_as e (record { header = h; payload = [] }) (Ok c))
     → finished e (record { header = h; payload = payload }) (Ok c) ≡ answer_as e (record { header = h; payload = payload }) (Ok c)
 served_now e h payload c none is =
@@ -93,7 +93,7 @@ refused_now e h errno payload false is whole =
     let first = after_step e (goes_on (phase.Skip (payload_length h) (refused.Write h.cookie errno))) in
     ap (λ (f : Fed). then_fed first f) (fed_skipped e (payload_length h) (refused.Write h.cookie errno) payload (omega (arith, whole, other)) whole)
 
-finishes : (e : Exported) (m : Message) (r : Result Command Errno) → judged e m.header ≡ r → length m.payload ≡ payload_length m.header
+finishes : (e : Exported) (m : Message) (r : Result NbdCommand Errno) → judged e m.header ≡ r → length m.payload ≡ payload_length m.header
     → finished e m r ≡ answer_as e m r
 unfolding fed step
 finishes e m (Ok command.Read) is whole =
@@ -126,7 +126,7 @@ message_is_answered e m is =
 -- ---- messages, one after another
 
 -- after a message that does not end it the connection is between two requests
-goes_on_as : (e : Exported) (m : Message) (r : Result Command Errno) → is_end r ≡ false → (answer_as e m r).machine ≡ at_request e
+goes_on_as : (e : Exported) (m : Message) (r : Result NbdCommand Errno) → is_end r ≡ false → (answer_as e m r).machine ≡ at_request e
 goes_on_as e m (Ok command.Read) go = refl
 goes_on_as e m (Ok command.Write) go = refl
 goes_on_as e m (Ok command.Disconnect) go = absurd cc
@@ -134,7 +134,7 @@ goes_on_as e m (Ok command.Flush) go = refl
 goes_on_as e m (Ok command.WriteZeroes) go = refl
 goes_on_as e m (Err errno) go = refl
 
-ends_as : (e : Exported) (m : Message) (r : Result Command Errno) → is_end r ≡ true → answer_as e m r ≡ silent (closed e)
+ends_as : (e : Exported) (m : Message) (r : Result NbdCommand Errno) → is_end r ≡ true → answer_as e m r ≡ silent (closed e)
 ends_as e m (Ok command.Read) end = absurd cc
 ends_as e m (Ok command.Write) end = absurd cc
 ends_as e m (Ok command.Disconnect) end = refl

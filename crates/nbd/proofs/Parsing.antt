@@ -7,8 +7,8 @@ use Rattle.std.proofs.lemmas.List.{length-take, length-drop, take-append-drop}
 use Rattle.std.proofs.lemmas.List.Concat.{flat_map-cons}
 use Rattle.blocks.specs.declared.refusal.Refusal.{Refusal}
 use Rattle.packets.proofs.Digits.{IsBytes, IsBytes_take, IsBytes_drop}
-use Rattle.nbd.specs.declared.command.Command.{Command}
-use Rattle.nbd.specs.declared.command.Command.TheVariants as command
+use Rattle.nbd.specs.declared.command.NbdCommand.{NbdCommand}
+use Rattle.nbd.specs.declared.command.NbdCommand.TheVariants as command
 use Rattle.nbd.specs.declared.errno.Errno.{Errno}
 use Rattle.nbd.specs.declared.header.RequestHeader.{RequestHeader}
 use Rattle.nbd.specs.declared.phase.Part.TheVariants as part
@@ -50,7 +50,7 @@ refused_part e h errno back false is less =
       ap (λ (f : Fed). then_fed first f) (fed_skips e (payload_length h) (refused.Write h.cookie errno) back less),
     )
 
-begun : (e : Exported) (h : RequestHeader) (back : List ℕ) (r : Result Command Errno) → judged e h ≡ r → length back < payload_length h
+begun : (e : Exported) (h : RequestHeader) (back : List ℕ) (r : Result NbdCommand Errno) → judged e h ≡ r → length back < payload_length h
     → (m : Machine) × ((let first = after_step e (begins h r) in then_fed first (fed first.machine back)) ≡ silent m)
 begun e h back (Ok command.Read) is less = absurd (no_less _ _ (no_payload e h command.Read is (λ same. cc)) less)
 begun e h back (Ok command.Write) is less =

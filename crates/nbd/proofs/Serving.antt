@@ -7,8 +7,8 @@ use Rattle.std.proofs.lemmas.Bool.{eqb-true, eqb-false}
 use Rattle.std.proofs.lemmas.List.{length-append}
 use Rattle.blocks.specs.declared.refusal.Refusal.{Refusal}
 use Rattle.packets.specs.Numbers.{number_in}
-use Rattle.nbd.specs.declared.command.Command.{Command}
-use Rattle.nbd.specs.declared.command.Command.TheVariants as command
+use Rattle.nbd.specs.declared.command.NbdCommand.{NbdCommand}
+use Rattle.nbd.specs.declared.command.NbdCommand.TheVariants as command
 use Rattle.nbd.specs.declared.errno.Errno.{Errno}
 use Rattle.nbd.specs.declared.header.RequestHeader.{RequestHeader}
 use Rattle.nbd.specs.declared.phase.Part.{Part}
@@ -42,7 +42,7 @@ blocks_are offset bytes h =
     record { first = eqb-true _ _ p.0; whole = eqb-true _ _ q.0; some = above_none bytes q.1 }
 
 -- a READ, a WRITE or a WRITE_ZEROES that is served
-range_inside : (e : Exported) (c : Command) (h : RequestHeader) (payload : List ℕ) → c ≢ command.Disconnect → (c ≡ command.Read → h.length ≤ 33554432)
+range_inside : (e : Exported) (c : NbdCommand) (h : RequestHeader) (payload : List ℕ) → c ≢ command.Disconnect → (c ≡ command.Read → h.length ≤ 33554432)
     → (c ≡ command.Write → length payload ≡ h.length) → IsServed e c h → IsInside e.blocks (request_of c h payload)
 range_inside e c h payload stays short whole s =
     let b = blocks_are h.offset h.length s.whole in
@@ -73,7 +73,7 @@ short_read : (h : RequestHeader) → is_long command.Read h.length ≡ false →
 short_read h is = not_above 33554432 h.length is
 
 -- a request that follows its header at once
-begins_inside : (e : Exported) (h : RequestHeader) (r : Result Command Errno) → judged_as e (command_at h.kind) h ≡ r
+begins_inside : (e : Exported) (h : RequestHeader) (r : Result NbdCommand Errno) → judged_as e (command_at h.kind) h ≡ r
     → AllByRecursion (IsInside e.blocks) (begins h r).requests
 begins_inside e h (Ok command.Read) is =
     let s = (served_as e (command_at h.kind) h command.Read is).1 in

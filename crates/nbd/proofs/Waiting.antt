@@ -6,8 +6,8 @@ use Rattle.std.proofs.lemmas.Bool.{eqb-true, eqb-false}
 use Rattle.std.proofs.lemmas.Bool.Decides.{nat_tests}
 use Rattle.blocks.specs.declared.refusal.Refusal.{Refusal}
 use Rattle.packets.specs.Numbers.{number_in}
-use Rattle.nbd.specs.declared.command.Command.{Command}
-use Rattle.nbd.specs.declared.command.Command.TheVariants as command
+use Rattle.nbd.specs.declared.command.NbdCommand.{NbdCommand}
+use Rattle.nbd.specs.declared.command.NbdCommand.TheVariants as command
 use Rattle.nbd.specs.declared.errno.Errno.{Errno}
 use Rattle.nbd.specs.declared.errno.Errno.TheVariants.{Invalid, Overflow}
 use Rattle.nbd.specs.declared.header.RequestHeader.{RequestHeader}
@@ -53,17 +53,17 @@ option_waits e no_zeroes option length =
 -- ---- a request that is served
 
 -- a test that let a request through
-passed : (b : Bool) (x : Errno) (r : Result Command Errno) (c : Command) → cond b (Err x) r ≡ Ok c → (b ≡ false) × (r ≡ Ok c)
+passed : (b : Bool) (x : Errno) (r : Result NbdCommand Errno) (c : NbdCommand) → cond b (Err x) r ≡ Ok c → (b ≡ false) × (r ≡ Ok c)
 passed true x r c h = absurd cc
 passed false x r c h = (refl, h)
 
-abbrev served : Command → Result Command Errno
+abbrev served : NbdCommand → Result NbdCommand Errno
 served c = Ok c
 
-served_is : (c d : Command) → served c ≡ served d → c ≡ d
+served_is : (c d : NbdCommand) → served c ≡ served d → c ≡ d
 served_is c d h = cc
 
-refused_is : (x : Errno) (c : Command) → Err x ≡ served c → ⊥
+refused_is : (x : Errno) (c : NbdCommand) → Err x ≡ served c → ⊥
 refused_is x c h = cc
 
 second : (a b : Bool) → not (a && b) ≡ false → b ≡ true
@@ -75,12 +75,12 @@ pub not_above : (a b : ℕ) → nat_lt a b ≡ false → b ≤ a
 not_above a b h = grind (arith, nat_tests)
 
 -- what is known of a request for blocks that is served
-pub record IsServed (e : Exported) (c : Command) (h : RequestHeader) : Type 0 where
+pub record IsServed (e : Exported) (c : NbdCommand) (h : RequestHeader) : Type 0 where
   pub whole : is_whole h.offset h.length ≡ true
   pub short : is_long c h.length ≡ false
   pub inside : h.offset + h.length ≤ 4096 * e.blocks
 
-pub range_served : (e : Exported) (c d : Command) (h : RequestHeader) → judged_range e c h ≡ Ok d → IsServed e c h × (c ≡ d)
+pub range_served : (e : Exported) (c d : NbdCommand) (h : RequestHeader) → judged_range e c h ≡ Ok d → IsServed e c h × (c ≡ d)
 range_served e c d h is =
     let p0 = passed (not (may_have c h.flags && is_whole h.offset h.length)) Invalid _ d is in
     let p1 = passed (is_long c h.length) Overflow _ d p0.1 in
@@ -97,37 +97,37 @@ pub first_true : (a b : Bool) → a && b ≡ true → (a ≡ true) × (b ≡ tru
 first_true true b h = (refl, h)
 first_true false b h = absurd cc
 
-ok_taken : (b : Bool) (c d : Command) → cond b (Ok c) (Err Invalid) ≡ Ok d → (b ≡ true) × (c ≡ d)
+ok_taken : (b : Bool) (c d : NbdCommand) → cond b (Ok c) (Err Invalid) ≡ Ok d → (b ≡ true) × (c ≡ d)
 ok_taken true c d h = (refl, served_is c d h)
 ok_taken false c d h = absurd (refused_is Invalid d h)
 
 -- what is known of a request that is served with this command
-abbrev pub ServedAs : Exported → Command → RequestHeader → Type 0
+abbrev pub ServedAs : Exported → NbdCommand → RequestHeader → Type 0
 ServedAs e command.Disconnect h = Unit {0}
 ServedAs e command.Flush h = (h.offset ≡ 0) × (h.length ≡ 0)
 ServedAs e c h = IsServed e c h
 
-flush_served : (e : Exported) (h : RequestHeader) (d : Command) → judged_flush h ≡ Ok d → (command.Flush ≡ d) × ServedAs e d h
+flush_served : (e : Exported) (h : RequestHeader) (d : NbdCommand) → judged_flush h ≡ Ok d → (command.Flush ≡ d) × ServedAs e d h
 flush_served e h d is =
     let p = ok_taken (may_have command.Flush h.flags && ((h.offset == 0) && (h.length == 0))) command.Flush d is in
     let q = first_true _ _ (first_true _ _ p.0).1 in
     let zeros : ServedAs e command.Flush h = (eqb-true _ _ q.0, eqb-true _ _ q.1) in
-    (p.1, subst (λ (x : Command). ServedAs e x h) p.1 zeros)
+    (p.1, subst (λ (x : NbdCommand). ServedAs e x h) p.1 zeros)
 
 -- a request that is served has the command of its number, and lies inside the device
-pub served_as : (e : Exported) (o : Option Command) (h : RequestHeader) (d : Command) → judged_as e o h ≡ Ok d → (o ≡ Some d) × ServedAs e d h
+pub served_as : (e : Exported) (o : Option NbdCommand) (h : RequestHeader) (d : NbdCommand) → judged_as e o h ≡ Ok d → (o ≡ Some d) × ServedAs e d h
 served_as e None h d is = absurd (refused_is Invalid d is)
 served_as e (Some command.Disconnect) h d is =
     let same = served_is command.Disconnect d is in
     let nothing : ServedAs e command.Disconnect h = tt in
-    (ap (λ (x : Command). Some x) same, subst (λ (x : Command). ServedAs e x h) same nothing)
-served_as e (Some command.Flush) h d is = let p = flush_served e h d is in (ap (λ (x : Command). Some x) p.0, p.1)
+    (ap (λ (x : NbdCommand). Some x) same, subst (λ (x : NbdCommand). ServedAs e x h) same nothing)
+served_as e (Some command.Flush) h d is = let p = flush_served e h d is in (ap (λ (x : NbdCommand). Some x) p.0, p.1)
 served_as e (Some command.Read) h d is =
-    let p = range_served e command.Read d h is in (ap (λ (x : Command). Some x) p.1, subst (λ (x : Command). ServedAs e x h) p.1 p.0)
+    let p = range_served e command.Read d h is in (ap (λ (x : NbdCommand). Some x) p.1, subst (λ (x : NbdCommand). ServedAs e x h) p.1 p.0)
 served_as e (Some command.Write) h d is =
-    let p = range_served e command.Write d h is in (ap (λ (x : Command). Some x) p.1, subst (λ (x : Command). ServedAs e x h) p.1 p.0)
+    let p = range_served e command.Write d h is in (ap (λ (x : NbdCommand). Some x) p.1, subst (λ (x : NbdCommand). ServedAs e x h) p.1 p.0)
 served_as e (Some command.WriteZeroes) h d is =
-    let p = range_served e command.WriteZeroes d h is in (ap (λ (x : Command). Some x) p.1, subst (λ (x : Command). ServedAs e x h) p.1 p.0)
+    let p = range_served e command.WriteZeroes d h is in (ap (λ (x : NbdCommand). Some x) p.1, subst (λ (x : NbdCommand). ServedAs e x h) p.1 p.0)
 
 pub above_none : (n : ℕ) → nat_lt 0 n ≡ true → 0 < n
 above_none n h = grind (arith, nat_tests)
@@ -143,7 +143,7 @@ refuses_waits : (e : Exported) (h : RequestHeader) (errno : Errno) → Waits e (
 refuses_waits e h errno =
     cond_waits e (eqb (payload_length h) 0) _ _ (λ _. (omega arith, tt)) (λ more. (some (payload_length h) more, refl))
 
-begins_waits : (e : Exported) (h : RequestHeader) (r : Result Command Errno) → judged e h ≡ r → Waits e (begins h r).phase []
+begins_waits : (e : Exported) (h : RequestHeader) (r : Result NbdCommand Errno) → judged e h ≡ r → Waits e (begins h r).phase []
 begins_waits e h (Ok command.Read) is = (omega arith, tt)
 begins_waits e h (Ok command.Write) is = ((payload_bounded e h is).0, is)
 begins_waits e h (Ok command.Disconnect) is = refl

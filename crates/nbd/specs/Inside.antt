@@ -1,6 +1,6 @@
 -- What holds of each request that is given out.
 use Rattle.std.specs.Prelude.{ℕ, ◌≡◌, ◌≢◌, ◌+◌, ◌*◌, ◌<◌, ◌≤◌, length}
-use Rattle.nbd.specs.declared.command.Command.TheVariants.{Read, Write, Flush, Disconnect}
+use Rattle.nbd.specs.declared.command.NbdCommand.TheVariants.{Read, Write, Flush, Disconnect}
 use Rattle.nbd.specs.declared.request.Request.{Request}
 
 -- the request is for blocks of a device of `blocks` blocks, and a WRITE has a payload of as many as it is for

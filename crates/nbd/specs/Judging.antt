@@ -1,14 +1,14 @@
 -- Which requests are served, and with which error the others are refused.
 use Rattle.std.specs.Prelude.{ℕ, ◌+◌, ◌*◌, ◌%◌, ◌==◌, Bool, false, ◌&&◌, not, nat_lt, if◌then◌else◌, Option, Some, None, Result, Ok, Err}
-use Rattle.nbd.specs.declared.command.Command.{Command}
-use Rattle.nbd.specs.declared.command.Command.TheVariants as command
+use Rattle.nbd.specs.declared.command.NbdCommand.{NbdCommand}
+use Rattle.nbd.specs.declared.command.NbdCommand.TheVariants as command
 use Rattle.nbd.specs.declared.errno.Errno.{Errno}
 use Rattle.nbd.specs.declared.errno.Errno.TheVariants.{Invalid, NoSpace, Overflow}
 use Rattle.nbd.specs.declared.header.RequestHeader.{RequestHeader}
 use Rattle.nbd.specs.Exports.{Exported}
 
 -- the number of each command (NBD protocol, "Request types")
-abbrev pub kind_of : Command → ℕ
+abbrev pub kind_of : NbdCommand → ℕ
 kind_of command.Read = 0
 kind_of command.Write = 1
 kind_of command.Disconnect = 2
@@ -16,7 +16,7 @@ kind_of command.Flush = 3
 kind_of command.WriteZeroes = 6
 
 -- the command with a number
-abbrev pub command_at : ℕ → Option Command
+abbrev pub command_at : ℕ → Option NbdCommand
 command_at kind =
     if kind == 0 then Some command.Read else
     if kind == 1 then Some command.Write else
@@ -25,7 +25,7 @@ command_at kind =
     if kind == 6 then Some command.WriteZeroes else None
 
 -- whether a command may have these flags: FUA (1) may come with each, NO_HOLE (2) with WRITE_ZEROES alone
-abbrev pub may_have : Command → ℕ → Bool
+abbrev pub may_have : NbdCommand → ℕ → Bool
 may_have command.WriteZeroes flags = nat_lt flags 4
 may_have _ flags = nat_lt flags 2
 
@@ -34,35 +34,35 @@ abbrev pub is_whole : ℕ → ℕ → Bool
 is_whole offset length = (offset % 4096 == 0) && ((length % 4096 == 0) && nat_lt 0 length)
 
 -- whether a request has more bytes than its payload or its reply's may have
-abbrev pub is_long : Command → ℕ → Bool
+abbrev pub is_long : NbdCommand → ℕ → Bool
 is_long command.WriteZeroes length = false
 is_long _ length = nat_lt 33554432 length
 
 -- the error of a range past the device's end
-abbrev pub past_end : Command → Errno
+abbrev pub past_end : NbdCommand → Errno
 past_end command.Write = NoSpace
 past_end command.WriteZeroes = NoSpace
 past_end _ = Invalid
 
 -- a request for blocks: flags, then whole blocks, then its length, then its range
-abbrev pub judged_range : Exported → Command → RequestHeader → Result Command Errno
+abbrev pub judged_range : Exported → NbdCommand → RequestHeader → Result NbdCommand Errno
 judged_range e c h =
     if not (may_have c h.flags && is_whole h.offset h.length) then Err Invalid else
     if is_long c h.length then Err Overflow else
     if nat_lt (4096 * e.blocks) (h.offset + h.length) then Err (past_end c) else Ok c
 
 -- FLUSH has no range: the offset and the length are 0
-abbrev pub judged_flush : RequestHeader → Result Command Errno
+abbrev pub judged_flush : RequestHeader → Result NbdCommand Errno
 judged_flush h =
     if may_have command.Flush h.flags && ((h.offset == 0) && (h.length == 0)) then Ok command.Flush else Err Invalid
 
 -- a request with this command: one to disconnect is always served, since it has no reply
-abbrev pub judged_as : Exported → Option Command → RequestHeader → Result Command Errno
+abbrev pub judged_as : Exported → Option NbdCommand → RequestHeader → Result NbdCommand Errno
 judged_as e None h = Err Invalid
 judged_as e (Some command.Disconnect) h = Ok command.Disconnect
 judged_as e (Some command.Flush) h = judged_flush h
 judged_as e (Some c) h = judged_range e c h
 
 -- the command of a request that is served, or the error of one that is refused
-unfoldable pub judged : Exported → RequestHeader → Result Command Errno
+unfoldable pub judged : Exported → RequestHeader → Result NbdCommand Errno
 judged e h = judged_as e (command_at h.kind) h

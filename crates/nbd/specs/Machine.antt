@@ -1,6 +1,6 @@
 -- A connection as a machine that takes one byte after another.
 use Rattle.std.specs.Prelude.{Bool, true, false, ℕ, ◌≡◌, ◌+◌, ◌-◌, ◌<◌, ◌≤◌, ◌==◌, if◌then◌else◌, List, [], ◌∷◌, ◌++◌, length, take, Ok}
-use Rattle.nbd.specs.declared.command.Command.TheVariants.{Write}
+use Rattle.nbd.specs.declared.command.NbdCommand.TheVariants.{Write}
 use Rattle.nbd.specs.declared.phase.Part.{Part}
 use Rattle.nbd.specs.declared.phase.Part.TheVariants as part
 use Rattle.nbd.specs.declared.phase.Phase.{Phase}

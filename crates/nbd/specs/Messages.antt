@@ -4,8 +4,8 @@ use Rattle.std.specs.Prelude.{Err}
 use Rattle.std.specs.List.{flat_map, list_any, AllByRecursion}
 use Rattle.blocks.specs.declared.refusal.Refusal.{Refusal}
 use Rattle.packets.specs.Numbers.{number_bytes}
-use Rattle.nbd.specs.declared.command.Command.{Command}
-use Rattle.nbd.specs.declared.command.Command.TheVariants as command
+use Rattle.nbd.specs.declared.command.NbdCommand.{NbdCommand}
+use Rattle.nbd.specs.declared.command.NbdCommand.TheVariants as command
 use Rattle.nbd.specs.declared.errno.Errno.{Errno}
 use Rattle.nbd.specs.declared.header.RequestHeader.{RequestHeader}
 use Rattle.nbd.specs.declared.phase.Part.TheVariants as part
@@ -46,7 +46,7 @@ closed e = record { export = e; phase = phase.Closed; held = [] }
 
 -- the result of a message that is judged so: a request that is served is given out with its payload, one that is
 -- refused has its reply, and one to disconnect ends the connection
-abbrev pub answer_as : Exported → Message → Result Command Errno → Fed
+abbrev pub answer_as : Exported → Message → Result NbdCommand Errno → Fed
 answer_as e m (Ok command.Disconnect) = silent (closed e)
 answer_as e m (Ok c) = record { machine = at_request e; sent = []; requests = request_of c m.header m.payload ∷ [] }
 answer_as e m (Err errno) = record { machine = at_request e; sent = reply_spelling (failure m.header.cookie errno); requests = [] }
@@ -56,7 +56,7 @@ abbrev pub answer : Exported → Message → Fed
 answer e m = answer_as e m (judged e m.header)
 
 -- whether a message ends the connection
-abbrev pub is_end : Result Command Errno → Bool
+abbrev pub is_end : Result NbdCommand Errno → Bool
 is_end (Ok command.Disconnect) = true
 is_end _ = false
 

@@ -3,8 +3,8 @@ use Rattle.std.specs.Prelude.{ℕ, ◌≡◌, ◌/◌, ◌%◌, ◌==◌, Bool, 
 use Rattle.blocks.specs.declared.refusal.Refusal.{Refusal}
 use Rattle.blocks.specs.declared.refusal.Refusal.TheVariants.{NoMemory}
 use Rattle.packets.specs.Numbers.{number_in}
-use Rattle.nbd.specs.declared.command.Command.{Command}
-use Rattle.nbd.specs.declared.command.Command.TheVariants as command
+use Rattle.nbd.specs.declared.command.NbdCommand.{NbdCommand}
+use Rattle.nbd.specs.declared.command.NbdCommand.TheVariants as command
 use Rattle.nbd.specs.declared.errno.Errno.{Errno}
 use Rattle.nbd.specs.declared.header.RequestHeader.{RequestHeader}
 use Rattle.nbd.specs.declared.options.OptionReply.{OptionReply}
@@ -89,7 +89,7 @@ after_option e no_zeroes bytes =
 -- ---- requests
 
 -- the request that is given out for a header and its payload
-abbrev pub request_of : Command → RequestHeader → List ℕ → Request
+abbrev pub request_of : NbdCommand → RequestHeader → List ℕ → Request
 request_of c h payload = record {
   command = c;
   fua = h.flags % 2 == 1;
@@ -100,7 +100,7 @@ request_of c h payload = record {
 }
 
 -- a request is given out
-abbrev pub gives : Command → RequestHeader → List ℕ → Stepped
+abbrev pub gives : NbdCommand → RequestHeader → List ℕ → Stepped
 gives c h payload = record { phase = phase.Gather part.Request; sent = []; requests = request_of c h payload ∷ [] }
 
 -- how many bytes follow a header: only a WRITE, served or not, has a payload
@@ -114,7 +114,7 @@ refuses h errno =
     else goes_on (phase.Skip (payload_length h) (refused.Write h.cookie errno))
 
 -- a request that was judged so
-abbrev pub begins : RequestHeader → Result Command Errno → Stepped
+abbrev pub begins : RequestHeader → Result NbdCommand Errno → Stepped
 begins h (Ok command.Disconnect) = goes_on phase.Closed
 begins h (Ok command.Write) = goes_on (phase.Gather (part.Payload h))
 begins h (Ok c) = gives c h []

@@ -16,7 +16,7 @@ pub(crate) const FLAG_NO_HOLE: u16 = 2;
 
 /// The command of a request (NBD protocol, "Request types").
 #[derive(Clone, Copy, Debug, PartialEq, Eq)]
-pub enum Command {
+pub enum NbdCommand {
     /// Reads blocks.
     Read,
     /// Writes blocks.
@@ -29,30 +29,30 @@ pub enum Command {
     WriteZeroes,
 }
 
-impl Command {
+impl NbdCommand {
     /// Returns the command's number in a request.
     pub fn number(self) -> u16
         ensures { result ≡ kind_of self }
     {
         match self {
-            Command::Read => 0,
-            Command::Write => 1,
-            Command::Disconnect => 2,
-            Command::Flush => 3,
-            Command::WriteZeroes => 6,
+            NbdCommand::Read => 0,
+            NbdCommand::Write => 1,
+            NbdCommand::Disconnect => 2,
+            NbdCommand::Flush => 3,
+            NbdCommand::WriteZeroes => 6,
         }
     }
 
     /// Returns the command with this number; `None` if no command of this server has it.
-    pub fn with_number(number: u16) -> Option<Command>
+    pub fn with_number(number: u16) -> Option<NbdCommand>
         ensures { result ≡ command_at number }
     {
         match number {
-            0 => Some(Command::Read),
-            1 => Some(Command::Write),
-            2 => Some(Command::Disconnect),
-            3 => Some(Command::Flush),
-            6 => Some(Command::WriteZeroes),
+            0 => Some(NbdCommand::Read),
+            1 => Some(NbdCommand::Write),
+            2 => Some(NbdCommand::Disconnect),
+            3 => Some(NbdCommand::Flush),
+            6 => Some(NbdCommand::WriteZeroes),
             _ => None,
         }
     }
@@ -63,7 +63,7 @@ impl Command {
         ensures { result ≡ may_have self flags }
     {
         match self {
-            Command::WriteZeroes => flags <= FLAG_FUA + FLAG_NO_HOLE,
+            NbdCommand::WriteZeroes => flags <= FLAG_FUA + FLAG_NO_HOLE,
             _ => flags <= FLAG_FUA,
         }
     }
@@ -73,7 +73,7 @@ impl Command {
         ensures { result ≡ is_long self length }
     {
         match self {
-            Command::WriteZeroes => false,
+            NbdCommand::WriteZeroes => false,
             _ => length > MAX_REQUEST_BYTES,
         }
     }
@@ -83,7 +83,7 @@ impl Command {
         ensures { result ≡ past_end self }
     {
         match self {
-            Command::Write | Command::WriteZeroes => Errno::NoSpace,
+            NbdCommand::Write | NbdCommand::WriteZeroes => Errno::NoSpace,
             _ => Errno::Invalid,
         }
     }

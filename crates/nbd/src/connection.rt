@@ -177,7 +177,7 @@ impl Connection {
                 held.extend_from_slice(bytes)?;
                 let step = take_part(self.alloc, &self.export, part, &mut held)?;
                 held.clear();
-                self.turn(step, held, out)
+                self.take_step(step, held, out)
             }
             Phase::Skip { left, refused } if bytes.len() < left as usize => {
                 self.phase = Phase::Skip {
@@ -189,7 +189,7 @@ impl Connection {
             Phase::Skip { refused, .. } => {
                 let step = end_skip(self.alloc, refused)?;
                 let held = mem::replace(&mut self.held, Vec::new(self.alloc));
-                self.turn(step, held, out)
+                self.take_step(step, held, out)
             }
             Phase::Closed => Ok(()),
         }
@@ -197,7 +197,7 @@ impl Connection {
 
     /// Applies a step: appends its output and enters its phase, with nothing held. It reserves exactly the
     /// bytes of the next part, at most 32 MiB. An error leaves `out` as it was.
-    fn turn(&mut self, step: Step, mut held: Vec<u8>, out: &mut Output) -> Result<(), Refusal>
+    fn take_step(&mut self, step: Step, mut held: Vec<u8>, out: &mut Output) -> Result<(), Refusal>
         requires empty { held.items ≡ [] }
         requires waits { Waits self.old.export step.phase [] }
         ensures adds { OnOk result (Adds (after_step self.old.export (view step)) self.new

@@ -2,7 +2,7 @@
 ghost use Rattle.std.specs.Prelude.{◌≡◌, ◌*◌, ◌≤◌, length, string_bytes};
 ghost use Rattle.nbd.specs.Judging.{judged, judged_flush, judged_range, is_whole};
 
-use crate::{Command, Errno, RequestHeader};
+use crate::{Errno, NbdCommand, RequestHeader};
 use blocks::BLOCK_BYTES;
 use std::marker::Model;
 
@@ -67,23 +67,23 @@ impl Export {
     /// A FLUSH has no range: it is `Invalid` unless its offset and its length are 0, as the protocol demands.
     /// A request to disconnect is always accepted, since it has no reply.
     #[tactic(auto, unfolding(crate::specs::Judging::judged))]
-    pub fn judge(&self, header: &RequestHeader) -> Result<Command, Errno>
+    pub fn judge(&self, header: &RequestHeader) -> Result<NbdCommand, Errno>
         ensures { result ≡ judged self.now header.now }
     {
-        let Some(command) = Command::with_number(header.kind) else {
+        let Some(command) = NbdCommand::with_number(header.kind) else {
             return Err(Errno::Invalid);
         };
         match command {
-            Command::Disconnect => Ok(command),
-            Command::Flush => judge_flush(header),
-            Command::Read | Command::Write | Command::WriteZeroes => {
+            NbdCommand::Disconnect => Ok(command),
+            NbdCommand::Flush => judge_flush(header),
+            NbdCommand::Read | NbdCommand::Write | NbdCommand::WriteZeroes => {
                 self.judge_range(command, header)
             }
         }
     }
 
     /// Judges a request for blocks.
-    fn judge_range(&self, command: Command, header: &RequestHeader) -> Result<Command, Errno>
+    fn judge_range(&self, command: NbdCommand, header: &RequestHeader) -> Result<NbdCommand, Errno>
         ensures { result ≡ judged_range self.now command header.now }
     {
         if !command.may_have(header.flags) || !is_whole(header) {
@@ -102,11 +102,11 @@ impl Export {
 }
 
 /// Judges a FLUSH.
-fn judge_flush(header: &RequestHeader) -> Result<Command, Errno>
+fn judge_flush(header: &RequestHeader) -> Result<NbdCommand, Errno>
     ensures { result ≡ judged_flush header.now }
 {
-    if Command::Flush.may_have(header.flags) && header.offset == 0 && header.length == 0 {
-        Ok(Command::Flush)
+    if NbdCommand::Flush.may_have(header.flags) && header.offset == 0 && header.length == 0 {
+        Ok(NbdCommand::Flush)
     } else {
         Err(Errno::Invalid)
     }

@@ -19,7 +19,7 @@ mod request;
 mod short;
 mod step;
 
-pub use command::Command;
+pub use command::NbdCommand;
 pub use connection::Connection;
 pub use errno::Errno;
 pub use export::Export;

@@ -3,7 +3,7 @@ ghost use Rattle.std.specs.Prelude.{◌≡◌, ◌+◌, ◌<◌, ◌^◌};
 ghost use Rattle.nbd.specs.Pieces.{pieces};
 ghost use Rattle.nbd.specs.Steps.{request_of};
 
-use crate::{Command, Errno, Ranges, Reply, RequestHeader};
+use crate::{Errno, NbdCommand, Ranges, Reply, RequestHeader};
 use blocks::BLOCK_BYTES;
 use bytes::Bytes;
 
@@ -12,7 +12,7 @@ use bytes::Bytes;
 #[derive(Debug, Drop)]
 pub struct Request {
     /// Its command, never `Disconnect`.
-    pub command: Command,
+    pub command: NbdCommand,
     /// Whether the client set FUA: the reply to a WRITE or WRITE_ZEROES then waits until its data are on stable storage. With
     /// another command it means nothing.
     pub fua: bool,
@@ -28,7 +28,7 @@ pub struct Request {
 
 impl Request {
     /// Creates the request of a header and its payload.
-    pub(crate) fn with(command: Command, header: &RequestHeader, payload: Bytes) -> Request
+    pub(crate) fn with(command: NbdCommand, header: &RequestHeader, payload: Bytes) -> Request
         ensures { result ≡ request_of command header.now payload }
     {
         Request {

@@ -13,7 +13,7 @@ use crate::options::{
     Next, OPT_EXPORT_NAME, OPTION_MAGIC, OptionReply, REP_ERR_TOO_BIG, refuse, reply_to_option,
 };
 use crate::phase::{Part, Phase, Refused};
-use crate::{Command, Errno, Export, Reply, Request, RequestHeader};
+use crate::{Errno, Export, NbdCommand, Reply, Request, RequestHeader};
 use blocks::Refusal;
 use bytes::Bytes;
 use std::alloc::Global;
@@ -84,7 +84,7 @@ pub(crate) fn take_part(
         Part::Request => Ok(after_header(export, RequestHeader::decode(bytes))),
         Part::Payload(header) => {
             let payload = Bytes::from_vec(mem::replace(held, Vec::new(alloc)))?;
-            Ok(give(Command::Write, &header, payload))
+            Ok(give(NbdCommand::Write, &header, payload))
         }
     }
 }
@@ -181,12 +181,12 @@ fn after_header(export: &Export, header: Result<RequestHeader, Refusal>) -> Step
 }
 
 /// Returns the step of a request that was judged.
-fn begin(header: &RequestHeader, judged: Result<Command, Errno>) -> Step
+fn begin(header: &RequestHeader, judged: Result<NbdCommand, Errno>) -> Step
     ensures { view result ≡ begins header.now judged }
 {
     match judged {
-        Ok(Command::Disconnect) => Step::to(Phase::Closed),
-        Ok(Command::Write) => Step::to(Phase::Gather(Part::Payload(*header))),
+        Ok(NbdCommand::Disconnect) => Step::to(Phase::Closed),
+        Ok(NbdCommand::Write) => Step::to(Phase::Gather(Part::Payload(*header))),
         Ok(command) => give(command, header, Bytes::new()),
         Err(errno) => refuse_request(header, errno),
     }
@@ -196,7 +196,7 @@ fn begin(header: &RequestHeader, judged: Result<Command, Errno>) -> Step
 fn refuse_request(header: &RequestHeader, errno: Errno) -> Step
     ensures { view result ≡ refuses header.now errno }
 {
-    if header.kind != Command::Write.number() || header.length == 0 {
+    if header.kind != NbdCommand::Write.number() || header.length == 0 {
         return fail(header.cookie, errno);
     }
     Step::to(Phase::Skip {
@@ -222,7 +222,7 @@ fn fail(cookie: u64, errno: Errno) -> Step
 }
 
 /// Returns the step that gives a request to the caller.
-fn give(command: Command, header: &RequestHeader, payload: Bytes) -> Step
+fn give(command: NbdCommand, header: &RequestHeader, payload: Bytes) -> Step
     ensures { view result ≡ gives command header.now payload }
 {
     Step {

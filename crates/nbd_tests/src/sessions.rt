@@ -1,5 +1,5 @@
 //! Tests of whole sessions, with bytes written out by hand from the protocol document.
-use nbd::{Command, Connection, Errno, Export, Output, Reply, Request, RequestHeader, greeting};
+use nbd::{Connection, Errno, Export, NbdCommand, Output, Reply, Request, RequestHeader, greeting};
 use std::alloc::{AllocError, Global};
 use std::process::Abort;
 
@@ -87,7 +87,7 @@ fn answers_go(rt: HostRuntime) {
 
 /// Checks that the request is the WRITE, with its payload, and is answered under its cookie.
 fn check_write(rt: &impl Abort, request: Request) {
-    assert!(rt; request.command == Command::Write && request.fua);
+    assert!(rt; request.command == NbdCommand::Write && request.fua);
     assert_eq!(rt; (request.first_block, request.block_count), (1, 1));
     assert_eq!(rt; request.payload.len(), 4096);
     assert_eq!(rt; request.payload.as_slice().last().copied(), Some(0x5A));
@@ -214,7 +214,7 @@ fn skips_a_long_write(rt: HostRuntime) {
     let mut out = Output::new(rt.alloc());
     let header = RequestHeader {
         flags: 0,
-        kind: Command::Write.number(),
+        kind: NbdCommand::Write.number(),
         cookie: 11,
         offset: 0,
         length: 0xFFFF_F000,

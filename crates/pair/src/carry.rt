@@ -9,7 +9,7 @@ ghost use Rattle.pair_protocol.specs.State.{IsPairStep};
 ghost use Rattle.primary_protocol.specs.Steps.{replied};
 ghost use Rattle.secondary_protocol.specs.Steps as from_secondary;
 
-use crate::{LocalNode, Pair, PeerNode};
+use crate::{Pair, PrimaryNode, SecondaryNode};
 use blocks::{Done, Refusal};
 use endpoint::joined;
 
@@ -51,7 +51,7 @@ impl Pair {
 
 /// Proof hint for the way to the secondary: if the frames taken are a prefix of those sent, so are their packets.
 /// It does nothing.
-pub(crate) fn packets_follow_there(primary: &LocalNode, secondary: &PeerNode)
+pub(crate) fn packets_follow_there(primary: &PrimaryNode, secondary: &SecondaryNode)
     ensures { PacketsFollowIn (record { out = primary.now.outgoing; inn = secondary.now.incoming }) }
 {
     if let (Some(outgoing), Some(incoming)) = (primary.outgoing(), secondary.incoming()) {
@@ -60,7 +60,7 @@ pub(crate) fn packets_follow_there(primary: &LocalNode, secondary: &PeerNode)
 }
 
 /// Proof hint: the same for the way back to the primary. It does nothing.
-pub(crate) fn packets_follow_back(primary: &LocalNode, secondary: &PeerNode)
+pub(crate) fn packets_follow_back(primary: &PrimaryNode, secondary: &SecondaryNode)
     ensures { PacketsFollowIn (record { out = secondary.now.outgoing; inn = primary.now.incoming }) }
 {
     if let (Some(outgoing), Some(incoming)) = (secondary.outgoing(), primary.incoming()) {

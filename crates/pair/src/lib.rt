@@ -12,5 +12,5 @@ mod steps;
 
 pub use blocks::{Block, Decision, Done, MemStore, Refusal, Reply, Settings, Tuple, What};
 pub use event::{Event, Side};
-pub use pair::{LocalNode, Pair, PeerNode};
+pub use pair::{Pair, PrimaryNode, SecondaryNode};
 pub use runs::run;

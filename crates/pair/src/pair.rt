@@ -16,18 +16,18 @@ use std::alloc::Global;
 use std::marker::Model;
 
 /// The primary of a pair, over a link in one thread and a disk in memory that fails only where it is armed.
-pub type LocalNode = Primary<PlainOut, PlainIn, FaultStore>;
+pub type PrimaryNode = Primary<PlainOut, PlainIn, FaultStore>;
 
 /// The secondary of a pair.
-pub type PeerNode = Secondary<PlainOut, PlainIn, FaultStore>;
+pub type SecondaryNode = Secondary<PlainOut, PlainIn, FaultStore>;
 
 /// A primary and a secondary over two disks in memory, and the link between them. Invariant: the pair refines some
 /// model history (`PairHas`), and the queue of each direction is at its sending end.
 #[derive(Drop)]
 pub struct Pair {
     pub(crate) alloc: Global,
-    pub(crate) primary: LocalNode,
-    pub(crate) secondary: PeerNode,
+    pub(crate) primary: PrimaryNode,
+    pub(crate) secondary: SecondaryNode,
 }
 
 impl Model for Pair {

@@ -8,7 +8,7 @@ ghost use Rattle.pair.specs.Reading.{disk_at, size_of};
 ghost use Rattle.pair.specs.State.{state};
 ghost use Rattle.pair_protocol.specs.State.{PairHas};
 
-use crate::{LocalNode, Pair, PeerNode, Side};
+use crate::{Pair, PrimaryNode, SecondaryNode, Side};
 use blocks::{Block, Refusal, Store, Tuple};
 
 impl Pair {
@@ -59,14 +59,14 @@ impl Pair {
     }
 
     /// Returns the primary, for reading.
-    pub fn primary(&self) -> &LocalNode
+    pub fn primary(&self) -> &PrimaryNode
         ensures { result.now ≡ self.now.primary }
     {
         &self.primary
     }
 
     /// Returns the secondary, for reading.
-    pub fn secondary(&self) -> &PeerNode
+    pub fn secondary(&self) -> &SecondaryNode
         ensures { result.now ≡ self.now.secondary }
     {
         &self.secondary

@@ -1,7 +1,7 @@
 -- No more pieces were taken than pushed, and no push and no pop changes that.
 use Rattle.std.proofs.Common.{◌≤◌, List, [], ◌∷◌, ◌++◌, length, arith}
 use Rattle.std.proofs.lemmas.List.{length-append}
-use Rattle.ruled_link.specs.Pieces.{PieceState}
+use Rattle.thread_link.specs.Pieces.{PieceState}
 
 pub pushed_more : (pushed taken : List PieceState) (piece : PieceState) → length taken ≤ length pushed → length taken ≤ length (pushed ++ piece ∷ [])
 pushed_more pushed taken piece fewer = omega (arith, length-append pushed (piece ∷ []))

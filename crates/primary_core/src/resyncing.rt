@@ -104,7 +104,7 @@ impl PrimaryCore {
 
     /// Takes the peer's acknowledgement of the block under way. `UnknownAck` (25) if it names anything else, or the
     /// block was not sent.
-    pub(crate) fn block_has_come(&mut self, ack: Acknowledgement) -> Result<Done, Refusal>
+    pub(crate) fn acknowledge_block(&mut self, ack: Acknowledgement) -> Result<Done, Refusal>
         ensures { (e : EndState) → self.old.state.end ≡ Some e → taken_as result self.new.state ≡ taking_ack (meaning (packet.RsWriteAck ack)) e self.old.state }
     {
         if !self.is_under_way(ack) {

@@ -44,7 +44,7 @@ impl PrimaryCore {
         match packet {
             Packet::RecvAck(ack) => self.answer(Command::RecvAck, PeerAck::Received, ack),
             Packet::WriteAck(ack) => self.answer(Command::WriteAck, PeerAck::Written, ack),
-            Packet::RsWriteAck(ack) => self.block_has_come(ack),
+            Packet::RsWriteAck(ack) => self.acknowledge_block(ack),
             Packet::BarrierAck { number, size } => self.confirm(number, size),
             _ => Err(Refusal::BadCommand),
         }

@@ -6,8 +6,8 @@ use Rattle.std.proofs.lemmas.Grind.{flat_map-append}
 use Rattle.std.proofs.lemmas.List.{length-append, length-drop, take_rest}
 use Rattle.std.proofs.lemmas.List.Elements.{All-append}
 use Rattle.std.specs.Io.KnownBytes.{Appends, Consumes}
-use Rattle.ruled_link.proofs.Carrying.{two_takes}
-use Rattle.ruled_link.specs.Pieces.{EndState, PieceState}
+use Rattle.thread_link.proofs.Carrying.{two_takes}
+use Rattle.thread_link.specs.Pieces.{EndState, PieceState}
 use Rattle.pumps.specs.Carried.{bytes_of, PassPieces, PopsBytes, IsCarriedOut, IsFirstPiece, PushesBytes, IsCarriedIn}
 
 pub bytes_of-append : (xs ys : List PieceState) → bytes_of (xs ++ ys) ≡ bytes_of xs ++ bytes_of ys

@@ -2,7 +2,7 @@
 use Rattle.std.specs.Prelude.{◌≡◌, ◌<◌, ◌≤◌, ℕ, List, ◌++◌, Option, All, length}
 use Rattle.std.specs.List.{flat_map}
 use Rattle.std.specs.Io.KnownBytes.{Appends, Consumes}
-use Rattle.ruled_link.specs.Pieces.{EndState, PieceState}
+use Rattle.thread_link.specs.Pieces.{EndState, PieceState}
 
 -- the bytes of these pieces, in order
 abbrev pub bytes_of : List PieceState → List ℕ

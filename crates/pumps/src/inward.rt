@@ -1,16 +1,16 @@
 //! The pump from a reader into a row.
 ghost use Rattle.std.specs.Prelude.{◌≡◌, ◌≢◌, ◌≤◌, ◌<◌, List, ℕ, [], ◌++◌, length, take, IfErr, MatchResult, Err};
 ghost use Rattle.std.specs.Io.KnownBytes.{Consumes, IsAtEnd, Keeps};
-ghost use Rattle.ruled_link.specs.Moments.{WasFull};
+ghost use Rattle.thread_link.specs.Moments.{WasFull};
 ghost use Rattle.pumps.specs.Carried.{IsCarriedIn, PushesBytes};
 
 use crate::{Buffer, PumpEnd};
 use bell::Bell;
-use ruled_link::{PIECE_BYTES, Piece, PieceOut, RingInvariant};
 use std::io::{ErrorKind, Read};
 use std::sync::Wait;
 use std::sync::atomic::{AtomicBool, Ordering};
 use std::time::Clock;
+use thread_link::{PIECE_BYTES, Piece, PieceOut, RingInvariant};
 
 /// Pushes the bytes that a reader gives into a row, in order, as pieces of at most 1,400 bytes of a first connection,
 /// until it is stopped, the input ends or a read fails. One read takes up to 64 KiB. It rings `work` once all bytes of a read

@@ -1,16 +1,16 @@
 //! The pump from a row to a writer.
 ghost use Rattle.std.specs.Prelude.{◌≡◌, ◌≢◌, ◌≤◌, List, ℕ, [], ◌++◌, length, take};
 ghost use Rattle.std.specs.Io.KnownBytes.{Appends};
-ghost use Rattle.ruled_link.specs.Moments.{WasEmpty};
+ghost use Rattle.thread_link.specs.Moments.{WasEmpty};
 ghost use Rattle.pumps.specs.Carried.{IsCarriedOut, PopsBytes};
 
 use crate::{Buffer, PumpEnd};
 use bell::Bell;
-use ruled_link::{PIECE_BYTES, PieceIn, RingInvariant};
 use std::io::{ErrorKind, Write};
 use std::sync::Wait;
 use std::sync::atomic::{AtomicBool, Ordering};
 use std::time::Clock;
+use thread_link::{PIECE_BYTES, PieceIn, RingInvariant};
 
 /// Writes the bytes of a row's pieces to a writer, in order, until it is stopped or a write fails. One write carries as
 /// many pieces as the row has, up to 64 KiB. It looks at `stop` only when all that it popped is written, and waits on

@@ -1,13 +1,13 @@
 -- A request that has ended.
 use Rattle.std.specs.Prelude.{Bool, true, false, ℕ, ◌*◌, List, [], Vec, Option, Some, None, Result, Ok, Err}
 use Rattle.std.specs.Global.{Global}
-use Rattle.nbd.specs.declared.command.Command.{Command}
-use Rattle.nbd.specs.declared.command.Command.TheVariants.{Read, Write, Disconnect, Flush, WriteZeroes}
+use Rattle.nbd.specs.declared.command.NbdCommand.{NbdCommand}
+use Rattle.nbd.specs.declared.command.NbdCommand.TheVariants.{Read, Write, Disconnect, Flush, WriteZeroes}
 use Rattle.nbd.specs.declared.errno.Errno.{Errno}
 use Rattle.nbd.specs.declared.request.Request.{Request}
 
 -- how many bytes follow the reply to a command for so many blocks, if it is done (NBD protocol, "Simple reply message")
-abbrev pub data_bytes : Command → ℕ → ℕ
+abbrev pub data_bytes : NbdCommand → ℕ → ℕ
 data_bytes Read block_count = block_count * 4096
 data_bytes Write block_count = 0
 data_bytes Disconnect block_count = 0
@@ -16,7 +16,7 @@ data_bytes WriteZeroes block_count = 0
 
 -- whether a command asks for stable storage, with FUA or without: FUA concerns only the data that the command writes (NBD
 -- protocol, "Command flags")
-abbrev pub command_syncs : Command → Bool → Bool
+abbrev pub command_syncs : NbdCommand → Bool → Bool
 command_syncs Read fua = false
 command_syncs Write fua = fua
 command_syncs Disconnect fua = false

@@ -2,7 +2,7 @@
 use Rattle.std.specs.Prelude.{true, ℕ, ◌≡◌, ◌⊎◌, ◌*◌, List, [], ◌∷◌, ◌++◌, All, flat_map, length, map, replicate, Result, is_ok, OnOk}
 use Rattle.model.specs.Settlement.{Receipt}
 use Rattle.nbd.specs.Pieces.{pieces}
-use Rattle.nbd.specs.declared.command.Command.TheVariants as command
+use Rattle.nbd.specs.declared.command.NbdCommand.TheVariants as command
 use Rattle.nbd.specs.declared.errno.Errno.{Errno}
 use Rattle.nbd.specs.declared.request.Request.{Request}
 use Rattle.halves.specs.Begun.{BegunState}

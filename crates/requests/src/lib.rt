@@ -20,4 +20,4 @@ pub use ended::Ended;
 pub use pace::time_left;
 pub use requests::Requests;
 pub use syncs::asks_for_sync;
-pub use under_way::UnderWay;
+pub use under_way::RequestUnderWay;

@@ -2,7 +2,7 @@
 ghost use Rattle.std.specs.Prelude.{◌≡◌, ◌⊎◌, All, List, ◌++◌, [], true, false, None, map, vec_len, is_ok, IfErr, IfOk, OnOk};
 ghost use Rattle.model.specs.Settlement.{Receipt as Denoted};
 ghost use Rattle.nbd.specs.Pieces.{pieces};
-ghost use Rattle.nbd.specs.declared.command.Command.TheVariants as command;
+ghost use Rattle.nbd.specs.declared.command.NbdCommand.TheVariants as command;
 ghost use Rattle.nbd.specs.declared.errno.Errno.{Errno};
 ghost use Rattle.nbd.specs.declared.errno.Errno.TheVariants.{InputOutput, Invalid};
 ghost use Rattle.requests.specs.Ended.{asks_for_sync, data_bytes};
@@ -16,11 +16,11 @@ use crate::perform::{begin_write, begin_zeroes, read};
 use crate::release::wait_for_release;
 use crate::stable_storage::{StableStorage, Synced};
 use crate::syncs::asks_for_sync;
-use crate::under_way::UnderWay;
+use crate::under_way::RequestUnderWay;
 use blocks::Protocol;
 use halves::{Begun, Device};
-use image_store::{Both, SyncHandle};
-use nbd::{Command, Errno, Ranges, Request};
+use image_store::{PerDisk, SyncHandle};
+use nbd::{Errno, NbdCommand, Ranges, Request};
 use primary::Receipt;
 use std::alloc::Global;
 use std::fs::File;
@@ -40,7 +40,7 @@ pub struct Requests {
 
 impl Requests {
     /// Creates the requests over sessions under `protocol`, of two images that the handles `syncs` sync.
-    pub fn new(alloc: Global, protocol: Protocol, syncs: Both<SyncHandle<File>>) -> Requests {
+    pub fn new(alloc: Global, protocol: Protocol, syncs: PerDisk<SyncHandle<File>>) -> Requests {
         Requests {
             alloc,
             protocol,
@@ -67,7 +67,7 @@ impl Requests {
     /// Begins a request: the writes of a WRITE or WRITE_ZEROES, and nothing for any other command. A caller with many
     /// requests begins them all, and then ends one after another. What was begun is a front of what the request writes,
     /// whether or not it is refused then.
-    pub fn begin<D: Device>(&self, device: &D, request: Request) -> UnderWay
+    pub fn begin<D: Device>(&self, device: &D, request: Request) -> RequestUnderWay
         ensures request { result.request ≡ request }
         ensures begun { IsFrontOf request result.begun }
         ensures accepted { All (IsAccepted D.accepts) result.begun }
@@ -75,7 +75,7 @@ impl Requests {
         let round = self.storage.last_round();
         let mut begun = Vec::new(self.alloc);
         let begins = self.begin_writes(device, &request, &mut begun);
-        UnderWay {
+        RequestUnderWay {
             request,
             begun,
             begins,
@@ -93,7 +93,7 @@ impl Requests {
     pub fn end<D: Device>(
         &self,
         device: &D,
-        under_way: UnderWay,
+        under_way: RequestUnderWay,
         receipts: &mut Vec<Receipt>,
     ) -> Ended
         ensures request { result.request ≡ under_way.request }
@@ -105,7 +105,7 @@ impl Requests {
         ensures flush { under_way.request.command ≡ command.Flush → result.is_done ≡ true }
         ensures disconnect { under_way.request.command ≡ command.Disconnect → result.error ≡ Some Invalid }
     {
-        let UnderWay {
+        let RequestUnderWay {
             request,
             begun,
             begins,
@@ -119,7 +119,7 @@ impl Requests {
         // A FLUSH is for what was answered before it began, so any round that begins after that does. The writes of any other
         // request are in the files only now, so its round has to begin from now on.
         let round = match request.command {
-            Command::Flush => round,
+            NbdCommand::Flush => round,
             _ => self.storage.last_round(),
         };
         Ended {
@@ -168,7 +168,7 @@ impl Requests {
 
     /// Syncs both images to stable storage, whether a request asks for it or not, and whether a sync has failed or not. Returns
     /// for each image why its first sync failed, now or before: the system then forgets the data that it could not store.
-    pub fn sync_images<R: Wait>(&self, rt: &R) -> Both<Option<io::Error>> {
+    pub fn sync_images<R: Wait>(&self, rt: &R) -> PerDisk<Option<io::Error>> {
         self.storage.sync_both(rt)
     }
 
@@ -190,16 +190,16 @@ impl Requests {
         ensures accepted { All (IsAccepted D.accepts) begun.new.items }
     {
         match request.command {
-            Command::Write => {
+            NbdCommand::Write => {
                 let ranges = ranges_of(request)?;
                 let payload = request.payload.clone().map_err(|_| Errno::NoMemory)?;
                 begin_write(self, device, ranges, payload, begun)
             }
-            Command::WriteZeroes => {
+            NbdCommand::WriteZeroes => {
                 let count = u64::from(request.block_count);
                 begin_zeroes(self, device, ranges_of(request)?, count, begun)
             }
-            Command::Read | Command::Flush | Command::Disconnect => Ok(()),
+            NbdCommand::Read | NbdCommand::Flush | NbdCommand::Disconnect => Ok(()),
         }
     }
 
@@ -212,12 +212,14 @@ impl Requests {
         ensures disconnect { request.now.command ≡ command.Disconnect → result ≡ Err Invalid }
     {
         match request.command {
-            Command::Read => {
+            NbdCommand::Read => {
                 let count = u64::from(request.block_count);
                 read(self.alloc, device, ranges_of(request)?, count)
             }
-            Command::Disconnect => Err(Errno::Invalid),
-            Command::Flush | Command::Write | Command::WriteZeroes => Ok(Vec::new(self.alloc)),
+            NbdCommand::Disconnect => Err(Errno::Invalid),
+            NbdCommand::Flush | NbdCommand::Write | NbdCommand::WriteZeroes => Ok(Vec::new(
+                self.alloc,
+            )),
         }
     }
 

@@ -1,5 +1,5 @@
 //! Stable storage of both images.
-use image_store::{Both, SyncHandle};
+use image_store::{PerDisk, SyncHandle};
 use std::fs::File;
 use std::io;
 use std::sync::atomic::{AtomicBool, AtomicU64, Ordering};
@@ -25,7 +25,7 @@ pub(crate) enum Synced {
 /// the mirror goes on without the peer.
 #[derive(Drop)]
 pub(crate) struct StableStorage {
-    images: Both<SyncHandle<File>>,
+    images: PerDisk<SyncHandle<File>>,
     // The last round that began.
     begun: AtomicU64,
     // The last round that was ready for its sync.
@@ -37,12 +37,12 @@ pub(crate) struct StableStorage {
     // Whether the mirror goes on without the peer.
     is_alone: AtomicBool,
     // The reason of the first sync of each image that failed.
-    failed: Mutex<Both<Option<io::Error>>>,
+    failed: Mutex<PerDisk<Option<io::Error>>>,
 }
 
 impl StableStorage {
     /// Creates the stable storage of two images that the handles `images` sync, with no failed sync.
-    pub(crate) fn new(images: Both<SyncHandle<File>>) -> StableStorage {
+    pub(crate) fn new(images: PerDisk<SyncHandle<File>>) -> StableStorage {
         StableStorage {
             images,
             begun: AtomicU64::new(0),
@@ -50,7 +50,7 @@ impl StableStorage {
             synced: AtomicU64::new(0),
             is_peer_failed: AtomicBool::new(false),
             is_alone: AtomicBool::new(false),
-            failed: Mutex::new(Both {
+            failed: Mutex::new(PerDisk {
                 local: None,
                 peer: None,
             }),
@@ -110,11 +110,11 @@ impl StableStorage {
     }
 
     /// Syncs both images, whatever has failed. Returns for each why its first sync failed, now or before.
-    pub(crate) fn sync_both<R: Wait>(&self, rt: &R) -> Both<Option<io::Error>> {
+    pub(crate) fn sync_both<R: Wait>(&self, rt: &R) -> PerDisk<Option<io::Error>> {
         let mut failed = self.failed.lock(rt);
         failed.local = failed.local.or(self.images.local.sync().err());
         failed.peer = failed.peer.or(self.images.peer.sync().err());
-        Both {
+        PerDisk {
             local: failed.local,
             peer: failed.peer,
         }

@@ -2,7 +2,7 @@
 ghost use Rattle.std.specs.Prelude.{◌≡◌};
 ghost use Rattle.requests.specs.Ended.{asks_for_sync};
 
-use nbd::{Command, Request};
+use nbd::{NbdCommand, Request};
 
 /// Returns whether the reply to a request waits for stable storage: that to a FLUSH, and that to a WRITE or WRITE_ZEROES
 /// with FUA. For a command that writes nothing, FUA asks for nothing.
@@ -10,8 +10,8 @@ pub fn asks_for_sync(request: &Request) -> bool
     ensures { result ≡ asks_for_sync request.now }
 {
     match request.command {
-        Command::Flush => true,
-        Command::Write | Command::WriteZeroes => request.fua,
-        Command::Read | Command::Disconnect => false,
+        NbdCommand::Flush => true,
+        NbdCommand::Write | NbdCommand::WriteZeroes => request.fua,
+        NbdCommand::Read | NbdCommand::Disconnect => false,
     }
 }

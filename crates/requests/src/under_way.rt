@@ -6,7 +6,7 @@ use std::marker::Model;
 /// A request whose writes were begun. Invariant: the begun writes are a front of what it writes, and all of it if none was
 /// refused. A FLUSH and a DISC write nothing, so none of their writes is refused.
 #[derive(Debug, Drop)]
-pub struct UnderWay {
+pub struct RequestUnderWay {
     pub(crate) request: Request,
     pub(crate) begun: Vec<Begun>,
     pub(crate) begins: Result<(), Errno>,
@@ -14,9 +14,9 @@ pub struct UnderWay {
     pub(crate) round: u64,
 }
 
-impl Model for UnderWay {
+impl Model for RequestUnderWay {
     ghost use Rattle.requests.specs.Receipts.{Begins};
-    ghost use Rattle.requests.specs.UnderWay.{UnderWayState};
+    ghost use Rattle.requests.specs.RequestUnderWay.{UnderWayState};
 
     ghost Value = { UnderWayState };
 

@@ -22,12 +22,12 @@ use Rattle.serving.specs.Disks.{AreFaithful, DisksState}
 use Rattle.serving.specs.declared.totals.Totals.{Totals}
 use Rattle.settle.specs.Settled.{WasHonest, WereHonest}
 use Rattle.halves.specs.Opening.{opening_of}
-use Rattle.halves.specs.declared.parts.Parts.{Parts}
+use Rattle.halves.specs.declared.session_start.SessionStart.{SessionStart}
 
 -- what a session leaves for the next one: both disks, what the next one starts from, and the results so far
 pub record Rest : Type 0 where
   pub disks : DisksState
-  pub parts : Parts
+  pub parts : SessionStart
   pub totals : Totals
 
 -- the opening of the session that starts from here
@@ -41,7 +41,7 @@ counted a b = min (a + b) 18446744073709551615
 -- What a session of these two histories comes to, with the receipts that its work gave: its settlement says all that the theorem on
 -- joined nodes says of one, with honest identifiers and without; the totals go on by the settlement's numbers; the parts are what both
 -- nodes leave; and if the resyncs copied what the local disk held, the opening of these parts over the disks as they are is sound.
-pub record ComesTo (p : PrimaryHistory) (s : SecondaryHistory) (receipts : List Receipt) (before after : Totals) (parts : Parts) : Type 0 where
+pub record ComesTo (p : PrimaryHistory) (s : SecondaryHistory) (receipts : List Receipt) (before after : Totals) (parts : SessionStart) : Type 0 where
   pub numbers : Settlement
   pub anyhow : SettlesAnyhow p s receipts numbers
   pub settles : WereHonest p s → Settles p s receipts numbers
@@ -55,7 +55,7 @@ pub record ComesTo (p : PrimaryHistory) (s : SecondaryHistory) (receipts : List 
 
 -- It comes to that for all histories that the two nodes have, if these are joined, and the secondary has no connection that the
 -- primary never had.
-abbrev pub NodesComeTo : PrimaryView → SecondaryView → List Receipt → Totals → Totals → Parts → Type 0
+abbrev pub NodesComeTo : PrimaryView → SecondaryView → List Receipt → Totals → Totals → SessionStart → Type 0
 NodesComeTo primary secondary receipts before after parts =
     secondary.core.number ≤ primary.core.connections → (p : PrimaryHistory) (s : SecondaryHistory) → PrimaryHas (primary_node primary) p
     → SecondaryHas (secondary_node secondary) s → IsJoined p s → ComesTo p s receipts before after parts

@@ -5,9 +5,9 @@ ghost use Rattle.result_lines.specs.Text.{results_text};
 ghost use Rattle.serving.specs.Served.{results};
 
 use crate::compare::LastComparison;
-use crate::fault::Fault;
+use crate::fault::ServeFault;
 use crate::totals::Totals;
-use image_store::Both;
+use image_store::PerDisk;
 use std::io;
 use std::io::Write;
 
@@ -18,13 +18,13 @@ pub(crate) struct End<'a> {
     /// What the comparison of the disks came to.
     pub(crate) found: LastComparison,
     /// The images' paths.
-    pub(crate) files: Both<&'a str>,
+    pub(crate) files: PerDisk<&'a str>,
     /// Whether an image was replaced, or has another length, while it was served.
-    pub(crate) changed: Both<bool>,
+    pub(crate) changed: PerDisk<bool>,
     /// Whether an image may have kept parts of a write that failed.
-    pub(crate) torn: Both<bool>,
+    pub(crate) torn: PerDisk<bool>,
     /// Why a sync of an image failed, the first that did.
-    pub(crate) unsynced: Both<Option<io::Error>>,
+    pub(crate) unsynced: PerDisk<Option<io::Error>>,
 }
 
 impl<'a> End<'a> {
@@ -35,7 +35,7 @@ impl<'a> End<'a> {
         &self,
         out: &mut W,
         err: &mut E,
-    ) -> Result<(), Fault<'a>>
+    ) -> Result<(), ServeFault<'a>>
         ensures printed { OnOk result (Appends (W.contents out.old) (W.contents out.new) (results_text (results self.now.totals self.now.found.unmarked))) }
         ensures unchanged { OnOk result ((self.now.changed.local ≡ false) × (self.now.changed.peer ≡ false)) }
         ensures alike { OnOk result (IfSome self.now.found.unmarked (λ n. n ≡ 0) × (self.now.totals.marked ≡ 0)) }
@@ -48,12 +48,16 @@ impl<'a> End<'a> {
         }
         match self.totals.results(self.found.unmarked).print(out) {
             Ok(()) => self.tell(None, err),
-            Err(error) => self.tell(Some(Fault::Unwritten(error)), err),
+            Err(error) => self.tell(Some(ServeFault::Unwritten(error)), err),
         }
     }
 
     // Returns the first fault, which is `first` if there is one, and writes a line for each further one.
-    fn tell<E: Write>(&self, first: Option<Fault<'a>>, err: &mut E) -> Result<(), Fault<'a>>
+    fn tell<E: Write>(
+        &self,
+        first: Option<ServeFault<'a>>,
+        err: &mut E,
+    ) -> Result<(), ServeFault<'a>>
         ensures none { OnOk result (first.entry ≡ None) }
         ensures unchanged { OnOk result ((self.now.changed.local ≡ false) × (self.now.changed.peer ≡ false)) }
         ensures alike { OnOk result (IfSome self.now.found.unmarked (λ n. n ≡ 0) × (self.now.totals.marked ≡ 0)) }
@@ -61,14 +65,18 @@ impl<'a> End<'a> {
         ensures whole { OnOk result ((self.now.torn.local ≡ false) × (self.now.torn.peer ≡ false)) }
         ensures synced { OnOk result ((self.now.unsynced.local ≡ None) × (self.now.unsynced.peer ≡ None)) }
     {
-        match self.tell_further(first, err) {
+        match self.report_others(first, err) {
             None => Ok(()),
             Some(fault) => Err(fault),
         }
     }
 
     // The same, with no fault as none.
-    fn tell_further<E: Write>(&self, first: Option<Fault<'a>>, err: &mut E) -> Option<Fault<'a>>
+    fn report_others<E: Write>(
+        &self,
+        first: Option<ServeFault<'a>>,
+        err: &mut E,
+    ) -> Option<ServeFault<'a>>
         ensures none { result ≡ None → first.entry ≡ None }
         ensures unchanged { result ≡ None → (self.now.changed.local ≡ false) × (self.now.changed.peer ≡ false) }
         ensures alike { result ≡ None → IfSome self.now.found.unmarked (λ n. n ≡ 0) × (self.now.totals.marked ≡ 0) }
@@ -78,38 +86,50 @@ impl<'a> End<'a> {
     {
         let unmarked = self.found.unmarked.unwrap_or(0);
         let marked = self.totals.marked;
-        let Both { local, peer } = self.files;
+        let PerDisk { local, peer } = self.files;
         let mut first = first;
-        first = or_told(
+        first = first_fault_or(
             err,
             first,
-            self.changed.local.then_some(Fault::Changed(local)),
+            self.changed.local.then_some(ServeFault::Changed(local)),
         );
-        first = or_told(
+        first = first_fault_or(
             err,
             first,
-            self.changed.peer.then_some(Fault::Changed(peer)),
+            self.changed.peer.then_some(ServeFault::Changed(peer)),
         );
-        first = or_told(
+        first = first_fault_or(
             err,
             first,
-            (unmarked > 0).then_some(Fault::Unmarked(unmarked)),
+            (unmarked > 0).then_some(ServeFault::Unmarked(unmarked)),
         );
-        first = or_told(err, first, self.found.is_unread.then_some(Fault::Unread));
-        first = or_told(err, first, (marked > 0).then_some(Fault::Marked(marked)));
-        first = or_told(err, first, self.torn.local.then_some(Fault::Torn(local)));
-        first = or_told(err, first, self.torn.peer.then_some(Fault::Torn(peer)));
-        first = or_told(err, first, unsynced(local, self.unsynced.local));
-        or_told(err, first, unsynced(peer, self.unsynced.peer))
+        first = first_fault_or(
+            err,
+            first,
+            self.found.is_unread.then_some(ServeFault::Unread),
+        );
+        first = first_fault_or(
+            err,
+            first,
+            (marked > 0).then_some(ServeFault::Marked(marked)),
+        );
+        first = first_fault_or(
+            err,
+            first,
+            self.torn.local.then_some(ServeFault::Torn(local)),
+        );
+        first = first_fault_or(err, first, self.torn.peer.then_some(ServeFault::Torn(peer)));
+        first = first_fault_or(err, first, unsynced(local, self.unsynced.local));
+        first_fault_or(err, first, unsynced(peer, self.unsynced.peer))
     }
 }
 
 // Returns the first fault of these two, and writes a line for the other one if it is a further one.
-fn or_told<'a, E: Write>(
+fn first_fault_or<'a, E: Write>(
     err: &mut E,
-    first: Option<Fault<'a>>,
-    next: Option<Fault<'a>>,
-) -> Option<Fault<'a>>
+    first: Option<ServeFault<'a>>,
+    next: Option<ServeFault<'a>>,
+) -> Option<ServeFault<'a>>
     ensures { result ≡ None → (first.entry ≡ None) × (next.entry ≡ None) }
 {
     if first.is_none() {
@@ -122,11 +142,11 @@ fn or_told<'a, E: Write>(
 }
 
 // Returns the fault of an image whose sync failed for this reason, if one did.
-fn unsynced(file: &str, error: Option<io::Error>) -> Option<Fault<'_>>
+fn unsynced(file: &str, error: Option<io::Error>) -> Option<ServeFault<'_>>
     ensures { result ≡ None → error ≡ None }
 {
     match error {
-        Some(error) => Some(Fault::Unsynced(file, error)),
+        Some(error) => Some(ServeFault::Unsynced(file, error)),
         None => None,
     }
 }

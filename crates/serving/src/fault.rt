@@ -5,7 +5,7 @@ ghost use Rattle.blocks.specs.declared.refusal.Refusal.TheVariants as refusal;
 ghost use Rattle.client_threads.specs.declared.threads.StartFault.TheVariants.{NoMemory};
 ghost use Rattle.numbers.specs.Statuses.{status_of};
 ghost use Rattle.numbers.specs.declared.status.SessionStatus.TheVariants as status;
-ghost use Rattle.serving.specs.declared.fault.Fault.TheVariants.{Refused, Unbound, Unstarted};
+ghost use Rattle.serving.specs.declared.fault.ServeFault.TheVariants.{Refused, Unbound, Unstarted};
 
 use blocks::{BLOCK_BYTES, MAX_DEVICE_BLOCKS, Refusal};
 use client_threads::{ListenFault, StartFault};
@@ -15,7 +15,7 @@ use std::{fmt, io};
 
 /// Why a server could not start, or failed.
 #[derive(Drop)]
-pub(crate) enum Fault<'a> {
+pub(crate) enum ServeFault<'a> {
     /// The image could not be opened.
     Unopened(&'a str, OpenFault),
     /// No device has as many bytes as the image.
@@ -42,82 +42,82 @@ pub(crate) enum Fault<'a> {
     Unwritten(io::Error),
 }
 
-impl Fault<'_> {
+impl ServeFault<'_> {
     /// Returns how the session ends with it.
     pub(crate) fn status(&self) -> SessionStatus
         ensures done { result ≡ status.Done → ⊥ }
         ensures refused { (refusal : Refusal) → self.now ≡ Refused refusal → result ≡ status_of refusal }
     {
         match self {
-            Fault::Refused(refusal) => SessionStatus::of(*refusal),
+            ServeFault::Refused(refusal) => SessionStatus::of(*refusal),
             _ => SessionStatus::Failed,
         }
     }
 }
 
-impl fmt::Display for Fault<'_> {
+impl fmt::Display for ServeFault<'_> {
     fn fmt<W: fmt::Write>(&self, f: &mut fmt::Formatter<W>) -> fmt::Result {
         match self {
-            Fault::Unopened(file, fault) => write!(f, "{file}: {fault}"),
-            Fault::NoDevice(file) => write!(
+            ServeFault::Unopened(file, fault) => write!(f, "{file}: {fault}"),
+            ServeFault::NoDevice(file) => write!(
                 f,
                 "{file}: an image has 1 to {MAX_DEVICE_BLOCKS} blocks of {BLOCK_BYTES} bytes"
             ),
-            Fault::Unbound(fault) => write!(f, "{fault}"),
-            Fault::Refused(refusal) => write!(f, "refused {}: {refusal}", refusal.number()),
-            Fault::Unstarted(fault) => write!(f, "{fault}"),
-            Fault::Unmarked(count) => write!(
+            ServeFault::Unbound(fault) => write!(f, "{fault}"),
+            ServeFault::Refused(refusal) => write!(f, "refused {}: {refusal}", refusal.number()),
+            ServeFault::Unstarted(fault) => write!(f, "{fault}"),
+            ServeFault::Unmarked(count) => write!(
                 f,
                 "{count} blocks differ without a mark: keep both images; they were not alike at a start with --first assume-equal, or this is a fault of this program"
             ),
-            Fault::Unread => {
+            ServeFault::Unread => {
                 f.write_str("the images could not be compared: a read of one of them failed")
             }
-            Fault::Marked(count) => write!(
+            ServeFault::Marked(count) => write!(
                 f,
                 "{count} blocks could not be copied: the peer's image is not like the local one"
             ),
-            Fault::Changed(file) => write!(
+            ServeFault::Changed(file) => write!(
                 f,
                 "{file} was replaced, or its length changed, while it was served"
             ),
-            Fault::Torn(file) => write!(
+            ServeFault::Torn(file) => write!(
                 f,
                 "{file} may have kept parts of a write that failed: it may differ from what was served"
             ),
-            Fault::Unsynced(file, error) => write!(
+            ServeFault::Unsynced(file, error) => write!(
                 f,
                 "{file} could not be put on stable storage, and may lack what was written to it: {error}"
             ),
-            Fault::Unwritten(error) => write!(f, "the output could not be written: {error}"),
+            ServeFault::Unwritten(error) => write!(f, "the output could not be written: {error}"),
         }
     }
 }
 
-impl<'a> From<ListenFault> for Fault<'a> {
-    fn from(fault: ListenFault) -> Fault<'a>
+impl<'a> From<ListenFault> for ServeFault<'a> {
+    fn from(fault: ListenFault) -> ServeFault<'a>
         ensures { result ≡ Unbound fault }
     {
-        Fault::Unbound(fault)
+        ServeFault::Unbound(fault)
     }
 }
 
-impl<'a> From<StartFault> for Fault<'a> {
-    fn from(fault: StartFault) -> Fault<'a>
+impl<'a> From<StartFault> for ServeFault<'a> {
+    fn from(fault: StartFault) -> ServeFault<'a>
         ensures memory { fault ≡ NoMemory → result ≡ Refused refusal.NoMemory }
         ensures other { (fault ≡ NoMemory → ⊥) → result ≡ Unstarted fault }
     {
         match fault {
-            StartFault::NoMemory => Fault::Refused(Refusal::NoMemory),
-            fault => Fault::Unstarted(fault),
+            StartFault::NoMemory => ServeFault::Refused(Refusal::NoMemory),
+            fault => ServeFault::Unstarted(fault),
         }
     }
 }
 
-impl<'a> From<Refusal> for Fault<'a> {
-    fn from(refusal: Refusal) -> Fault<'a>
+impl<'a> From<Refusal> for ServeFault<'a> {
+    fn from(refusal: Refusal) -> ServeFault<'a>
         ensures { result ≡ Refused refusal }
     {
-        Fault::Refused(refusal)
+        ServeFault::Refused(refusal)
     }
 }

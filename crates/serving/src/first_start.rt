@@ -15,7 +15,7 @@ use blocks::{ConnectionWords, Refusal, Settings, Store, Tuple};
 use client_threads::Service;
 use options::FirstStart;
 use std::io::Write;
-use volume::Parts;
+use volume::SessionStart;
 
 /// Returns what the first session over these disks starts from. No block is marked. The peer's disk has the identifiers of an
 /// unknown one (0,0,0,0), so that all is copied, if a copy is asked for or a comparison finds a difference, which a line on `err`
@@ -74,7 +74,7 @@ fn is_peer_known<D: Store, E: Write>(
 }
 
 // Returns the parts of the first session, over disks with these identifiers.
-fn first_parts(service: &Service, own: Tuple, peer: Tuple) -> Result<Parts, Refusal>
+fn first_parts(service: &Service, own: Tuple, peer: Tuple) -> Result<SessionStart, Refusal>
     ensures settings { IfOk result (λ parts. parts.settings ≡ record standard { protocol = service.now.protocol; blocks = service.now.blocks }) }
     ensures identifiers { IfOk result (λ parts. (parts.own ≡ own) × (parts.peer ≡ peer)) }
     ensures marks { IfOk result (λ parts. (block : ℕ) → marked parts.marks block ≡ false) }
@@ -87,7 +87,7 @@ fn first_parts(service: &Service, own: Tuple, peer: Tuple) -> Result<Parts, Refu
     settings.check()?;
     let marks = Bitmap::unmarked(service.alloc, u64::from(service.blocks))?;
     let ConnectionWords { sync, loss } = service.words();
-    Ok(Parts {
+    Ok(SessionStart {
         settings,
         own,
         peer,

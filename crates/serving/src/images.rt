@@ -6,10 +6,10 @@ ghost use Rattle.serving.specs.Disks.{IsOpened};
 ghost use Rattle.serving.specs.Served.{AreInRange};
 
 use crate::disks::Disks;
-use crate::fault::Fault;
+use crate::fault::ServeFault;
 use blocks::{BLOCK_BYTES, MAX_DEVICE_BLOCKS, Refusal};
 use file_store::{FileStore, OpeningContents};
-use image_store::{Both, ImageLock, OpenFault, SyncHandle, open_image};
+use image_store::{ImageLock, OpenFault, PerDisk, SyncHandle, open_image};
 use options::ServeOptions;
 use std::fs::File;
 use std::rt::Files;
@@ -18,16 +18,16 @@ use std::rt::Files;
 type Opened<X> = (FileStore<File, X>, SyncHandle<File>);
 
 /// Returns the images' paths.
-pub(crate) fn images_of<'a>(options: &ServeOptions<'a>) -> Both<&'a str> {
-    Both {
+pub(crate) fn images_of<'a>(options: &ServeOptions<'a>) -> PerDisk<&'a str> {
+    PerDisk {
         local: options.local,
         peer: options.peer,
     }
 }
 
 /// Returns which images may have kept parts of a write that failed.
-pub(crate) fn torn_images<X: OpeningContents>(disks: &Disks<FileStore<File, X>>) -> Both<bool> {
-    Both {
+pub(crate) fn torn_images<X: OpeningContents>(disks: &Disks<FileStore<File, X>>) -> PerDisk<bool> {
+    PerDisk {
         local: disks.local.is_torn(),
         peer: disks.peer.is_torn(),
     }
@@ -45,7 +45,10 @@ pub(crate) fn check_size(options: &ServeOptions<'_>) -> Result<(), Refusal>
 }
 
 /// Returns the device's size in blocks: as many as are asked for, else those of the local image.
-pub(crate) fn blocks_of<'a>(options: &ServeOptions<'a>, local: &ImageLock) -> Result<u32, Fault<'a>>
+pub(crate) fn blocks_of<'a>(
+    options: &ServeOptions<'a>,
+    local: &ImageLock,
+) -> Result<u32, ServeFault<'a>>
     requires { AreInRange options.now }
     ensures range { IfOk result (λ blocks. (0 < blocks) × (blocks ≤ 2147483648)) }
     ensures asked { IfOk result (λ blocks. IfSome options.now.blocks (λ asked. blocks ≡ asked)) }
@@ -55,10 +58,10 @@ pub(crate) fn blocks_of<'a>(options: &ServeOptions<'a>, local: &ImageLock) -> Re
     }
     let blocks = match local.image_bytes() {
         Ok(bytes) => bytes / BLOCK_BYTES as u64,
-        Err(error) => return Err(Fault::Unopened(options.local, OpenFault::Unread(error))),
+        Err(error) => return Err(ServeFault::Unopened(options.local, OpenFault::Unread(error))),
     };
     if blocks == 0 || blocks > u64::from(MAX_DEVICE_BLOCKS) {
-        return Err(Fault::NoDevice(options.local));
+        return Err(ServeFault::NoDevice(options.local));
     }
     Ok(blocks as u32)
 }
@@ -66,12 +69,12 @@ pub(crate) fn blocks_of<'a>(options: &ServeOptions<'a>, local: &ImageLock) -> Re
 /// Returns which images are no longer the files that were locked, or images of a device of `blocks` blocks.
 pub(crate) fn changed_images<H: Files<File = File>>(
     rt: &H,
-    locks: &Both<ImageLock>,
+    locks: &PerDisk<ImageLock>,
     options: &ServeOptions<'_>,
     blocks: u32,
-) -> Both<bool> {
+) -> PerDisk<bool> {
     let bytes = u64::from(blocks) * BLOCK_BYTES as u64;
-    Both {
+    PerDisk {
         local: !locks.local.is_unchanged(rt, options.local, bytes),
         peer: !locks.peer.is_unchanged(rt, options.peer, bytes),
     }
@@ -81,10 +84,10 @@ pub(crate) fn changed_images<H: Files<File = File>>(
 pub(crate) fn lock_both<'a, H: Files<File = File>>(
     rt: &H,
     options: &ServeOptions<'a>,
-) -> Result<Both<ImageLock>, Fault<'a>> {
+) -> Result<PerDisk<ImageLock>, ServeFault<'a>> {
     match lock(rt, options.local) {
         Ok(local) => match lock(rt, options.peer) {
-            Ok(peer) => Ok(Both { local, peer }),
+            Ok(peer) => Ok(PerDisk { local, peer }),
             Err(fault) => Err(fault),
         },
         Err(fault) => Err(fault),
@@ -92,10 +95,10 @@ pub(crate) fn lock_both<'a, H: Files<File = File>>(
 }
 
 // Locks an image.
-fn lock<'a, H: Files<File = File>>(rt: &H, file: &'a str) -> Result<ImageLock, Fault<'a>> {
+fn lock<'a, H: Files<File = File>>(rt: &H, file: &'a str) -> Result<ImageLock, ServeFault<'a>> {
     match ImageLock::take(rt, file) {
         Ok(lock) => Ok(lock),
-        Err(fault) => Err(Fault::Unopened(file, fault)),
+        Err(fault) => Err(ServeFault::Unopened(file, fault)),
     }
 }
 
@@ -104,13 +107,13 @@ pub(crate) fn open_both<'a, H: Files<File = File>, X: OpeningContents>(
     rt: &H,
     options: &ServeOptions<'a>,
     blocks: u32,
-) -> Result<(Disks<FileStore<File, X>>, Both<SyncHandle<File>>), Fault<'a>>
+) -> Result<(Disks<FileStore<File, X>>, PerDisk<SyncHandle<File>>), ServeFault<'a>>
     ensures { IfOk result (λ opened. IsOpened blocks X.OpeningContents.local X.OpeningContents.peer opened.0) }
 {
     match open::<H, X>(rt, options.local, blocks, true) {
         Ok((local, local_sync)) => match open::<H, X>(rt, options.peer, blocks, false) {
             Ok((peer, peer_sync)) => {
-                let syncs = Both {
+                let syncs = PerDisk {
                     local: local_sync,
                     peer: peer_sync,
                 };
@@ -128,12 +131,12 @@ fn open<'a, H: Files<File = File>, X: OpeningContents>(
     file: &'a str,
     blocks: u32,
     is_local: bool,
-) -> Result<Opened<X>, Fault<'a>>
+) -> Result<Opened<X>, ServeFault<'a>>
     ensures size { IfOk result (λ opened. count_of opened.0 ≡ blocks) }
     ensures fresh { IfOk result (λ opened. IsFresh is_local opened.0) }
 {
     match open_image::<H, X>(rt, file, blocks, is_local) {
         Ok(opened) => Ok(opened),
-        Err(fault) => Err(Fault::Unopened(file, fault)),
+        Err(fault) => Err(ServeFault::Unopened(file, fault)),
     }
 }

@@ -4,12 +4,12 @@ ghost use Rattle.blocks.specs.SettingsRange.{standard};
 ghost use Rattle.blocks.specs.declared.refusal.Refusal.TheVariants.{BadSetting};
 ghost use Rattle.numbers.specs.declared.status.SessionStatus.TheVariants as status;
 ghost use Rattle.serving.specs.Served.{AreInRange, CameTo, HasEnded, HasServed};
-ghost use Rattle.serving.specs.declared.fault.Fault.TheVariants.{Refused};
+ghost use Rattle.serving.specs.declared.fault.ServeFault.TheVariants.{Refused};
 
 use crate::compare::compare_at_end;
 use crate::disks::Disks;
 use crate::end::End;
-use crate::fault::Fault;
+use crate::fault::ServeFault;
 use crate::images::{
     blocks_of, changed_images, check_size, images_of, lock_both, open_both, torn_images,
 };
@@ -18,7 +18,7 @@ use crate::sessions::run_sessions;
 use blocks::Refusal;
 use client_threads::{Listeners, Service, start_threads};
 use file_store::{FileStore, OpeningContents};
-use image_store::{Both, ImageLock, SyncHandle};
+use image_store::{ImageLock, PerDisk, SyncHandle};
 use numbers::SessionStatus;
 use options::ServeOptions;
 use requests::Requests;
@@ -70,13 +70,19 @@ fn serve_images<
     I: Read + Drop + Send + 'static,
     W: Write,
     E: Write,
->(rt: &H, options: &ServeOptions<'a>, input: I, out: &mut W, err: &mut E) -> Result<(), Fault<'a>>
+>(
+    rt: &H,
+    options: &ServeOptions<'a>,
+    input: I,
+    out: &mut W,
+    err: &mut E,
+) -> Result<(), ServeFault<'a>>
     ensures done { OnOk result (HasServed options.now X.OpeningContents.local X.OpeningContents.peer (W.contents out.old) (W.contents out.new)) }
     ensures refused { (AreInRange options.now → ⊥) → result ≡ Err (Refused BadSetting) }
 {
     match check_size(options) {
         Ok(()) => serve_sized::<X, H, I, W, E>(rt, options, input, out, err),
-        Err(refusal) => Err(Fault::Refused(refusal)),
+        Err(refusal) => Err(ServeFault::Refused(refusal)),
     }
 }
 
@@ -88,7 +94,13 @@ fn serve_sized<
     I: Read + Drop + Send + 'static,
     W: Write,
     E: Write,
->(rt: &H, options: &ServeOptions<'a>, input: I, out: &mut W, err: &mut E) -> Result<(), Fault<'a>>
+>(
+    rt: &H,
+    options: &ServeOptions<'a>,
+    input: I,
+    out: &mut W,
+    err: &mut E,
+) -> Result<(), ServeFault<'a>>
     requires { AreInRange options.now }
     ensures { OnOk result (HasServed options.now X.OpeningContents.local X.OpeningContents.peer (W.contents out.old) (W.contents out.new)) }
 {
@@ -108,10 +120,10 @@ fn serve_locked<
 >(
     rt: &H,
     options: &ServeOptions<'a>,
-    locks: &Both<ImageLock>,
+    locks: &PerDisk<ImageLock>,
     input: I,
     err: &mut E,
-) -> Result<End<'a>, Fault<'a>>
+) -> Result<End<'a>, ServeFault<'a>>
     requires { AreInRange options.now }
     ensures { IfOk result (HasEnded options.now X.OpeningContents.local X.OpeningContents.peer) }
 {
@@ -138,11 +150,11 @@ fn start_service<
     rt: &H,
     options: &ServeOptions<'a>,
     blocks: u32,
-    syncs: Both<SyncHandle<File>>,
+    syncs: PerDisk<SyncHandle<File>>,
     listeners: Listeners,
     input: I,
     err: &mut E,
-) -> Result<Arc<Service, Global>, Fault<'a>>
+) -> Result<Arc<Service, Global>, ServeFault<'a>>
     ensures { IfOk result (λ service. (service.value.protocol ≡ options.now.protocol) × (service.value.blocks ≡ blocks)) }
 {
     let requests = Requests::new(rt.alloc(), options.protocol, syncs);
@@ -168,9 +180,9 @@ fn serve_sessions<
     service: &Service,
     options: &ServeOptions<'a>,
     disks: Disks<FileStore<File, X>>,
-    locks: &Both<ImageLock>,
+    locks: &PerDisk<ImageLock>,
     err: &mut E,
-) -> Result<End<'a>, Fault<'a>>
+) -> Result<End<'a>, ServeFault<'a>>
     ensures came { IfOk result (CameTo (record standard { protocol = service.now.protocol; blocks = service.now.blocks }) options.now.first disks) }
     ensures compares { IfOk result (λ end. end.found.is_unread ≡ false → is_some end.found.unmarked ≡ (options.now.compare || nat_le service.now.blocks 262144)) }
 {
@@ -204,10 +216,10 @@ fn serve_sessions<
 }
 
 // Returns why the sessions of a server failed. They read for themselves in the comparison before the first one alone.
-fn fault_of_sessions<'a>(refusal: Refusal) -> Fault<'a> {
+fn fault_of_sessions<'a>(refusal: Refusal) -> ServeFault<'a> {
     match refusal {
-        Refusal::ReadFault => Fault::Unread,
-        refusal => Fault::Refused(refusal),
+        Refusal::ReadFault => ServeFault::Unread,
+        refusal => ServeFault::Refused(refusal),
     }
 }
 

@@ -1,5 +1,5 @@
 //! One session of a server, from its start to its settlement.
-ghost use Rattle.ruled_link.specs.Names as names;
+ghost use Rattle.thread_link.specs.Names as names;
 ghost use Rattle.serving.specs.Links.{IsNewDirection};
 ghost use Rattle.serving.specs.Sessions.{IsSession, opening};
 ghost use Rattle.std.specs.Prelude.{◌≡◌, slice_get, IfOk};
@@ -11,11 +11,11 @@ use crate::session_end::{SessionEnd, settle_session};
 use crate::totals::Totals;
 use blocks::{Refusal, Settings, Store};
 use client_threads::{Service, work};
-use ruled_link::{RuledIn, RuledOut, ruled};
 use std::alloc::Global;
 use std::marker::Brand;
 use std::sync::Wait;
-use volume::{Linked, Parts, Runtime, Session};
+use thread_link::{RuledIn, RuledOut, ruled};
+use volume::{Linked, Runtime, Session, SessionStart};
 
 /// Both ends of a direction of a link.
 type Direction<R> = (RuledOut<R>, RuledIn<R>);
@@ -36,7 +36,7 @@ pub(crate) fn run_session<R: Runtime, D: Store + Drop + Send + 'static>(
         parts,
         totals,
     } = start;
-    let parts = Parts {
+    let parts = SessionStart {
         is_cut: service.requests.is_peer_failed(),
         ..parts
     };
@@ -72,7 +72,7 @@ fn run_named<L: Linked + Send + Sync + 'static, R: Runtime, D: Store + Drop + Se
     there: Direction<R>,
     back: Direction<R>,
     disks: Disks<D>,
-    parts: Parts,
+    parts: SessionStart,
     totals: Totals,
 ) -> Result<SessionEnd<D>, Refusal>
     requires there { AreEndsOf L.link names.There there }

@@ -12,13 +12,13 @@ use primary::{Primary, Receipt};
 use secondary::Secondary;
 use settle::confirm;
 use std::marker::Model;
-use volume::Parts;
+use volume::SessionStart;
 
 /// What a session leaves for the next one.
 #[derive(Drop)]
 pub(crate) struct SessionEnd<D: Store> {
     pub(crate) disks: Disks<D>,
-    pub(crate) parts: Parts,
+    pub(crate) parts: SessionStart,
     pub(crate) totals: Totals,
 }
 
@@ -68,7 +68,7 @@ fn settle_and_hand_over(
     primary: &mut Primary<impl FrameOut + Drop, impl FrameIn + Drop, impl Store + Drop>,
     secondary: &Secondary<impl FrameOut + Drop, impl FrameIn + Drop, impl Store + Drop>,
     worked: Result<Vec<Receipt>, Refusal>,
-) -> Result<(Parts, Totals), Refusal>
+) -> Result<(SessionStart, Totals), Refusal>
     ensures same { primary.new ≡ primary.old }
     ensures done { IfOk result (λ _. IsOk worked) }
     ensures comes { IfOk result (λ left. IfOk worked (λ receipts. NodesComeTo primary.old secondary.now receipts.items totals left.1 left.0)) }

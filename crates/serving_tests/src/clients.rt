@@ -89,7 +89,7 @@ pub(crate) fn exchange(
         stream.write_all(bytes)?;
     }
     for bytes in wanted {
-        if !comes(alloc, stream, bytes)? {
+        if !arrives(alloc, stream, bytes)? {
             return Ok(false);
         }
     }
@@ -97,7 +97,7 @@ pub(crate) fn exchange(
 }
 
 // Returns whether these bytes come.
-fn comes(alloc: Global, stream: &mut TcpStream, wanted: &[u8]) -> io::Result<bool> {
+fn arrives(alloc: Global, stream: &mut TcpStream, wanted: &[u8]) -> io::Result<bool> {
     let mut came = Vec::from_elem(alloc, 0u8, wanted.len())?;
     stream.read_exact(&mut came)?;
     Ok(came.as_slice() == wanted)
@@ -202,7 +202,7 @@ fn is_one_answered(
     }
     seen[place] = true;
     if cookie == 10 {
-        return comes(alloc, stream, &AB_BLOCK);
+        return arrives(alloc, stream, &AB_BLOCK);
     }
     Ok(true)
 }

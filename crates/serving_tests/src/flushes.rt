@@ -3,8 +3,8 @@ use crate::page::resync_lines;
 use blocks::{BLOCK_BYTES, Protocol, Refusal};
 use bytes::Bytes;
 use halves::{Begun, Device};
-use image_store::{Both, open_image};
-use nbd::{Command, Request};
+use image_store::{PerDisk, open_image};
+use nbd::{NbdCommand, Request};
 use primary::Receipt;
 use requests::Requests;
 use serving::AnyContents;
@@ -138,7 +138,7 @@ pub(crate) fn requests_under(
     let (_, local) = open_image::<_, AnyContents>(rt, image, 1, true).expect(rt, "an image");
     let (_, peer) = open_image::<_, AnyContents>(rt, image, 1, false).expect(rt, "an image");
     fs::remove_file(rt, image).expect(rt, "a file");
-    Requests::new(rt.alloc(), protocol, Both { local, peer })
+    Requests::new(rt.alloc(), protocol, PerDisk { local, peer })
 }
 
 // Begins a request `count` times over a device, ends one after another, and then finishes one after another.
@@ -146,7 +146,7 @@ fn finish_together(
     rt: &(impl Abort + Wait + Clock + AllocGlobal),
     requests: &Requests,
     device: &LateDevice,
-    (command, fua): (Command, bool),
+    (command, fua): (NbdCommand, bool),
     count: u32,
 ) {
     let mut begun = Vec::new(rt.alloc());
@@ -170,7 +170,7 @@ fn finish_together(
 fn asked_for(
     rt: &(impl Abort + Wait + Clock + Files<File = File> + AllocGlobal),
     protocol: Protocol,
-    command: Command,
+    command: NbdCommand,
     fua: bool,
 ) -> u64 {
     let device = LateDevice::new(rt.alloc(), RELEASED_AT);
@@ -180,7 +180,7 @@ fn asked_for(
 }
 
 // A request of no blocks.
-fn request(command: Command, fua: bool) -> Request {
+fn request(command: NbdCommand, fua: bool) -> Request {
     Request {
         command,
         fua,
@@ -195,7 +195,7 @@ fn request(command: Command, fua: bool) -> Request {
 #[test]
 fn a_flush_waits_for_the_writes_before_it(rt: HostRuntime) {
     for protocol in [Protocol::A, Protocol::B] {
-        let asked = asked_for(&rt, protocol, Command::Flush, false);
+        let asked = asked_for(&rt, protocol, NbdCommand::Flush, false);
         assert_eq!(rt; asked, RELEASED_AT);
     }
 }
@@ -203,18 +203,18 @@ fn a_flush_waits_for_the_writes_before_it(rt: HostRuntime) {
 // So does a WRITE_ZEROES with FUA; without, it waits for nothing, and so does a READ with FUA, which writes nothing.
 #[test]
 fn a_request_with_fua_waits_for_the_writes_before_it(rt: HostRuntime) {
-    let asked = asked_for(&rt, Protocol::A, Command::WriteZeroes, true);
+    let asked = asked_for(&rt, Protocol::A, NbdCommand::WriteZeroes, true);
     assert_eq!(rt; asked, RELEASED_AT);
-    let asked = asked_for(&rt, Protocol::A, Command::WriteZeroes, false);
+    let asked = asked_for(&rt, Protocol::A, NbdCommand::WriteZeroes, false);
     assert_eq!(rt; asked, 0);
-    let asked = asked_for(&rt, Protocol::A, Command::Read, true);
+    let asked = asked_for(&rt, Protocol::A, NbdCommand::Read, true);
     assert_eq!(rt; asked, 0);
 }
 
 // Under C the peer's disk has each write that is completed, so a FLUSH asks for none.
 #[test]
 fn a_flush_under_c_waits_for_no_write(rt: HostRuntime) {
-    let asked = asked_for(&rt, Protocol::C, Command::Flush, false);
+    let asked = asked_for(&rt, Protocol::C, NbdCommand::Flush, false);
     assert_eq!(rt; asked, 0);
 }
 
@@ -225,9 +225,9 @@ fn flushes_share_a_round(rt: HostRuntime) {
     for protocol in [Protocol::A, Protocol::B] {
         let device = LateDevice::new(rt.alloc(), RELEASED_AT);
         let requests = requests_under(&rt, protocol, "flushed_late");
-        finish_together(&rt, &requests, &device, (Command::Flush, false), 3);
+        finish_together(&rt, &requests, &device, (NbdCommand::Flush, false), 3);
         assert_eq!(rt; device.asked(), RELEASED_AT);
-        finish_together(&rt, &requests, &device, (Command::Flush, false), 1);
+        finish_together(&rt, &requests, &device, (NbdCommand::Flush, false), 1);
         assert_eq!(rt; device.asked(), RELEASED_AT + QUESTIONS_A_WRITE);
     }
 }
@@ -238,9 +238,9 @@ fn flushes_share_a_round(rt: HostRuntime) {
 fn requests_with_fua_share_a_round(rt: HostRuntime) {
     let device = LateDevice::new(rt.alloc(), RELEASED_AT);
     let requests = requests_under(&rt, Protocol::A, "flushed_late");
-    finish_together(&rt, &requests, &device, (Command::WriteZeroes, true), 3);
+    finish_together(&rt, &requests, &device, (NbdCommand::WriteZeroes, true), 3);
     assert_eq!(rt; device.asked(), RELEASED_AT);
-    finish_together(&rt, &requests, &device, (Command::WriteZeroes, true), 1);
+    finish_together(&rt, &requests, &device, (NbdCommand::WriteZeroes, true), 1);
     assert_eq!(rt; device.asked(), RELEASED_AT + QUESTIONS_A_WRITE);
 }
 
@@ -249,8 +249,8 @@ fn requests_with_fua_share_a_round(rt: HostRuntime) {
 fn a_request_with_fua_takes_no_earlier_round(rt: HostRuntime) {
     let device = LateDevice::new(rt.alloc(), RELEASED_AT);
     let requests = requests_under(&rt, Protocol::A, "flushed_late");
-    let under_way = requests.begin(&device, request(Command::WriteZeroes, true));
-    finish_together(&rt, &requests, &device, (Command::Flush, false), 1);
+    let under_way = requests.begin(&device, request(NbdCommand::WriteZeroes, true));
+    finish_together(&rt, &requests, &device, (NbdCommand::Flush, false), 1);
     assert_eq!(rt; device.asked(), RELEASED_AT);
     let mut receipts = Vec::new(rt.alloc());
     let ended = requests.end(&device, under_way, &mut receipts);

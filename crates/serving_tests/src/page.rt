@@ -1,7 +1,7 @@
 //! Tests of the texts of the status page, written out by hand.
 use blocks::Protocol;
 use status_lines::{DiskState, LinkState, PrimaryLine, Role, SecondaryLine, Words};
-use status_page::{Report, Resync, answer_one};
+use status_page::{Resync, StatusReport, answer_one};
 use std::hash::RandomState;
 use std::process::Abort;
 use std::random::RandomSource;
@@ -54,7 +54,7 @@ const LEFT_OUT_JSON: &str =
 fn check_answer(
     rt: &(impl Abort + AllocGlobal + RandomSource),
     asked: &str,
-    report: Option<&Report>,
+    report: Option<&StatusReport>,
     (status, body): (&str, &str),
 ) {
     let alloc = rt.alloc();
@@ -73,7 +73,7 @@ fn check_answer(
 #[test]
 fn a_client_is_answered(rt: HostRuntime) {
     let (primary, secondary) = resync_lines();
-    let report = Report {
+    let report = StatusReport {
         primary,
         secondary,
         resync: Some(Resync { left: 3, all: 4 }),
@@ -102,7 +102,7 @@ fn a_client_is_answered(rt: HostRuntime) {
 #[test]
 fn a_client_is_told_that_the_peer_is_left_out(rt: HostRuntime) {
     let (primary, secondary) = resync_lines();
-    let report = Report {
+    let report = StatusReport {
         primary,
         secondary,
         resync: None,

@@ -5,10 +5,10 @@ use Rattle.link.specs.Past.{Past}
 use Rattle.endpoint.specs.PacketReceiver.{PacketReceiverState, incoming, taken_before}
 use Rattle.endpoint.specs.Joined.{PacketsFollowEverywhere, BeginsPushed, pushed_at, taken_at, sent_at, sent_past, came_at, came_past}
 use Rattle.endpoint.specs.PacketSender.{PacketSenderState, outgoing, pushed_before}
-use Rattle.ruled_link.specs.Carried.{past_on}
-use Rattle.ruled_link.specs.Inward.{InwardState, taking}
-use Rattle.ruled_link.specs.Joined.{IsJoined, sent_on, taken_on}
-use Rattle.ruled_link.specs.Outward.{OutwardState, sending}
+use Rattle.thread_link.specs.Carried.{past_on}
+use Rattle.thread_link.specs.Inward.{InwardState, taking}
+use Rattle.thread_link.specs.Joined.{IsJoined, sent_on, taken_on}
+use Rattle.thread_link.specs.Outward.{OutwardState, sending}
 
 sent-past : (number : ℕ) (past : List Past) → sent_past number (map pushed_before past) ≡ past_on number past
 sent-past number [] = refl

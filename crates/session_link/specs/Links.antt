@@ -4,9 +4,9 @@ use Rattle.blocks.specs.SettingsRange.{standard}
 use Rattle.blocks.specs.declared.tuple.Tuple.{Tuple}
 use Rattle.model.specs.Theorems.{Opening}
 use Rattle.endpoint.specs.Calls.{IsNewIn, IsNewOut}
-use Rattle.ruled_link.specs.Inward.{InwardState, taking}
-use Rattle.ruled_link.specs.Names.{Direction, LinkName, row_of}
-use Rattle.ruled_link.specs.Outward.{OutwardState, sending}
+use Rattle.thread_link.specs.Inward.{InwardState, taking}
+use Rattle.thread_link.specs.Names.{Direction, LinkName, row_of}
+use Rattle.thread_link.specs.Outward.{OutwardState, sending}
 
 -- both ends of a direction of this link, on its row, of which nothing was used yet
 pub record AreEndsOf (link : LinkName) (direction : Direction) (ends : OutwardState × InwardState) : Type 0 where

@@ -3,8 +3,8 @@ ghost use Rattle.std.specs.Prelude.{ℕ, ◌≡◌};
 ghost use Rattle.endpoint.specs.Joined.{BeginsPushed, pushed_at, taken_at};
 
 use endpoint::{PacketReceiver, PacketSender, joined};
-use ruled_link::{Named, NamedIn, NamedOut, join_ends};
 use std::sync::Wait;
+use thread_link::{Named, NamedIn, NamedOut, join_ends};
 
 /// Returns both ends of a direction unchanged. On each connection, by its number, what was taken is packets, and they
 /// begin the packets that were pushed. Takes no memory.

@@ -9,22 +9,22 @@ ghost use Rattle.session_nodes.specs.Secondaries.{SecondaryHas, SecondaryIsHad};
 use crate::{Back, Linked, There, join_direction};
 use blocks::Store;
 use primary::Primary;
-use ruled_link::{NamedIn, NamedOut};
 use secondary::Secondary;
 use std::sync::Wait;
+use thread_link::{NamedIn, NamedOut};
 
 /// The primary of a session.
-pub type SessionPrimary<R, L, S> = Primary<NamedOut<R, There<L>>, NamedIn<R, Back<L>>, S>;
+pub type NamedPrimary<R, L, S> = Primary<NamedOut<R, There<L>>, NamedIn<R, Back<L>>, S>;
 
 /// The secondary of a session.
-pub type SessionSecondary<R, L, T> = Secondary<NamedOut<R, Back<L>>, NamedIn<R, There<L>>, T>;
+pub type NamedSecondary<R, L, T> = Secondary<NamedOut<R, Back<L>>, NamedIn<R, There<L>>, T>;
 
 /// Returns both nodes of a session unchanged. For any histories that they have over the session's link: on each
 /// connection, by its number, what each took begins what the other pushed. Takes no memory.
 pub fn join_nodes<R: Wait + Drop, L: Linked, S: Store + Drop, T: Store + Drop>(
-    primary: SessionPrimary<R, L, S>,
-    secondary: SessionSecondary<R, L, T>,
-) -> (SessionPrimary<R, L, S>, SessionSecondary<R, L, T>)
+    primary: NamedPrimary<R, L, S>,
+    secondary: NamedSecondary<R, L, T>,
+) -> (NamedPrimary<R, L, S>, NamedSecondary<R, L, T>)
     requires primary { PrimaryIsHad (Some L.opening) primary }
     requires secondary { SecondaryIsHad (Some L.opening) secondary }
     ensures primary { result.0 ≡ primary }

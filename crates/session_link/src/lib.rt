@@ -9,7 +9,7 @@ mod naming;
 mod numbers;
 
 pub use direction::join_direction;
-pub use join::{SessionPrimary, SessionSecondary, join_nodes};
+pub use join::{NamedPrimary, NamedSecondary, join_nodes};
 pub use names::{Back, Began, Linked, There};
-pub use naming::{LocalEnds, PeerEnds, named_ends};
+pub use naming::{PrimaryEnds, SecondaryEnds, named_ends};
 pub use numbers::check_numbers;

@@ -1,14 +1,14 @@
 //! The name of a session: its link, and what its nodes start from.
-ghost use Rattle.ruled_link.specs.Names.{LinkName};
+ghost use Rattle.thread_link.specs.Names.{LinkName};
 
-use ruled_link::Named;
 use session_nodes::Beginning;
 use std::marker::{Brand, PhantomData};
+use thread_link::Named;
 
 /// Which link a session has, and what its nodes start from. It has no bytes: whoever calls a function with such a parameter
 /// picks both.
 pub trait Linked {
-    ghost use Rattle.ruled_link.specs.Names.{LinkName};
+    ghost use Rattle.thread_link.specs.Names.{LinkName};
     ghost use Rattle.model.specs.Theorems.{Opening};
 
     /// The link: the rows of its two directions.
@@ -19,7 +19,7 @@ pub trait Linked {
 }
 
 impl Linked for Brand {
-    ghost use Rattle.ruled_link.specs.Names.{no_link};
+    ghost use Rattle.thread_link.specs.Names.{no_link};
     ghost use Rattle.session_link.specs.Links.{no_opening};
 
     ghost link = { no_link };
@@ -44,7 +44,7 @@ pub struct There<L: Linked> {
 }
 
 impl<L: Linked> Named for There<L> {
-    ghost use Rattle.ruled_link.specs.Names.{There};
+    ghost use Rattle.thread_link.specs.Names.{There};
 
     ghost link = { L.link };
 
@@ -57,7 +57,7 @@ pub struct Back<L: Linked> {
 }
 
 impl<L: Linked> Named for Back<L> {
-    ghost use Rattle.ruled_link.specs.Names.{Back};
+    ghost use Rattle.thread_link.specs.Names.{Back};
 
     ghost link = { L.link };
 

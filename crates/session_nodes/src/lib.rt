@@ -3,11 +3,11 @@
 #![tactic(auto)]
 
 mod beginning;
-mod local;
-mod local_turn;
-mod peer;
-mod peer_turn;
+mod primary_turn;
+mod secondary_turn;
+mod session_primary;
+mod session_secondary;
 
 pub use beginning::{Beginning, Unknown};
-pub use local::Local;
-pub use peer::Peer;
+pub use session_primary::SessionPrimary;
+pub use session_secondary::SessionSecondary;

@@ -21,7 +21,7 @@ use Rattle.secondary.specs.State.{SecondaryView}
 use Rattle.session_nodes.specs.Primaries.{HasAccepted, PrimaryHas, PrimaryIsHad}
 use Rattle.session_nodes.specs.Secondaries.{SecondaryHas, SecondaryIsHad}
 use Rattle.session_run.specs.Outcome.{AreAtRest, HasSettled, IsLinked, IsNumber, IsOpening, IsOutcome, IsRun}
-use Rattle.session_run.specs.declared.report.Report.{Report}
+use Rattle.session_run.specs.declared.report.RunReport.{RunReport}
 use Rattle.settle.proofs.Openings.{were-honest}
 use Rattle.settle.proofs.Settling.{keeps-order}
 use Rattle.settle.specs.Settled.{WasHonest}
@@ -48,7 +48,7 @@ ended-settles (Ok receipts) ended a b confirmed unmarked is settles =
     settles
 
 -- what a session's nodes, once they are settled, make of its report
-pub outcome-of : (options : RunOptions) (o : Opening) (result : Result Report Refusal) (worked : Result (Vec Receipt Global) Refusal)
+pub outcome-of : (options : RunOptions) (o : Opening) (result : Result RunReport Refusal) (worked : Result (Vec Receipt Global) Refusal)
     (ended : Result (PrimaryView × SecondaryView) Refusal) → WasHonest o → o.own.bitmap ≡ 0 → IfOk result (λ _. IsOk worked × IsOk ended)
     → IfOk worked (λ receipts. AreOfPlan (HasAccepted (Some o)) options receipts.items)
     → IfOk result (λ report. IfOk worked (λ receipts. report.completed ≡ vec_len receipts))
@@ -94,7 +94,7 @@ outcome-of options o (Ok report) (Ok receipts) (Ok nodes) honest unparted done p
     }
 
 -- the same of nodes whose histories are joined
-pub linked-of : (options : RunOptions) (o : Opening) (result : Result Report Refusal) (worked : Result (Vec Receipt Global) Refusal)
+pub linked-of : (options : RunOptions) (o : Opening) (result : Result RunReport Refusal) (worked : Result (Vec Receipt Global) Refusal)
     (ended : Result (PrimaryView × SecondaryView) Refusal) → WasHonest o → o.own.bitmap ≡ 0 → IfOk result (λ _. IsOk worked × IsOk ended)
     → IfOk worked (λ receipts. AreOfPlan (HasAccepted (Some o)) options receipts.items)
     → IfOk result (λ report. IfOk worked (λ receipts. report.completed ≡ vec_len receipts))
@@ -120,14 +120,14 @@ linked-of options o (Ok report) (Ok receipts) (Ok nodes) honest unparted done pl
 }
 
 -- a report of joined runs from an opening is one of the options and images that the opening is made of
-pub linked-run : (options : RunOptions) (result : Result Report Refusal) (o : Opening) (local peer : List ℕ)
+pub linked-run : (options : RunOptions) (result : Result RunReport Refusal) (o : Opening) (local peer : List ℕ)
     → IsOpening (record standard { protocol = options.protocol; blocks = options.blocks }) local peer o → IfOk result (IsLinked options o)
     → IfOk result (IsRun options local peer)
 linked-run options (Err refusal) o local peer is linked = tt
 linked-run options (Ok report) o local peer is linked = record { opening = o; opens = is; outcome = linked.outcome; joined = λ _. linked.joined }
 
 -- so is one over streams
-pub wire-run : (options : RunOptions) (result : Result Report Refusal) (o : Opening) (local peer : List ℕ) → options.path ≡ Sockets
+pub wire-run : (options : RunOptions) (result : Result RunReport Refusal) (o : Opening) (local peer : List ℕ) → options.path ≡ Sockets
     → IsOpening (record standard { protocol = options.protocol; blocks = options.blocks }) local peer o → IfOk result (IsOutcome options o)
     → IfOk result (IsRun options local peer)
 wire-run options (Err refusal) o local peer wire is outcome = tt

@@ -22,7 +22,7 @@ use Rattle.run_threads.specs.Plan.{AreOfPlan}
 use Rattle.secondary.specs.State.{SecondaryView, node as secondary_node}
 use Rattle.secondary_protocol.specs.Node.{NodeHas as SecondaryHas}
 use Rattle.session_nodes.specs.Primaries.{HasAccepted}
-use Rattle.session_run.specs.declared.report.Report.{Report}
+use Rattle.session_run.specs.declared.report.RunReport.{RunReport}
 use Rattle.settle.specs.Settled.{AreEntries, WereHonest}
 
 -- This number is that of the settlement with these receipts, for all histories that the two nodes have.
@@ -68,7 +68,7 @@ pub record IsOpening (chosen : Settings) (local_image peer_image : List ℕ) (o 
 -- primary accepted with the bytes of the plan, and each is that of an entry of the journal to which the primary's run leads, none given
 -- twice. Both runs lead to rest. The report has the numbers of the settlement with all receipts, and the disks that the runs lead to. If the runs are joined, the settlement says all that the theorem on joined nodes says of one, and if no local write
 -- failed besides, the peer's disk has an order of writes while it calls itself consistent.
-pub record IsOutcome (options : RunOptions) (o : Opening) (report : Report) : Type 0 where
+pub record IsOutcome (options : RunOptions) (o : Opening) (report : RunReport) : Type 0 where
   pub here : List PrimaryEvent
   pub there : List SecondaryEvent
   pub receipts : List Receipt
@@ -88,12 +88,12 @@ pub record IsOutcome (options : RunOptions) (o : Opening) (report : Report) : Ty
   pub peer : (block : ℕ) → slice_get report.disks.peer block ≡ secondary_map (secondary_run there (secondary_at o)) block
 
 -- such an outcome of two runs that are joined
-pub record IsLinked (options : RunOptions) (o : Opening) (report : Report) : Type 0 where
+pub record IsLinked (options : RunOptions) (o : Opening) (report : RunReport) : Type 0 where
   pub outcome : IsOutcome options o report
   pub joined : IsJoined (primary_run outcome.here (primary_at o)) (secondary_run outcome.there (secondary_at o))
 
 -- The outcome of a run with these options over these images. Over a link in this process the runs of the model are joined.
-pub record IsRun (options : RunOptions) (local_image peer_image : List ℕ) (report : Report) : Type 0 where
+pub record IsRun (options : RunOptions) (local_image peer_image : List ℕ) (report : RunReport) : Type 0 where
   pub opening : Opening
   pub opens : IsOpening (record standard { protocol = options.protocol; blocks = options.blocks }) local_image peer_image opening
   pub outcome : IsOutcome options opening report
@@ -105,7 +105,7 @@ pub record IsRun (options : RunOptions) (local_image peer_image : List ℕ) (rep
 pub record HasRun (options : RunOptions) (before after : Option (List ℕ)) : Type 0 where
   pub local_image : List ℕ
   pub peer_image : List ℕ
-  pub report : Report
+  pub report : RunReport
   pub run : IsRun options local_image peer_image report
   pub completed : report.completed ≡ options.writers * options.writes
   pub unmarked : report.unmarked ≡ 0

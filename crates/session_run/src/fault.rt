@@ -4,7 +4,7 @@ ghost use Rattle.blocks.specs.declared.refusal.Refusal.{Refusal};
 ghost use Rattle.blocks.specs.declared.refusal.Refusal.TheVariants.{NoMemory};
 ghost use Rattle.numbers.specs.Statuses.{status_of};
 ghost use Rattle.numbers.specs.declared.status.SessionStatus.TheVariants as status;
-ghost use Rattle.session_run.specs.declared.fault.Fault.TheVariants.{Refused};
+ghost use Rattle.session_run.specs.declared.fault.RunFault.TheVariants.{Refused};
 
 use blocks::Refusal;
 use image_store::OpenFault;
@@ -14,7 +14,7 @@ use std::{fmt, io};
 
 /// Why a run failed, with the file that it is about.
 #[derive(Drop)]
-pub(crate) enum Fault<'a> {
+pub(crate) enum RunFault<'a> {
     /// The image could not be locked.
     LockRefused(&'a str, OpenFault),
     /// The image could not be read.
@@ -42,71 +42,74 @@ pub(crate) enum Fault<'a> {
     Unwritten(io::Error),
 }
 
-impl Fault<'_> {
+impl RunFault<'_> {
     /// Returns how the session ends with it.
     pub(crate) fn status(&self) -> SessionStatus
         ensures done { result ≡ status.Done → ⊥ }
         ensures refused { (refusal : Refusal) → self.now ≡ Refused refusal → result ≡ status_of refusal }
     {
         match self {
-            Fault::Refused(refusal) => SessionStatus::of(*refusal),
+            RunFault::Refused(refusal) => SessionStatus::of(*refusal),
             _ => SessionStatus::Failed,
         }
     }
 }
 
-impl fmt::Display for Fault<'_> {
+impl fmt::Display for RunFault<'_> {
     fn fmt<W: fmt::Write>(&self, f: &mut fmt::Formatter<W>) -> fmt::Result {
         match self {
-            Fault::LockRefused(file, fault) => write!(f, "{file}: {fault}"),
-            Fault::Unread(file, error) => write!(f, "{file} could not be read: {error}"),
-            Fault::WrongLength(file, fault) => write!(f, "{file}: {fault}"),
-            Fault::Unconnected(error) => write!(f, "the sockets could not be connected: {error}"),
-            Fault::Lost => write!(f, "a socket failed, and the link was lost"),
-            Fault::Refused(refusal) => write!(f, "refused {}", refusal.number()),
-            Fault::Unmarked(count) => {
+            RunFault::LockRefused(file, fault) => write!(f, "{file}: {fault}"),
+            RunFault::Unread(file, error) => write!(f, "{file} could not be read: {error}"),
+            RunFault::WrongLength(file, fault) => write!(f, "{file}: {fault}"),
+            RunFault::Unconnected(error) => write!(
+                f,
+                "the sockets could not be connected: {error}"
+            ),
+            RunFault::Lost => write!(f, "a socket failed, and the link was lost"),
+            RunFault::Refused(refusal) => write!(f, "refused {}", refusal.number()),
+            RunFault::Unmarked(count) => {
                 write!(
                     f,
                     "{count} blocks differ without a mark; no image was changed"
                 )
             }
-            Fault::Occupied(file, beside) => {
+            RunFault::Occupied(file, beside) => {
                 write!(
                     f,
                     "{file} cannot be saved, as {beside} is in the way: move it away; it may be what an earlier run \
                      could not put in the image's place"
                 )
             }
-            Fault::Unsaved(file, error) => write!(f, "{file} could not be saved: {error}"),
-            Fault::Unreplaced(file, beside, error) => {
+            RunFault::Unsaved(file, error) => write!(f, "{file} could not be saved: {error}"),
+            RunFault::Unreplaced(file, beside, error) => {
                 write!(
                     f,
                     "{file} could not be replaced: {error}; its new contents are in {beside}"
                 )
             }
-            Fault::Unsynced(file, error) => {
+            RunFault::Unsynced(file, error) => {
                 write!(
                     f,
                     "{file} was replaced, and may not be on stable storage yet: {error}"
                 )
             }
-            Fault::Unwritten(error) => write!(f, "the output could not be written: {error}"),
+            RunFault::Unwritten(error) => write!(f, "the output could not be written: {error}"),
         }
     }
 }
 
-impl<'a> From<Refusal> for Fault<'a> {
-    fn from(refusal: Refusal) -> Fault<'a>
+impl<'a> From<Refusal> for RunFault<'a> {
+    fn from(refusal: Refusal) -> RunFault<'a>
         ensures { result ≡ Refused refusal }
     {
-        Fault::Refused(refusal)
+        RunFault::Refused(refusal)
     }
 }
 
-impl<'a> From<AllocError> for Fault<'a> {
-    fn from(_: AllocError) -> Fault<'a>
+impl<'a> From<AllocError> for RunFault<'a> {
+    fn from(_: AllocError) -> RunFault<'a>
         ensures { result ≡ Refused NoMemory }
     {
-        Fault::Refused(Refusal::NoMemory)
+        RunFault::Refused(Refusal::NoMemory)
     }
 }

@@ -1,7 +1,7 @@
 //! The images of both disks.
 ghost use Rattle.std.specs.Prelude.{◌≡◌, ◌*◌, ◌<◌, ◌≤◌, vec_len, IfOk};
 
-use crate::fault::Fault;
+use crate::fault::RunFault;
 use crate::locked_image::LockedImage;
 use blocks::BLOCK_BYTES;
 use image_store::check_length;
@@ -15,7 +15,7 @@ pub(crate) fn load<'a, H: Files + AllocGlobal>(
     rt: &H,
     image: &Option<LockedImage<'a>>,
     blocks: u32,
-) -> Result<Vec<u8>, Fault<'a>>
+) -> Result<Vec<u8>, RunFault<'a>>
     requires { blocks ≤ 262144 }
     ensures { IfOk result (λ bytes. vec_len bytes ≡ blocks * 4096) }
 {
@@ -27,9 +27,9 @@ pub(crate) fn load<'a, H: Files + AllocGlobal>(
     match fill(rt, image.real.as_str(), &mut bytes) {
         Ok(found) => match check_length(found, blocks) {
             Ok(()) => Ok(bytes),
-            Err(fault) => Err(Fault::WrongLength(image.named, fault)),
+            Err(fault) => Err(RunFault::WrongLength(image.named, fault)),
         },
-        Err(error) => Err(Fault::Unread(image.named, error)),
+        Err(error) => Err(RunFault::Unread(image.named, error)),
     }
 }
 

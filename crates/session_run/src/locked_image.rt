@@ -1,5 +1,5 @@
 //! An image under its lock.
-use crate::fault::Fault;
+use crate::fault::RunFault;
 use image_store::ImageLock;
 use std::fs;
 use std::fs::File;
@@ -26,22 +26,22 @@ impl<'a> LockedImage<'a> {
         rt: &H,
         named: Option<&'a str>,
         ending: &str,
-    ) -> Result<Option<LockedImage<'a>>, Fault<'a>> {
+    ) -> Result<Option<LockedImage<'a>>, RunFault<'a>> {
         let Some(named) = named else {
             return Ok(None);
         };
         let real = match fs::canonicalize(rt, named) {
             Ok(real) => real,
-            Err(error) => return Err(Fault::Unread(named, error)),
+            Err(error) => return Err(RunFault::Unread(named, error)),
         };
         let beside = format!(in rt.alloc(); "{}.{ending}", real.display())?;
         let lock = match ImageLock::take(rt, real.as_str()) {
             Ok(lock) => lock,
-            Err(fault) => return Err(Fault::LockRefused(named, fault)),
+            Err(fault) => return Err(RunFault::LockRefused(named, fault)),
         };
         // Only now: until the lock is free, another run may have a file there that it will put in the image's place.
         match fs::symlink_metadata(rt, beside.as_str()) {
-            Ok(_) => Err(Fault::Occupied(named, beside)),
+            Ok(_) => Err(RunFault::Occupied(named, beside)),
             Err(error) if error.kind() == ErrorKind::NotFound => {
                 Ok(Some(LockedImage {
                     named,
@@ -50,7 +50,7 @@ impl<'a> LockedImage<'a> {
                     lock,
                 }))
             }
-            Err(error) => Err(Fault::Unsaved(named, error)),
+            Err(error) => Err(RunFault::Unsaved(named, error)),
         }
     }
 }

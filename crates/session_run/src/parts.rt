@@ -8,13 +8,13 @@ ghost use Rattle.volume.specs.Opening.{opening_of};
 
 use bitmap::Bitmap;
 use blocks::{MemStore, Refusal, Tuple};
-use image_store::Both;
+use image_store::PerDisk;
 use options::RunOptions;
 use std::alloc::Global;
-use volume::Parts;
+use volume::SessionStart;
 
 /// The disks of both nodes.
-pub(crate) type Disks = Both<MemStore>;
+pub(crate) type Disks = PerDisk<MemStore>;
 
 /// Returns what a session of these options over these images starts from, with the disks that hold the images: no block
 /// is marked, and if the images differ, the peer's disk has the identifiers of an unknown disk (0,0,0,0). `BadSetting`
@@ -23,8 +23,8 @@ pub(crate) type Disks = Both<MemStore>;
 pub(crate) fn parts(
     alloc: Global,
     options: &RunOptions,
-    images: Both<Vec<u8>>,
-) -> Result<(Parts, Disks), Refusal>
+    images: PerDisk<Vec<u8>>,
+) -> Result<(SessionStart, Disks), Refusal>
     ensures some_blocks { IfOk result (λ _. 0 < options.now.blocks) }
     ensures opens { IfOk result (λ made. IsOpening (record standard { protocol = options.now.protocol; blocks = options.now.blocks }) images.local.items images.peer.items
         (opening_of made.0 (slice_get made.1.local) (slice_get made.1.peer))) }
@@ -36,7 +36,7 @@ pub(crate) fn parts(
     settings.check()?;
     let first = Tuple::new(1, 0, 0, 0);
     let unknown = Tuple::new(0, 0, 0, 0);
-    let parts = Parts {
+    let parts = SessionStart {
         settings,
         own: first,
         peer: if images.local == images.peer {
@@ -51,5 +51,5 @@ pub(crate) fn parts(
     };
     let local = MemStore::from_image(images.local)?;
     let peer = MemStore::from_image(images.peer)?;
-    Ok((parts, Both { local, peer }))
+    Ok((parts, PerDisk { local, peer }))
 }

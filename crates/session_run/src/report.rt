@@ -2,10 +2,10 @@
 ghost use Rattle.std.specs.Prelude.{◌≡◌, ◌≤◌, ◌*◌, ◌↔◌, vec_len, IfOk, IsOk, IsTrue, Some};
 ghost use Rattle.session_run.specs.Outcome.{AreAtRest, HasSettled, IsNumber};
 
-use crate::fault::Fault;
+use crate::fault::RunFault;
 use crate::parts::Disks;
 use blocks::{MemStore, Refusal};
-use image_store::Both;
+use image_store::PerDisk;
 use link::{FrameIn, FrameOut};
 use node_lines::{primary_line, secondary_line};
 use options::RunOptions;
@@ -17,7 +17,7 @@ use status_lines::{PrimaryLine, SecondaryLine};
 
 /// The outcome of a session, with both disks.
 #[derive(Drop)]
-pub(crate) struct Report {
+pub(crate) struct RunReport {
     /// Writes that were completed.
     pub(crate) completed: u64,
     /// Receipts that the settlement confirmed.
@@ -29,7 +29,7 @@ pub(crate) struct Report {
     pub(crate) disks: Disks,
 }
 
-impl Report {
+impl RunReport {
     /// Returns the results that are printed.
     pub(crate) fn results(&self) -> Results
         ensures { result ≡ record { completed = self.now.completed; settled = self.now.confirmed; unmarked = Some self.now.unmarked } }
@@ -42,11 +42,11 @@ impl Report {
     }
 
     /// Returns `Unmarked` if the disks differ on a block without a mark.
-    pub(crate) fn check_marks<'a>(&self) -> Result<(), Fault<'a>>
+    pub(crate) fn check_marks<'a>(&self) -> Result<(), RunFault<'a>>
         ensures { IsOk result ↔ (self.now.unmarked ≡ 0) }
     {
         if self.unmarked > 0 {
-            return Err(Fault::Unmarked(self.unmarked));
+            return Err(RunFault::Unmarked(self.unmarked));
         }
         Ok(())
     }
@@ -63,7 +63,7 @@ pub(crate) fn conclude<
     options: &RunOptions,
     worked: Result<Vec<Receipt>, Refusal>,
     ended: Result<(Primary<O, I, MemStore>, Secondary<P, J, MemStore>), Refusal>,
-) -> Result<Report, Refusal>
+) -> Result<RunReport, Refusal>
     requires { IfOk worked (λ receipts. vec_len receipts ≡ options.now.writers * options.now.writes) }
     ensures done { IfOk result (λ _. IsOk worked × IsOk ended) }
     ensures completed { IfOk result (λ report. report.completed ≡ options.now.writers * options.now.writes) }
@@ -81,12 +81,12 @@ pub(crate) fn conclude<
     };
     let settled = settled_by(&mut primary, &mut secondary, worked);
     let status = status(options, &primary, &secondary);
-    let disks = Both {
+    let disks = PerDisk {
         local: primary.into_store(),
         peer: secondary.into_store(),
     };
     let (completed, settled) = settled?;
-    Ok(Report {
+    Ok(RunReport {
         completed,
         confirmed: settled.confirmed,
         unmarked: settled.unmarked,

@@ -1,12 +1,12 @@
 //! Saving both disks.
 ghost use Rattle.std.specs.Prelude.{◌≡◌};
 
-use crate::fault::Fault;
+use crate::fault::RunFault;
 use crate::locked_image::LockedImage;
 use crate::parts::Disks;
-use crate::place::Place;
-use crate::report::Report;
-use image_store::Both;
+use crate::report::RunReport;
+use crate::saved_image::SavedImage;
+use image_store::PerDisk;
 use std::fs::File;
 use std::rt::Files;
 
@@ -16,15 +16,15 @@ use std::rt::Files;
 /// end.
 pub(crate) fn save<'a, H: Files<File = File> + AllocGlobal>(
     rt: &H,
-    images: Both<Option<LockedImage<'a>>>,
-    report: &mut Report,
-) -> Result<(), Fault<'a>>
+    images: PerDisk<Option<LockedImage<'a>>>,
+    report: &mut RunReport,
+) -> Result<(), RunFault<'a>>
     requires { report.old.unmarked ≡ 0 }
     ensures { report.new ≡ report.old }
 {
-    let places = Both {
-        local: Place::of(images.local),
-        peer: Place::of(images.peer),
+    let places = PerDisk {
+        local: SavedImage::of(images.local),
+        peer: SavedImage::of(images.peer),
     };
     write_both(rt, &places, &mut report.disks)?;
     replace_both(rt, places)
@@ -33,9 +33,9 @@ pub(crate) fn save<'a, H: Files<File = File> + AllocGlobal>(
 // Writes both disks beside their images. If the peer's cannot be written, removes what was written of the local one.
 fn write_both<'a, H: Files<File = File> + AllocGlobal>(
     rt: &H,
-    places: &Both<Place<'a>>,
+    places: &PerDisk<SavedImage<'a>>,
     disks: &mut Disks,
-) -> Result<(), Fault<'a>>
+) -> Result<(), RunFault<'a>>
     ensures { (disks.new.local ≡ disks.old.local) × (disks.new.peer ≡ disks.old.peer) }
 {
     places.local.write(rt, &mut disks.local)?;
@@ -48,7 +48,7 @@ fn write_both<'a, H: Files<File = File> + AllocGlobal>(
 
 // Moves both written files to the places of their images, and then puts the folders on stable storage. If the local one
 // cannot be moved, removes both.
-fn replace_both<'a, H: Files>(rt: &H, places: Both<Place<'a>>) -> Result<(), Fault<'a>> {
+fn replace_both<'a, H: Files>(rt: &H, places: PerDisk<SavedImage<'a>>) -> Result<(), RunFault<'a>> {
     let replaced = places.local.replace(rt);
     if replaced.is_err() {
         places.local.clear(rt);
@@ -58,11 +58,11 @@ fn replace_both<'a, H: Files>(rt: &H, places: Both<Place<'a>>) -> Result<(), Fau
     match places.peer.replace(rt) {
         Ok(()) => sync_folders(rt, &places),
         // The local image is replaced, so what its mirror had is not to be lost.
-        Err(Fault::Unsaved(image, error)) if places.local.has_image() => {
+        Err(RunFault::Unsaved(image, error)) if places.local.has_image() => {
             let _ = sync_folders(rt, &places);
             match places.peer.into_beside() {
-                Some(beside) => Err(Fault::Unreplaced(image, beside, error)),
-                None => Err(Fault::Unsaved(image, error)),
+                Some(beside) => Err(RunFault::Unreplaced(image, beside, error)),
+                None => Err(RunFault::Unsaved(image, error)),
             }
         }
         Err(fault) => {
@@ -73,7 +73,10 @@ fn replace_both<'a, H: Files>(rt: &H, places: Both<Place<'a>>) -> Result<(), Fau
 }
 
 // Puts the folders of both images on stable storage, one folder once. Returns the first failure.
-fn sync_folders<'a, H: Files>(rt: &H, places: &Both<Place<'a>>) -> Result<(), Fault<'a>> {
+fn sync_folders<'a, H: Files>(
+    rt: &H,
+    places: &PerDisk<SavedImage<'a>>,
+) -> Result<(), RunFault<'a>> {
     let local_synced = places.local.sync_folder(rt);
     if places.local.folder() == places.peer.folder() {
         return local_synced;

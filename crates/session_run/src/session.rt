@@ -1,22 +1,22 @@
 //! A session over a link in this process, from its start to its settlement.
 ghost use Rattle.std.specs.Prelude.{◌≡◌, ◌*◌, ◌<◌, slice_get, IfOk};
-ghost use Rattle.ruled_link.specs.Names as names;
+ghost use Rattle.thread_link.specs.Names as names;
 ghost use Rattle.session_run.specs.Outcome.{IsLinked, IsRun};
 ghost use Rattle.settle.specs.Settled.{WasHonest};
 ghost use Rattle.volume.specs.Links.{AreEndsOf};
 ghost use Rattle.volume.specs.Opening.{opening_of};
 
 use crate::parts::{Disks, parts};
-use crate::report::{Report, conclude};
+use crate::report::{RunReport, conclude};
 use blocks::{MemStore, Refusal};
-use image_store::Both;
+use image_store::PerDisk;
 use options::RunOptions;
-use ruled_link::{RuledIn, RuledOut, ruled};
 use run_threads::work;
 use std::alloc::Global;
 use std::io::Write;
 use std::marker::Brand;
-use volume::{Linked, Parts, Runtime, Session};
+use thread_link::{RuledIn, RuledOut, ruled};
+use volume::{Linked, Runtime, Session, SessionStart};
 
 /// Runs a session over the images of two disks: starts it, makes all writes while the link is cut, ends it, and
 /// settles. Reports on `err` what the options ask for.
@@ -27,9 +27,9 @@ pub(crate) fn run_session<R: Runtime, E: Write + Send>(
     rt: R,
     alloc: Global,
     options: &RunOptions,
-    images: Both<Vec<u8>>,
+    images: PerDisk<Vec<u8>>,
     err: &mut E,
-) -> Result<Report, Refusal>
+) -> Result<RunReport, Refusal>
     ensures completed { IfOk result (λ report. report.completed ≡ options.now.writers * options.now.writes) }
     ensures outcome { IfOk result (IsRun options.now images.local.items images.peer.items) }
 {
@@ -47,9 +47,9 @@ fn run_named<L: Linked + Send + Sync + 'static, R: Runtime, E: Write + Send>(
     there: (RuledOut<R>, RuledIn<R>),
     back: (RuledOut<R>, RuledIn<R>),
     disks: Disks,
-    parts: Parts,
+    parts: SessionStart,
     err: &mut E,
-) -> Result<Report, Refusal>
+) -> Result<RunReport, Refusal>
     requires blocks { 0 < options.now.blocks }
     requires there { AreEndsOf L.link names.There there }
     requires back { AreEndsOf L.link names.Back back }
@@ -59,7 +59,7 @@ fn run_named<L: Linked + Send + Sync + 'static, R: Runtime, E: Write + Send>(
     ensures completed { IfOk result (λ report. report.completed ≡ options.now.writers * options.now.writes) }
     ensures outcome { IfOk result (IsLinked options.now L.opening) }
 {
-    let Both { local, peer } = disks;
+    let PerDisk { local, peer } = disks;
     match Session::<R, L, MemStore, MemStore>::start(rt, alloc, there, back, local, peer, parts) {
         Ok(session) => {
             let worked = work(&rt, alloc, session.mirror(), options, err);

@@ -6,30 +6,30 @@ ghost use Rattle.settle.specs.Settled.{WasHonest};
 ghost use Rattle.volume.specs.Opening.{opening_of};
 
 use crate::parts::{Disks, parts};
-use crate::report::{Report, conclude};
+use crate::report::{RunReport, conclude};
 use blocks::{MemStore, Refusal};
-use image_store::Both;
+use image_store::PerDisk;
 use options::RunOptions;
 use run_threads::work;
 use std::alloc::Global;
 use std::io::Write;
 use std::marker::Brand;
-use volume::{Parts, Runtime};
-use wire_session::{Beginning, Socket, Ways, WireSession};
+use stream_session::{Beginning, Socket, StreamSession, Ways};
+use volume::{Runtime, SessionStart};
 
 /// Runs a session over the images of two disks and these sockets: starts it, makes all writes, ends it, and settles.
 /// Reports on `err` what the options ask for.
 ///
 /// `BadSetting` (15) if a setting is out of its range or an image does not have its blocks; else the refusals of
-/// `WireSession::start_over`, of `Device::write`, of `WireSession::finish` and of `settle`, in this order.
+/// `StreamSession::start_over`, of `Device::write`, of `StreamSession::finish` and of `settle`, in this order.
 pub(crate) fn run_over<R: Runtime, E: Write + Send>(
     rt: R,
     alloc: Global,
     options: &RunOptions,
-    images: Both<Vec<u8>>,
+    images: PerDisk<Vec<u8>>,
     ways: Ways<Socket, Socket>,
     err: &mut E,
-) -> Result<Report, Refusal>
+) -> Result<RunReport, Refusal>
     requires { options.now.path ≡ path.Sockets }
     ensures completed { IfOk result (λ report. report.completed ≡ options.now.writers * options.now.writes) }
     ensures outcome { IfOk result (IsRun options.now images.local.items images.peer.items) }
@@ -45,9 +45,9 @@ fn run_begun<B: Beginning + Send + Sync + 'static, R: Runtime, E: Write + Send>(
     options: &RunOptions,
     ways: Ways<Socket, Socket>,
     disks: Disks,
-    parts: Parts,
+    parts: SessionStart,
     err: &mut E,
-) -> Result<Report, Refusal>
+) -> Result<RunReport, Refusal>
     requires blocks { 0 < options.now.blocks }
     requires opening { B.opening ≡ Some (opening_of parts (slice_get disks.local) (slice_get disks.peer)) }
     requires honest { WasHonest (opening_of parts (slice_get disks.local) (slice_get disks.peer)) }
@@ -55,8 +55,10 @@ fn run_begun<B: Beginning + Send + Sync + 'static, R: Runtime, E: Write + Send>(
     ensures completed { IfOk result (λ report. report.completed ≡ options.now.writers * options.now.writes) }
     ensures outcome { IfOk result (IsOutcome options.now (opening_of parts (slice_get disks.local) (slice_get disks.peer))) }
 {
-    let Both { local, peer } = disks;
-    match WireSession::<R, B, MemStore, MemStore>::start_over(rt, alloc, local, peer, parts, ways) {
+    let PerDisk { local, peer } = disks;
+    match StreamSession::<R, B, MemStore, MemStore>::start_over(
+        rt, alloc, local, peer, parts, ways,
+    ) {
         Ok(session) => {
             let worked = work(&rt, alloc, session.mirror(), options, err);
             conclude(options, worked, session.finish())

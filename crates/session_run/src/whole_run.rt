@@ -4,17 +4,17 @@ ghost use Rattle.blocks.specs.SettingsRange.{IsInRange, standard};
 ghost use Rattle.blocks.specs.declared.refusal.Refusal.TheVariants.{BadSetting};
 ghost use Rattle.numbers.specs.declared.status.SessionStatus.TheVariants as status;
 ghost use Rattle.session_run.specs.Outcome.{HasRun, IsRun};
-ghost use Rattle.session_run.specs.declared.fault.Fault.TheVariants.{Refused};
+ghost use Rattle.session_run.specs.declared.fault.RunFault.TheVariants.{Refused};
 
-use crate::fault::Fault;
+use crate::fault::RunFault;
 use crate::images::load;
 use crate::locked_image::LockedImage;
-use crate::report::Report;
+use crate::report::RunReport;
 use crate::saving::save;
 use crate::session::run_session;
 use crate::sockets::run_over;
 use blocks::{MAX_BLOCKS, Refusal};
-use image_store::Both;
+use image_store::PerDisk;
 use numbers::SessionStatus;
 use options::{Images, Path, RunOptions};
 use run_threads::print_status;
@@ -22,8 +22,8 @@ use std::fs::File;
 use std::io::Write;
 use std::net::{Net, TcpListener, TcpStream};
 use std::rt::Files;
+use stream_session::loopback;
 use volume::Host;
-use wire_session::loopback;
 
 /// Runs a session with these options over these images, saves both disks, and prints `completed X`, `settled X` and
 /// `unmarked 0`, X being the number of writes. Locks the images meanwhile. Returns how it ended: `Done` if all is done;
@@ -64,14 +64,14 @@ fn run_images<
     images: &Images<'a>,
     out: &mut W,
     err: &mut E,
-) -> Result<(), Fault<'a>>
+) -> Result<(), RunFault<'a>>
     ensures done { OnOk result (HasRun options.now (W.contents out.old) (W.contents out.new)) }
     ensures refused { (IsInRange (record standard { protocol = options.now.protocol; blocks = options.now.blocks }) → ⊥) → result ≡ Err (Refused BadSetting) }
 {
     match options.settings().check() {
-        Ok(()) if options.blocks > MAX_BLOCKS => Err(Fault::Refused(Refusal::BadSetting)),
+        Ok(()) if options.blocks > MAX_BLOCKS => Err(RunFault::Refused(Refusal::BadSetting)),
         Ok(()) => run_loaded(rt, options, images, out, err),
-        Err(refusal) => Err(Fault::Refused(refusal)),
+        Err(refusal) => Err(RunFault::Refused(refusal)),
     }
 }
 
@@ -87,7 +87,7 @@ fn run_loaded<
     images: &Images<'a>,
     out: &mut W,
     err: &mut E,
-) -> Result<(), Fault<'a>>
+) -> Result<(), RunFault<'a>>
     requires { options.now.blocks ≤ 262144 }
     ensures { OnOk result (HasRun options.now (W.contents out.old) (W.contents out.new)) }
 {
@@ -95,19 +95,19 @@ fn run_loaded<
     let local = load(rt, &local_image, options.blocks)?;
     let peer_image = LockedImage::take(rt, images.peer, "peer-new")?;
     let peer = load(rt, &peer_image, options.blocks)?;
-    let mut report = run_disks(rt, options, Both { local, peer }, err)?;
+    let mut report = run_disks(rt, options, PerDisk { local, peer }, err)?;
     if let Some(lines) = report.status {
         let _ = print_status(lines, err);
     }
     report.check_marks()?;
-    let locked = Both {
+    let locked = PerDisk {
         local: local_image,
         peer: peer_image,
     };
     save(rt, locked, &mut report)?;
     match report.results().print(out) {
         Ok(()) => Ok(()),
-        Err(error) => Err(Fault::Unwritten(error)),
+        Err(error) => Err(RunFault::Unwritten(error)),
     }
 }
 
@@ -115,9 +115,9 @@ fn run_loaded<
 fn run_disks<'a, H: Host + Net<Listener = TcpListener, Stream = TcpStream>, E: Write + Send>(
     rt: &H,
     options: &RunOptions,
-    images: Both<Vec<u8>>,
+    images: PerDisk<Vec<u8>>,
     err: &mut E,
-) -> Result<Report, Fault<'a>>
+) -> Result<RunReport, RunFault<'a>>
     ensures completed { IfOk result (λ report. report.completed ≡ options.now.writers * options.now.writes) }
     ensures outcome { IfOk result (IsRun options.now images.local.items images.peer.items) }
 {
@@ -125,13 +125,13 @@ fn run_disks<'a, H: Host + Net<Listener = TcpListener, Stream = TcpStream>, E: W
         Path::Link => run_session(*rt, rt.alloc(), options, images, err),
         Path::Sockets => match loopback(rt) {
             Ok(ways) => run_over(*rt, rt.alloc(), options, images, ways, err),
-            Err(error) => return Err(Fault::Unconnected(error)),
+            Err(error) => return Err(RunFault::Unconnected(error)),
         },
     };
     match report {
         Ok(report) => Ok(report),
         // Over sockets the link is lost only if one of them fails.
-        Err(Refusal::NotConnected) if options.path == Path::Sockets => Err(Fault::Lost),
-        Err(refusal) => Err(Fault::Refused(refusal)),
+        Err(Refusal::NotConnected) if options.path == Path::Sockets => Err(RunFault::Lost),
+        Err(refusal) => Err(RunFault::Refused(refusal)),
     }
 }

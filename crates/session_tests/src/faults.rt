@@ -10,15 +10,15 @@ use volume::Runtime;
 
 /// Which disk fails a write.
 #[derive(Clone, Copy, Debug, PartialEq, Eq)]
-enum Side {
+enum FaultyDisk {
     Local,
     Peer,
 }
 
 /// A write of two blocks that fails.
 #[derive(Clone, Copy, Debug, PartialEq, Eq)]
-struct Fault {
-    side: Side,
+struct DiskFault {
+    side: FaultyDisk,
     /// How many writes to this disk pass before it.
     passes: u64,
     /// How many of its blocks are on the disk all the same.
@@ -30,14 +30,14 @@ fn over_failing<R: Abort + Runtime>(
     rt: R,
     alloc: Global,
     protocol: Protocol,
-    fault: Fault,
+    fault: DiskFault,
 ) -> Outcome {
     let signals = Signals::shared(&rt, alloc);
     let mut local = FaultStore::new(memory(&rt, alloc, false));
     let mut peer = FaultStore::new(memory(&rt, alloc, false));
     match fault.side {
-        Side::Local => local.arm_after(fault.passes, fault.kept),
-        Side::Peer => peer.arm_after(fault.passes, fault.kept),
+        FaultyDisk::Local => local.arm_after(fault.passes, fault.kept),
+        FaultyDisk::Peer => peer.arm_after(fault.passes, fault.kept),
     }
     let case = Case::of(protocol, Work::WideWriters);
     run(rt, alloc, case, (local, peer), &signals).expect(&rt, "a session")
@@ -64,13 +64,13 @@ fn check_each_fault<R: Abort + Runtime + Copy>(
     rt: R,
     alloc: Global,
     protocol: Protocol,
-    side: Side,
+    side: FaultyDisk,
     faults: u32,
 ) {
     let completed = 80u32.saturating_sub(faults);
     for passes in 0..10u64 {
         for kept in 0..=2u64 {
-            let fault = Fault { side, passes, kept };
+            let fault = DiskFault { side, passes, kept };
             let outcome = over_failing(rt, alloc, protocol, fault);
             let case = (protocol, fault);
             outcome.check_no_complaints(&rt, completed as usize, &case);
@@ -78,7 +78,7 @@ fn check_each_fault<R: Abort + Runtime + Copy>(
             outcome.check_settled(&rt, u64::from(completed), &case);
             // Under C the peer answers no write that its disk fails, and the disk of the primary completes it alone.
             assert!(rt;
-                side == Side::Local || protocol != Protocol::C || outcome.linked < 80,
+                side == FaultyDisk::Local || protocol != Protocol::C || outcome.linked < 80,
                 "{case:?}"
             );
         }
@@ -88,23 +88,23 @@ fn check_each_fault<R: Abort + Runtime + Copy>(
 #[test]
 fn a_local_fault_is_its_callers_alone(rt: HostRuntime) {
     for protocol in [Protocol::A, Protocol::B, Protocol::C] {
-        check_each_fault(rt, rt.alloc(), protocol, Side::Local, 1);
+        check_each_fault(rt, rt.alloc(), protocol, FaultyDisk::Local, 1);
     }
 }
 
 #[test]
 fn a_peer_fault_leaves_no_difference_unmarked_under_a(rt: HostRuntime) {
-    check_each_fault(rt, rt.alloc(), Protocol::A, Side::Peer, 0);
+    check_each_fault(rt, rt.alloc(), Protocol::A, FaultyDisk::Peer, 0);
 }
 
 #[test]
 fn a_peer_fault_leaves_no_difference_unmarked_under_b(rt: HostRuntime) {
-    check_each_fault(rt, rt.alloc(), Protocol::B, Side::Peer, 0);
+    check_each_fault(rt, rt.alloc(), Protocol::B, FaultyDisk::Peer, 0);
 }
 
 #[test]
 fn a_peer_fault_leaves_no_difference_unmarked_under_c(rt: HostRuntime) {
-    check_each_fault(rt, rt.alloc(), Protocol::C, Side::Peer, 0);
+    check_each_fault(rt, rt.alloc(), Protocol::C, FaultyDisk::Peer, 0);
 }
 
 #[test]

@@ -1,6 +1,6 @@
 //! Runs a session over two disks, from its start to its settlement.
 ghost use Rattle.std.specs.Prelude.{◌≡◌, ◌<◌, slice_get, IfOk};
-ghost use Rattle.ruled_link.specs.Names as names;
+ghost use Rattle.thread_link.specs.Names as names;
 ghost use Rattle.volume.specs.Links.{AreEndsOf};
 ghost use Rattle.volume.specs.Opening.{opening_of};
 
@@ -10,12 +10,12 @@ use crate::outcome::{Outcome, bring_together};
 use crate::own_calls::own_calls;
 use bitmap::Bitmap;
 use blocks::{ConnectionWords, Protocol, Refusal, Settings, Store, Tuple};
-use ruled_link::{RuledIn, RuledOut, ruled};
 use std::alloc::Global;
 use std::marker::Brand;
 use std::process::Abort;
 use std::sync::Arc;
-use volume::{Linked, Parts, Runtime, Session};
+use thread_link::{RuledIn, RuledOut, ruled};
+use volume::{Linked, Runtime, Session, SessionStart};
 
 /// The identifiers of disks that are equal.
 pub(crate) const ALIKE: Tuple = Tuple {
@@ -77,7 +77,7 @@ impl Case {
     }
 
     /// Returns what the session starts from. No block is marked.
-    pub(crate) fn parts(&self, alloc: Global) -> Result<Parts, Refusal>
+    pub(crate) fn parts(&self, alloc: Global) -> Result<SessionStart, Refusal>
         ensures { IfOk result (λ parts. 0 < parts.settings.link) }
     {
         let settings = Settings {
@@ -86,7 +86,7 @@ impl Case {
             ..Settings::STANDARD
         };
         settings.check()?;
-        Ok(Parts {
+        Ok(SessionStart {
             settings,
             own: self.own,
             peer: self.peer,
@@ -129,7 +129,7 @@ fn run_named<
     there: (RuledOut<R>, RuledIn<R>),
     back: (RuledOut<R>, RuledIn<R>),
     disks: (S, T),
-    parts: Parts,
+    parts: SessionStart,
     signals: &Arc<Signals, Global>,
 ) -> Result<Outcome, Refusal>
     requires there { AreEndsOf L.link names.There there }

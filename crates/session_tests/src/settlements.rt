@@ -2,7 +2,7 @@
 
 mod cases;
 
-use crate::nodes::{Local, disk, new_local, new_peer};
+use crate::nodes::{RowPrimary, disk, new_primary, new_secondary};
 use blocks::{FaultStore, MemStore};
 use cases::{Case, goes};
 use primary::Receipt;
@@ -13,13 +13,13 @@ use std::sync::Wait;
 /// Takes a primary, and a secondary that it makes, through a case.
 fn goes_beside<R: Wait + Copy + Drop>(
     (rt, out, alloc): (R, &impl Abort, Global),
-    local: &mut Local<R>,
+    primary: &mut RowPrimary<R>,
     (disk, blocks): (FaultStore, u32),
     receipts: &mut Vec<Receipt>,
     case: Case,
 ) {
-    let mut peer = new_peer(out, alloc, disk, blocks);
-    goes((rt, out, alloc), local, &mut peer, receipts, case);
+    let mut secondary = new_secondary(out, alloc, disk, blocks);
+    goes((rt, out, alloc), primary, &mut secondary, receipts, case);
 }
 
 /// Takes two nodes with these disks through a case; the primary's first block is marked or not.
@@ -30,8 +30,8 @@ fn settles<R: Wait + Copy + Drop>(
     receipts: &mut Vec<Receipt>,
     case: Case,
 ) {
-    let mut local = new_local(out, alloc, here, is_marked);
-    goes_beside((rt, out, alloc), &mut local, there, receipts, case);
+    let mut primary = new_primary(out, alloc, here, is_marked);
+    goes_beside((rt, out, alloc), &mut primary, there, receipts, case);
 }
 
 /// Takes two nodes with zero-filled disks through a case.

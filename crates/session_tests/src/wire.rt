@@ -9,8 +9,8 @@ use std::alloc::Global;
 use std::ops::Range;
 use std::process::Abort;
 use std::thread;
+use stream_session::{Sink, Source, StreamSession, Unknown, Way, Ways};
 use volume::Runtime;
-use wire_session::{Sink, Source, Unknown, Way, Ways, WireSession};
 
 /// The number of bytes after which a stream that never fails would fail.
 const NEVER: u64 = u64::MAX;
@@ -59,8 +59,8 @@ fn over_pipes<R: Abort + Runtime>(
 ) -> Result<Outcome, Refusal> {
     let (writer, reader) = pipe(rt, alloc, failing.writer, failing.reader).expect(&rt, "a pipe");
     let ways = Ways {
-        to_peer: Way { writer, reader },
-        to_local: whole_way(rt, alloc),
+        to_secondary: Way { writer, reader },
+        to_primary: whole_way(rt, alloc),
     };
     over_ways(rt, alloc, case, ways)
 }
@@ -80,7 +80,7 @@ fn over_ways<R: Abort + Runtime, W: Sink, D: Source, V: Sink, E: Source>(
 ) -> Result<Outcome, Refusal> {
     let parts = case.parts(alloc).expect(&rt, "settings");
     let (local, peer) = (memory(&rt, alloc, false), memory(&rt, alloc, false));
-    match WireSession::<R, Unknown, MemStore, MemStore>::start_over(
+    match StreamSession::<R, Unknown, MemStore, MemStore>::start_over(
         rt, alloc, local, peer, parts, ways,
     ) {
         Ok(session) => {
@@ -227,11 +227,11 @@ fn a_writer_that_fails_in_the_last_quarter_loses_nothing(rt: HostRuntime) {
 fn foreign<R: Abort + Runtime>(rt: R, alloc: Global, bytes: &'static [u8]) -> u8 {
     let (writer, reader) = pipe(rt, alloc, NEVER, NEVER).expect(&rt, "a pipe");
     let ways = Ways {
-        to_peer: Way {
+        to_secondary: Way {
             writer,
             reader: Foreign::new(reader, bytes),
         },
-        to_local: whole_way(rt, alloc),
+        to_primary: whole_way(rt, alloc),
     };
     let case = Case::of(Protocol::C, Work::OneWrite);
     match over_ways(rt, alloc, case, ways) {

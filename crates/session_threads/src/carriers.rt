@@ -3,8 +3,8 @@
 ghost use Rattle.std.specs.Prelude.{◌≡◌, ◌<◌, ◌*◌, IfErr, IfOk};
 ghost use Rattle.blocks.specs.declared.refusal.Refusal.TheVariants.{NoMemory};
 ghost use Rattle.endpoint.specs.Calls.{IsNewIn, IsNewOut};
-ghost use Rattle.ruled_link.specs.Inward.{taking};
-ghost use Rattle.ruled_link.specs.Outward.{sending};
+ghost use Rattle.thread_link.specs.Inward.{taking};
+ghost use Rattle.thread_link.specs.Outward.{sending};
 
 use crate::shared::Shared;
 use crate::way::{Sink, Source, Way};
@@ -13,13 +13,13 @@ use blocks::Refusal;
 use crossbeam_channel::{Receiver, Sender, bounded};
 use halves::{PrimaryHalf, SecondaryHalf};
 use pumps::{Buffer, PumpEnd, pump_in, pump_out};
-use ruled_link::{PieceIn, PieceOut, RuledIn, RuledOut, row};
 use std::alloc::Global;
 use std::io::{Read, Write};
 use std::sync::{Arc, Wait};
 use std::thread;
 use std::thread::Threads;
 use std::time::Clock;
+use thread_link::{PieceIn, PieceOut, RuledIn, RuledOut, row};
 
 /// Pieces of the longest frame.
 const FRAME_PIECES: usize = 94;
@@ -39,8 +39,8 @@ pub struct PumpEnds<R: Wait + Drop> {
 /// The pumps' ends of each node's rows.
 #[derive(Drop)]
 pub struct Rows<R: Wait + Drop> {
-    pub local: PumpEnds<R>,
-    pub peer: PumpEnds<R>,
+    pub primary: PumpEnds<R>,
+    pub secondary: PumpEnds<R>,
 }
 
 /// Creates the two rows of a half, and returns the node's ends and the pumps'. Each row has room for exactly `link` of the
@@ -68,26 +68,26 @@ pub fn half_rows<R: Wait + Copy + Drop>(
 
 /// Which half a pump works for.
 #[derive(Clone, Copy, Debug, PartialEq, Eq)]
-pub(crate) enum Side {
-    Local,
-    Peer,
+pub(crate) enum Half {
+    Primary,
+    Secondary,
 }
 
 /// The half that a way starts at, and the half that it leads to.
 #[derive(Clone, Copy, Debug, PartialEq, Eq)]
 pub(crate) struct Route {
-    from: Side,
-    to: Side,
+    from: Half,
+    to: Half,
 }
 
-pub(crate) const LOCAL_TO_PEER: Route = Route {
-    from: Side::Local,
-    to: Side::Peer,
+pub(crate) const TO_SECONDARY: Route = Route {
+    from: Half::Primary,
+    to: Half::Secondary,
 };
 
-pub(crate) const PEER_TO_LOCAL: Route = Route {
-    from: Side::Peer,
-    to: Side::Local,
+pub(crate) const TO_PRIMARY: Route = Route {
+    from: Half::Secondary,
+    to: Half::Primary,
 };
 
 /// Starts pumps, and gives each a channel on which it reports its end.
@@ -154,7 +154,7 @@ impl Carrier {
         &self,
         workers: &mut Workers,
         shared: &Arc<Shared<R, A, B>, Global>,
-        side: Side,
+        side: Half,
         row: PieceIn<R>,
         writer: W,
     ) -> Result<(), Refusal>
@@ -183,7 +183,7 @@ impl Carrier {
         &self,
         workers: &mut Workers,
         shared: &Arc<Shared<R, A, B>, Global>,
-        side: Side,
+        side: Half,
         row: PieceOut<R>,
         reader: D,
     ) -> Result<(), Refusal>
@@ -214,7 +214,7 @@ impl<R: Wait + Clock + Drop, A: PrimaryHalf, B: SecondaryHalf> Shared<R, A, B> {
     // Runs the pump that writes what a node sends, drops its writer, and reports its end.
     fn carry_out<W: Write + Drop>(
         &self,
-        side: Side,
+        side: Half,
         row: PieceIn<R>,
         writer: W,
         buffer: Buffer,
@@ -222,8 +222,8 @@ impl<R: Wait + Clock + Drop, A: PrimaryHalf, B: SecondaryHalf> Shared<R, A, B> {
     ) {
         let (mut row, mut writer, mut buffer) = (row, writer, buffer);
         let sent = match side {
-            Side::Local => self.local.pump_bell(),
-            Side::Peer => self.peer.pump_bell(),
+            Half::Primary => self.primary.pump_bell(),
+            Half::Secondary => self.secondary.pump_bell(),
         };
         let end = pump_out(
             &self.rt,
@@ -240,7 +240,7 @@ impl<R: Wait + Clock + Drop, A: PrimaryHalf, B: SecondaryHalf> Shared<R, A, B> {
     // Runs the pump that reads what a node takes, drops its reader, and reports its end.
     fn carry_in<D: Read + Drop>(
         &self,
-        side: Side,
+        side: Half,
         row: PieceOut<R>,
         reader: D,
         buffer: Buffer,
@@ -248,8 +248,8 @@ impl<R: Wait + Clock + Drop, A: PrimaryHalf, B: SecondaryHalf> Shared<R, A, B> {
     ) {
         let (mut row, mut reader, mut buffer) = (row, reader, buffer);
         let work = match side {
-            Side::Local => self.local.work_bell(),
-            Side::Peer => self.peer.work_bell(),
+            Half::Primary => self.primary.work_bell(),
+            Half::Secondary => self.secondary.work_bell(),
         };
         let end = pump_in(
             &self.rt,

@@ -10,14 +10,19 @@ use std::time::Clock;
 
 /// The steps that carry one frame in each direction, in order.
 #[derive(Clone, Copy, Debug, PartialEq, Eq)]
-enum Step {
+enum HelloStep {
     Send,
     Receive,
     AckOut,
     AckIn,
 }
 
-const STEPS: [Step; 4] = [Step::Send, Step::Receive, Step::AckOut, Step::AckIn];
+const STEPS: [HelloStep; 4] = [
+    HelloStep::Send,
+    HelloStep::Receive,
+    HelloStep::AckOut,
+    HelloStep::AckIn,
+];
 
 /// Frames of the hello in each direction.
 const FRAMES: u32 = 3;
@@ -36,14 +41,14 @@ impl<R: Wait, A: PrimaryHalf, B: SecondaryHalf> Shared<R, A, B> {
     }
 
     // Does a step of the hello.
-    fn step(&self, step: Step) -> Result<Done, Refusal>
+    fn step(&self, step: HelloStep) -> Result<Done, Refusal>
         ensures refused { IfErr result (λ e. hello_refuses e ≡ true) }
     {
         match step {
-            Step::Send => self.local.send(),
-            Step::Receive => self.peer.receive(),
-            Step::AckOut => self.peer.ack_out(),
-            Step::AckIn => self.local.ack_in(),
+            HelloStep::Send => self.primary.send(),
+            HelloStep::Receive => self.secondary.receive(),
+            HelloStep::AckOut => self.secondary.ack_out(),
+            HelloStep::AckIn => self.primary.ack_in(),
         }
     }
 }
@@ -63,14 +68,14 @@ impl<R: Wait + Clock, A: PrimaryHalf, B: SecondaryHalf> Shared<R, A, B> {
     }
 
     // Does a step of the hello, once it can be done.
-    fn await_step(&self, step: Step) -> Result<(), Refusal>
+    fn await_step(&self, step: HelloStep) -> Result<(), Refusal>
         ensures refused { IfErr result (λ e. streams_hello_refuses e ≡ true) }
     {
         let (bell, sent) = match step {
-            Step::Send => (self.local.work_bell(), Some(self.local.pump_bell())),
-            Step::Receive => (self.peer.work_bell(), None),
-            Step::AckOut => (self.peer.work_bell(), Some(self.peer.pump_bell())),
-            Step::AckIn => (self.local.work_bell(), None),
+            HelloStep::Send => (self.primary.work_bell(), Some(self.primary.pump_bell())),
+            HelloStep::Receive => (self.secondary.work_bell(), None),
+            HelloStep::AckOut => (self.secondary.work_bell(), Some(self.secondary.pump_bell())),
+            HelloStep::AckIn => (self.primary.work_bell(), None),
         };
         let mut looks = 0u32;
         for _ in self.rt.forever() {

@@ -4,14 +4,14 @@
 
 mod carriers;
 mod hello;
-mod mirror;
 mod running;
 mod shared;
+mod shared_session;
 mod way;
 mod workers;
 
 pub use carriers::{PumpEnds, Rows, half_rows};
 pub use halves::{Begun, Device, Host, Runtime};
-pub use mirror::Mirror;
 pub use running::Running;
+pub use shared_session::SharedSession;
 pub use way::{Sink, Source, Way, Ways};

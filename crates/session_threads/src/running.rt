@@ -3,9 +3,9 @@ ghost use Rattle.std.specs.Prelude.{◌≡◌, true, IfErr};
 ghost use Rattle.blocks.specs.declared.refusal.Refusal.TheVariants.{NoMemory, NotDrained};
 ghost use Rattle.model.specs.CallRefusals.{hello_refuses, streams_hello_refuses};
 
-use crate::Mirror;
-use crate::carriers::{Carrier, LOCAL_TO_PEER, PEER_TO_LOCAL, Rows};
-use crate::shared::{Path, Shared};
+use crate::SharedSession;
+use crate::carriers::{Carrier, Rows, TO_PRIMARY, TO_SECONDARY};
+use crate::shared::{Shared, Transport};
 use crate::way::{Sink, Source, Way, Ways};
 use crate::workers::Workers;
 use blocks::Refusal;
@@ -18,7 +18,7 @@ use std::time::Clock;
 /// A running session: the mirror that callers share, and its threads.
 #[derive(Drop)]
 pub struct Running<R: Threads + Wait + Drop, A: PrimaryHalf + Drop, B: SecondaryHalf + Drop> {
-    mirror: Mirror<R, A, B>,
+    mirror: SharedSession<R, A, B>,
     workers: Workers,
 }
 
@@ -36,13 +36,13 @@ impl<
     pub fn start(
         rt: R,
         alloc: Global,
-        local: A,
-        peer: B,
+        primary: A,
+        secondary: B,
         is_cut: bool,
     ) -> Result<Running<R, A, B>, Refusal>
         ensures refused { IfErr result (λ e. hello_refuses e ≡ true) }
     {
-        let mut running = Running::idle(rt, alloc, local, peer, Path::Link)?;
+        let mut running = Running::idle(rt, alloc, primary, secondary, Transport::Link)?;
         match running.begin(is_cut) {
             Ok(()) => Ok(running),
             Err(refusal) => {
@@ -62,15 +62,15 @@ impl<
     pub fn start_over<W: Sink, D: Source, V: Sink, E: Source>(
         rt: R,
         alloc: Global,
-        local: A,
-        peer: B,
+        primary: A,
+        secondary: B,
         rows: Rows<R>,
         ways: Ways<Way<W, D>, Way<V, E>>,
         is_cut: bool,
     ) -> Result<Running<R, A, B>, Refusal>
         ensures refused { IfErr result (λ e. streams_hello_refuses e ≡ true) }
     {
-        let mut running = Running::idle(rt, alloc, local, peer, Path::Wire)?;
+        let mut running = Running::idle(rt, alloc, primary, secondary, Transport::Streams)?;
         match running.begin_over(rows, ways, is_cut) {
             Ok(()) => Ok(running),
             Err(refusal) => {
@@ -84,15 +84,15 @@ impl<
     fn idle(
         rt: R,
         alloc: Global,
-        local: A,
-        peer: B,
-        path: Path,
+        primary: A,
+        secondary: B,
+        transport: Transport,
     ) -> Result<Running<R, A, B>, Refusal>
         ensures refused { IfErr result (λ e. e ≡ NoMemory) }
     {
-        let shared = Arc::new(alloc, Shared::new(rt, local, peer, path))?;
+        let shared = Arc::new(alloc, Shared::new(rt, primary, secondary, transport))?;
         Ok(Running {
-            mirror: Mirror { alloc, shared },
+            mirror: SharedSession { alloc, shared },
             workers: Workers::new(alloc),
         })
     }
@@ -125,15 +125,18 @@ impl<
     ) -> Result<(), Refusal>
         ensures refused { IfErr result (λ e. streams_hello_refuses e ≡ true) }
     {
-        let Ways { to_peer, to_local } = ways;
-        let Rows { local, peer } = rows;
+        let Ways {
+            to_secondary,
+            to_primary,
+        } = ways;
+        let Rows { primary, secondary } = rows;
         let carrier = Carrier::start(self.mirror.alloc, &mut self.workers, &self.mirror.shared)?;
         let shared = &self.mirror.shared;
         let workers = &mut self.workers;
-        let outward = (local.leaving, peer.coming);
-        let inward = (peer.leaving, local.coming);
-        carrier.start_way(workers, shared, LOCAL_TO_PEER, outward, to_peer)?;
-        carrier.start_way(workers, shared, PEER_TO_LOCAL, inward, to_local)?;
+        let outward = (primary.leaving, secondary.coming);
+        let inward = (secondary.leaving, primary.coming);
+        carrier.start_way(workers, shared, TO_SECONDARY, outward, to_secondary)?;
+        carrier.start_way(workers, shared, TO_PRIMARY, inward, to_primary)?;
         drop(carrier);
         shared.greet_over_ways()?;
         self.work(is_cut)
@@ -146,7 +149,7 @@ impl<R: Threads + Wait + Clock + Drop, A: PrimaryHalf + Drop, B: SecondaryHalf +
     B,
 > {
     /// Returns the mirror, which any number of threads may share.
-    pub fn mirror(&self) -> &Mirror<R, A, B> {
+    pub fn mirror(&self) -> &SharedSession<R, A, B> {
         &self.mirror
     }
 
@@ -157,13 +160,17 @@ impl<R: Threads + Wait + Clock + Drop, A: PrimaryHalf + Drop, B: SecondaryHalf +
     {
         let mut running = self;
         running.mirror.shared.cut();
-        running.mirror.shared.drain();
+        running.mirror.shared.finish_disks();
         running.stop();
         let Running { mirror, workers } = running;
         drop(workers);
         let shared = Arc::into_inner(mirror.shared).ok_or(Refusal::NotDrained)?;
-        let Shared { local, peer, .. } = shared;
-        Ok((local, peer))
+        let Shared {
+            primary,
+            secondary,
+            ..
+        } = shared;
+        Ok((primary, secondary))
     }
 
     // Stops the threads that run, and waits until they end.

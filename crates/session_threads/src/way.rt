@@ -23,7 +23,7 @@ pub struct Way<W: Write + Drop, D: Read + Drop> {
 #[derive(Drop)]
 pub struct Ways<A, B> {
     /// The way of frames to the secondary.
-    pub to_peer: A,
+    pub to_secondary: A,
     /// The way back.
-    pub to_local: B,
+    pub to_primary: B,
 }

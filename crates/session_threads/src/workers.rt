@@ -11,16 +11,20 @@ use std::sync::{Arc, Wait};
 use std::thread;
 use std::thread::{JoinHandle, Threads};
 use std::time::Clock;
-use turns::{LocalRole, PeerRole};
+use turns::{PrimaryRole, SecondaryRole};
 
-const LOCAL_ROLES: [LocalRole; 4] = [
-    LocalRole::Sender,
-    LocalRole::Receiver,
-    LocalRole::Disk,
-    LocalRole::Resync,
+const PRIMARY_ROLES: [PrimaryRole; 4] = [
+    PrimaryRole::Sender,
+    PrimaryRole::Receiver,
+    PrimaryRole::Disk,
+    PrimaryRole::Resync,
 ];
 
-const PEER_ROLES: [PeerRole; 3] = [PeerRole::Receiver, PeerRole::Sender, PeerRole::Disk];
+const SECONDARY_ROLES: [SecondaryRole; 3] = [
+    SecondaryRole::Receiver,
+    SecondaryRole::Sender,
+    SecondaryRole::Disk,
+];
 
 /// The running threads of a session. A thread's handle cannot be shared, so they are kept apart from the shared state.
 #[derive(Drop)]
@@ -46,17 +50,17 @@ impl Workers {
         ensures refused { IfErr result (λ e. e ≡ NoMemory) }
     {
         self.handles
-            .try_reserve(LOCAL_ROLES.len() + PEER_ROLES.len())?;
-        for role in LOCAL_ROLES {
+            .try_reserve(PRIMARY_ROLES.len() + SECONDARY_ROLES.len())?;
+        for role in PRIMARY_ROLES {
             let worker = Arc::try_clone(shared)?;
-            let Ok(handle) = thread::spawn(&shared.rt, move || worker.work_local(role)) else {
+            let Ok(handle) = thread::spawn(&shared.rt, move || worker.work_primary(role)) else {
                 return Err(Refusal::NoMemory);
             };
             self.handles.push(handle)?;
         }
-        for role in PEER_ROLES {
+        for role in SECONDARY_ROLES {
             let worker = Arc::try_clone(shared)?;
-            let Ok(handle) = thread::spawn(&shared.rt, move || worker.work_peer(role)) else {
+            let Ok(handle) = thread::spawn(&shared.rt, move || worker.work_secondary(role)) else {
                 return Err(Refusal::NoMemory);
             };
             self.handles.push(handle)?;

@@ -1,5 +1,5 @@
 //! A report as JSON.
-use crate::{Report, Resync};
+use crate::{Resync, StatusReport};
 use serde_json::{Value, json};
 use status_lines::{PrimaryLine, SecondaryLine, protocol_name};
 use std::alloc::{AllocError, Global};
@@ -7,7 +7,7 @@ use std::alloc::{AllocError, Global};
 /// KiB in a block.
 const BLOCK_KIB: u64 = 4;
 
-impl Report {
+impl StatusReport {
     /// Returns the report as a JSON text: an object for each node, with a member for each word and number of its status
     /// line; `resync`, which is null if no resync goes on; and `peer_sync_failed`.
     pub fn json(&self, alloc: Global) -> Result<String, AllocError> {

@@ -6,4 +6,4 @@ mod page;
 mod report;
 
 pub use page::answer_one;
-pub use report::{Report, Resync};
+pub use report::{Resync, StatusReport};

@@ -1,5 +1,5 @@
 //! The page itself: one client of it, over any reader and writer.
-use crate::Report;
+use crate::StatusReport;
 use bytes::{BufMut, Bytes};
 use http::{HeaderValue, Method, Request, StatusCode, header};
 use http_server::{Config, Connection, Response, Service, serve};
@@ -19,7 +19,7 @@ const NO_SUCH_PAGE: &str = "there is no such page: this server has / and /status
 #[derive(Drop)]
 struct Page<'a> {
     alloc: Global,
-    report: Option<&'a Report>,
+    report: Option<&'a StatusReport>,
 }
 
 impl Service for Page<'_> {
@@ -78,7 +78,7 @@ fn fill(response: &mut Response, kind: HeaderValue, body: &str) -> Result<(), Al
 pub fn answer_one<R: Read, W: Write>(
     alloc: Global,
     keys: RandomState,
-    report: Option<&Report>,
+    report: Option<&StatusReport>,
     reader: &mut R,
     writer: &mut W,
 ) -> io::Result<()> {

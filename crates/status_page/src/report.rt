@@ -26,14 +26,14 @@ impl Resync {
 /// The state of a server's nodes: what the status line of each shows, the progress of a resync, if one goes on, and whether the
 /// peer's disk is left out, since a sync of it has failed.
 #[derive(Clone, Copy, Debug, PartialEq, Eq)]
-pub struct Report {
+pub struct StatusReport {
     pub primary: PrimaryLine,
     pub secondary: SecondaryLine,
     pub resync: Option<Resync>,
     pub is_peer_failed: bool,
 }
 
-impl Report {
+impl StatusReport {
     /// Returns both lines, the primary's first, each ended by a newline, and a third one if the peer's disk is left out.
     pub fn text(&self, alloc: Global) -> Result<String, AllocError> {
         let further = if self.is_peer_failed { PEER_FAILED } else { "" };

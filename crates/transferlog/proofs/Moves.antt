@@ -5,12 +5,12 @@ use Rattle.std.specs.Prelude.{filter, map, is_some, if◌then◌else◌}
 use Rattle.std.specs.Option.{option_map, option_and_then, option_to_list}
 use Rattle.std.specs.List.{list_any}
 use Rattle.std.proofs.lemmas.Bool.Decides.{nat_tests}
-use Rattle.transferlog.specs.Writes.{LogWrite, is_open, is_completed, is_released, completed_of, released_of, turn_of, release_of}
+use Rattle.transferlog.specs.Writes.{LogWrite, is_open, is_completed, is_released, completed_of, released_of, report_of, release_of}
 use Rattle.transferlog.specs.Ring.{has_number, write_at, on, with_change, without, Rises}
 use Rattle.transferlog.specs.Ring.{Each}
 use Rattle.transferlog.specs.Fields.{IsKept}
 use Rattle.transferlog.specs.declared.report.Completed.{Completed}
-use Rattle.transferlog.specs.declared.report.Turn.{Turn}
+use Rattle.transferlog.specs.declared.report.ChangeReport.{ChangeReport}
 use Rattle.transferlog.proofs.Numbers.{NoneHas, without-none, higher_number}
 
 -- the number is the one that was tested for
@@ -122,14 +122,14 @@ left_one n acknowledged_through low (w ∷ ws) rises kept =
     left_by (has_number n w) n acknowledged_through low w ws refl rises kept (left_one n acknowledged_through (suc w.number) ws rises.1 kept.1)
 
 -- the completion of a turn, if there was one
-abbrev pub completion_in : Option Turn → List Completed
+abbrev pub completion_in : Option ChangeReport → List Completed
 completion_in None = []
-completion_in (Some turn) = option_to_list turn.completion
+completion_in (Some report) = option_to_list report.completion
 
 -- whether a turn closed a write
-abbrev pub closes_in : Option Turn → Bool
+abbrev pub closes_in : Option ChangeReport → Bool
 closes_in None = false
-closes_in (Some turn) = turn.closes
+closes_in (Some report) = report.closes
 
 not_both : (a b : Bool) → (not a && b) ≡ true → a ≡ false
 not_both true b is = cc
@@ -152,23 +152,23 @@ none_completed n f (w ∷ ws) none = still_open (is_open w) n f w ws refl none.0
 completed_head : (o d : Bool) (n : ℕ) (f : LogWrite → LogWrite) (w : LogWrite) (ws : List LogWrite) → has_number n w ≡ true → is_open w ≡ o
     → is_completed (f w) ≡ d
     → map completed_of (filter is_completed (map (on n f) (filter is_open ws))) ≡ []
-    → map completed_of (filter is_completed (map (on n f) (filter is_open (w ∷ ws)))) ≡ completion_in (option_map (turn_of f) (write_at n (w ∷ ws)))
+    → map completed_of (filter is_completed (map (on n f) (filter is_open (w ∷ ws)))) ≡ completion_in (option_map (report_of f) (write_at n (w ∷ ws)))
 completed_head true true n f w ws is o d rest = rw o (rw is (rw d (rw o (ap (λ more. completed_of (f w) ∷ more) rest))))
 completed_head true false n f w ws is o d rest = rw o (rw is (rw d (rw o rest)))
 completed_head false d n f w ws is o e rest = rw o (rw is (rw o rest))
 
 completed_by : (b : Bool) (n low : ℕ) (f : LogWrite → LogWrite) (w : LogWrite) (ws : List LogWrite) → has_number n w ≡ b → Rises low (w ∷ ws)
-    → map completed_of (filter is_completed (map (on n f) (filter is_open ws))) ≡ completion_in (option_map (turn_of f) (write_at n ws))
-    → map completed_of (filter is_completed (map (on n f) (filter is_open (w ∷ ws)))) ≡ completion_in (option_map (turn_of f) (write_at n (w ∷ ws)))
+    → map completed_of (filter is_completed (map (on n f) (filter is_open ws))) ≡ completion_in (option_map (report_of f) (write_at n ws))
+    → map completed_of (filter is_completed (map (on n f) (filter is_open (w ∷ ws)))) ≡ completion_in (option_map (report_of f) (write_at n (w ∷ ws)))
 completed_by true n low f w ws is rises rest =
     let number = number_is w.number n is in
     completed_head (is_open w) (is_completed (f w)) n f w ws is refl refl (none_completed n f ws (none_above n (suc w.number) ws (omega arith) rises.1))
 completed_by false n low f w ws is rises rest =
-    still_open (is_open w) n f w ws refl is _ (rest ∙ ap (λ o. completion_in (option_map (turn_of f) o)) (sym (skipped n w ws is)))
+    still_open (is_open w) n f w ws refl is _ (rest ∙ ap (λ o. completion_in (option_map (report_of f) o)) (sym (skipped n w ws is)))
 
 -- what is completed is the one write, if it is
 pub completed_one : (n low : ℕ) (f : LogWrite → LogWrite) (ws : List LogWrite) → Rises low ws
-    → map completed_of (filter is_completed (map (on n f) (filter is_open ws))) ≡ completion_in (option_map (turn_of f) (write_at n ws))
+    → map completed_of (filter is_completed (map (on n f) (filter is_open ws))) ≡ completion_in (option_map (report_of f) (write_at n ws))
 completed_one n low f [] rises = refl
 completed_one n low f (w ∷ ws) rises = completed_by (has_number n w) n low f w ws refl rises (completed_one n (suc w.number) f ws rises.1)
 
@@ -185,8 +185,8 @@ none_closes n f [] none = refl
 none_closes n f (w ∷ ws) none = rw none.0 (rw (stays (is_open w)) (none_closes n f ws none.1))
 
 closes_by : (b : Bool) (n low : ℕ) (f : LogWrite → LogWrite) (w : LogWrite) (ws : List LogWrite) → has_number n w ≡ b → Rises low (w ∷ ws)
-    → list_any (λ v. is_open v && not (is_open (on n f v))) ws ≡ closes_in (option_map (turn_of f) (write_at n ws))
-    → list_any (λ v. is_open v && not (is_open (on n f v))) (w ∷ ws) ≡ closes_in (option_map (turn_of f) (write_at n (w ∷ ws)))
+    → list_any (λ v. is_open v && not (is_open (on n f v))) ws ≡ closes_in (option_map (report_of f) (write_at n ws))
+    → list_any (λ v. is_open v && not (is_open (on n f v))) (w ∷ ws) ≡ closes_in (option_map (report_of f) (write_at n (w ∷ ws)))
 closes_by true n low f w ws is rises rest =
     let number = number_is w.number n is in
     rw is (rw (none_closes n f ws (none_above n (suc w.number) ws (omega arith) rises.1)) (or_none (is_open w && not (is_open (f w)))))
@@ -194,7 +194,7 @@ closes_by false n low f w ws is rises rest = rw is (rw (stays (is_open w)) rest)
 
 -- whether a write is open no more is told by the one turn
 pub closes_one : (n low : ℕ) (f : LogWrite → LogWrite) (ws : List LogWrite) → Rises low ws
-    → list_any (λ w. is_open w && not (is_open (on n f w))) ws ≡ closes_in (option_map (turn_of f) (write_at n ws))
+    → list_any (λ w. is_open w && not (is_open (on n f w))) ws ≡ closes_in (option_map (report_of f) (write_at n ws))
 closes_one n low f [] rises = refl
 closes_one n low f (w ∷ ws) rises = closes_by (has_number n w) n low f w ws refl rises (closes_one n (suc w.number) f ws rises.1)
 

@@ -2,13 +2,13 @@
 use Rattle.std.proofs.Common.{◌≡◌, ℕ, List, refl, sym, ◌∙◌, ap, Option, Some, None}
 use Rattle.std.specs.Prelude.{is_some, if◌then◌else◌}
 use Rattle.std.specs.Option.{option_map, option_and_then, option_to_list}
-use Rattle.transferlog.specs.Writes.{LogWrite, turn_of, release_of}
+use Rattle.transferlog.specs.Writes.{LogWrite, report_of, release_of}
 use Rattle.transferlog.specs.Ring.{RingState, on, write_at, with_change, without, Rises}
 use Rattle.transferlog.specs.Log.{LogState, moved, closes_any}
 use Rattle.transferlog.specs.Ring.{Each}
 use Rattle.transferlog.specs.Fields.{IsKept}
 use Rattle.transferlog.specs.declared.report.Released.{Released}
-use Rattle.transferlog.specs.declared.report.Turn.{Turn}
+use Rattle.transferlog.specs.declared.report.ChangeReport.{ChangeReport}
 use Rattle.transferlog.proofs.Moves.{KeepsNumber, kept_but, rises_changed, write_at-changed, released_one, left_one, completion_in, closes_in, completed_one}
 use Rattle.transferlog.proofs.Moves.{closes_one}
 
@@ -31,20 +31,20 @@ writes_are s n f release keeps rises kept is =
     ap (λ (o : Option Released). if is_some o then without n (After n f s) else After n f s) is
     ∙ sym (left_one n s.acknowledged_through 0 (After n f s) (rises_changed n 0 f s.writes keeps rises) (kept_but n s.acknowledged_through f s.writes keeps kept))
 
-pub completed_is : (s : LogState) (n : ℕ) (f : LogWrite → LogWrite) (turn : Option Turn) → Rises 0 s.writes
-    → turn ≡ option_map (turn_of f) (write_at n s.writes) → completion_in turn ≡ (moved (on n f) s.acknowledged_through s).completed
-completed_is s n f turn rises is = ap completion_in is ∙ sym (completed_one n 0 f s.writes rises)
+pub completed_is : (s : LogState) (n : ℕ) (f : LogWrite → LogWrite) (report : Option ChangeReport) → Rises 0 s.writes
+    → report ≡ option_map (report_of f) (write_at n s.writes) → completion_in report ≡ (moved (on n f) s.acknowledged_through s).completed
+completed_is s n f report rises is = ap completion_in is ∙ sym (completed_one n 0 f s.writes rises)
 
-pub closes_is : (s : LogState) (n : ℕ) (f : LogWrite → LogWrite) (turn : Option Turn) → Rises 0 s.writes
-    → turn ≡ option_map (turn_of f) (write_at n s.writes) → closes_in turn ≡ closes_any (on n f) s
-closes_is s n f turn rises is = ap closes_in is ∙ sym (closes_one n 0 f s.writes rises)
+pub closes_is : (s : LogState) (n : ℕ) (f : LogWrite → LogWrite) (report : Option ChangeReport) → Rises 0 s.writes
+    → report ≡ option_map (report_of f) (write_at n s.writes) → closes_in report ≡ closes_any (on n f) s
+closes_is s n f report rises is = ap closes_in is ∙ sym (closes_one n 0 f s.writes rises)
 
-no_write : (f : LogWrite → LogWrite) (found : Option LogWrite) → None ≡ option_map (turn_of f) found → found ≡ None
+no_write : (f : LogWrite → LogWrite) (found : Option LogWrite) → None ≡ option_map (report_of f) found → found ≡ None
 no_write f None is = refl
 no_write f (Some w) is = cc
 
 -- where there was no write, none is released
-pub no_release : (s : LogState) (n : ℕ) (f : LogWrite → LogWrite) → KeepsNumber f → None ≡ option_map (turn_of f) (write_at n s.writes)
+pub no_release : (s : LogState) (n : ℕ) (f : LogWrite → LogWrite) → KeepsNumber f → None ≡ option_map (report_of f) (write_at n s.writes)
     → None ≡ option_and_then (release_of s.acknowledged_through) (write_at n (After n f s))
 no_release s n f keeps is =
     let found = write_at-changed n f s.writes keeps ∙ ap (option_map f) (no_write f (write_at n s.writes) is) in

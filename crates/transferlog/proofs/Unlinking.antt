@@ -5,12 +5,12 @@ use Rattle.std.proofs.lemmas.List.{length-map}
 use Rattle.std.specs.Prelude.{filter, map, if◌then◌else◌}
 use Rattle.std.specs.Option.{option_map, option_and_then}
 use Rattle.std.proofs.lemmas.Bool.Decides.{nat_tests}
-use Rattle.transferlog.specs.Writes.{LogWrite, is_open, is_completed, completed_of, turn_of, unlinking}
+use Rattle.transferlog.specs.Writes.{LogWrite, is_open, is_completed, completed_of, report_of, unlinking}
 use Rattle.transferlog.specs.Ring.{Each, has_number, write_at, on, with_change}
 use Rattle.transferlog.specs.Slots.{writes_in, AreNumbered}
 use Rattle.transferlog.specs.Fields.{IsAlone}
 use Rattle.transferlog.specs.declared.report.Completed.{Completed}
-use Rattle.transferlog.specs.declared.report.Turn.{Turn}
+use Rattle.transferlog.specs.declared.report.ChangeReport.{ChangeReport}
 use Rattle.transferlog.proofs.Moves.{number_is}
 use Rattle.transferlog.proofs.Sweep.{out_at}
 
@@ -76,17 +76,17 @@ all_unlinked k (w ∷ ws) each = let below : nat_lt w.number k ≡ true = is_bel
 
 -- the completion of a turn is what comes of a write that is completed
 turned_by : (found : Option LogWrite)
-    → option_and_then (λ (t : Turn). t.completion) (option_map (turn_of unlinking) found) ≡ option_and_then (λ w. if completes w then Some (completed_of w)
+    → option_and_then (λ (t : ChangeReport). t.completion) (option_map (report_of unlinking) found) ≡ option_and_then (λ w. if completes w then Some (completed_of w)
     else None) found
 turned_by None = refl
 turned_by (Some w) = refl
 
-pub completion_at : (k : ℕ) (ws left : List LogWrite) (turn : Option Turn) → turn ≡ option_map (turn_of unlinking) (write_at k left)
+pub completion_at : (k : ℕ) (ws left : List LogWrite) (report : Option ChangeReport) → report ≡ option_map (report_of unlinking) (write_at k left)
     → left ≡ map (unlinked k) ws
-    → option_and_then (λ (t : Turn). t.completion) turn ≡ out_at completes completed_of k ws
-completion_at k ws left turn is left_is =
-    ap (option_and_then (λ (t : Turn). t.completion)) (is
-    ∙ (ap (λ vs. option_map (turn_of unlinking) (write_at k vs)) left_is ∙ ap (option_map (turn_of unlinking)) (found_linked k ws)))
+    → option_and_then (λ (t : ChangeReport). t.completion) report ≡ out_at completes completed_of k ws
+completion_at k ws left report is left_is =
+    ap (option_and_then (λ (t : ChangeReport). t.completion)) (is
+    ∙ (ap (λ vs. option_map (report_of unlinking) (write_at k vs)) left_is ∙ ap (option_map (report_of unlinking)) (found_linked k ws)))
     ∙ turned_by (write_at k ws)
 
 all_by : (o d : Bool) (w : LogWrite) (ws : List LogWrite) → is_open w ≡ o → is_completed (unlinking w) ≡ d

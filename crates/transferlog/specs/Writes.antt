@@ -5,7 +5,7 @@ use Rattle.transferlog.specs.declared.local.Local.{Local}
 use Rattle.transferlog.specs.declared.report.Completed.{Completed}
 use Rattle.transferlog.specs.declared.report.AckedWrite.{AckedWrite}
 use Rattle.transferlog.specs.declared.report.Released.{Released}
-use Rattle.transferlog.specs.declared.report.Turn.{Turn}
+use Rattle.transferlog.specs.declared.report.ChangeReport.{ChangeReport}
 use Rattle.transferlog.specs.declared.local.Local.TheVariants.{Waiting, OnDisk, Failed}
 
 -- An accepted write: its number, its range, its bytes, and these as blocks; its home, which is its place in a stream,
@@ -81,8 +81,8 @@ abbrev pub released_of : LogWrite → Released
 released_of w = record { number = w.number; first = w.first; count = w.count; clears = w.linked && is_on_disk w.local }
 
 -- what a change does to a write: whether it takes it out of the open state, and its completion if it completes it
-abbrev pub turn_of : (LogWrite → LogWrite) → LogWrite → Turn
-turn_of f w = record {
+abbrev pub report_of : (LogWrite → LogWrite) → LogWrite → ChangeReport
+report_of f w = record {
   closes = is_open w && not (is_open (f w));
   completion = if is_open w && is_completed (f w) then Some (completed_of (f w)) else None;
 }

@@ -68,7 +68,7 @@ pub struct AckedWrite {
 
 /// The effect of a change on a write.
 #[derive(Clone, Copy)]
-pub(crate) struct Turn {
+pub(crate) struct ChangeReport {
     /// Whether the write left the open state.
     pub(crate) closes: bool,
     /// Its completion, if the change completed it.

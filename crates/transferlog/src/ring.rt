@@ -3,11 +3,11 @@ ghost use Rattle.std.specs.Prelude.{find, nat_le, slice_get, IfSome, ◌&&◌, �
 ghost use Rattle.std.specs.List.{list_any};
 ghost use Rattle.blocks.specs.Ranges.{is_between};
 ghost use Rattle.std.specs.Option.{option_copied, option_map, option_and_then};
-ghost use Rattle.transferlog.specs.Writes.{completed_of, is_completed, is_open, is_released, is_waiting, release_of, released_of, turn_of, unlinking};
+ghost use Rattle.transferlog.specs.Writes.{completed_of, is_completed, is_open, is_released, is_waiting, release_of, released_of, report_of, unlinking};
 ghost use Rattle.transferlog.specs.Writes as writes;
 ghost use Rattle.transferlog.specs.Ring.{Each, ReleasedBelow, ReleasedFrom, Rises, WaitsFrom, changed, is_unanswered, is_waiting_at, with_change, without, write_at};
 
-use crate::report::{Completed, Released, Turn, note, note_completed};
+use crate::report::{ChangeReport, Completed, Released, note, note_completed};
 use crate::write::{Change, Write};
 use std::alloc::{AllocError, Global};
 use std::collections::VecDeque;
@@ -200,9 +200,9 @@ impl Ring {
     }
 
     /// Applies the change to the write with this number, if there is one. Returns the effect on it.
-    pub(crate) fn change(&mut self, number: u64, change: Change) -> Option<Turn>
+    pub(crate) fn change(&mut self, number: u64, change: Change) -> Option<ChangeReport>
         ensures next { self.new ≡ record self.old { writes = with_change number (changed change) self.old.writes } }
-        ensures turn { result ≡ option_map (turn_of (changed change)) (write_at number self.old.writes) }
+        ensures report { result ≡ option_map (report_of (changed change)) (write_at number self.old.writes) }
         ensures rises { Rises 0 self.old.writes }
     {
         if number < self.first {
@@ -215,9 +215,9 @@ impl Ring {
         let Some(write) = &mut self.slots[index] else {
             return None;
         };
-        let turn = write.apply(change);
+        let report = write.apply(change);
         self.waiting = self.lowest_waiting();
-        Some(turn)
+        Some(report)
     }
 
     /// Removes the write with this number and returns its release, if it is released given that the epochs of all
@@ -314,8 +314,8 @@ impl Ring {
         let from = self.first;
         let to = self.first + self.slots.len() as u64;
         for number in from..to {
-            let turn = self.change(number, Change::Unlinked);
-            note_completed(completed, completion_in(turn));
+            let report = self.change(number, Change::Unlinked);
+            note_completed(completed, completion_in(report));
         }
     }
 
@@ -347,11 +347,11 @@ impl Ring {
 }
 
 // Returns the completion that a change caused.
-fn completion_in(turn: Option<Turn>) -> Option<Completed>
-    ensures { result ≡ option_and_then (λ t. t.completion) turn }
+fn completion_in(report: Option<ChangeReport>) -> Option<Completed>
+    ensures { result ≡ option_and_then (λ t. t.completion) report }
 {
-    match turn {
-        Some(turn) => turn.completion,
+    match report {
+        Some(report) => report.completion,
         None => None,
     }
 }

@@ -13,11 +13,11 @@
 //! | on disk or failed, without a connection | at once | released, clears no marks |
 ghost use Rattle.std.specs.Prelude.{◌≡◌, is_some, false};
 ghost use Rattle.blocks.specs.Contents.{blocks_of};
-ghost use Rattle.transferlog.specs.Writes.{awaits, completed_of, is_at, is_completed, is_open, is_released, is_settled, is_unanswered, release_of, turn_of};
+ghost use Rattle.transferlog.specs.Writes.{awaits, completed_of, is_at, is_completed, is_open, is_released, is_settled, is_unanswered, release_of, report_of};
 ghost use Rattle.transferlog.specs.Ring.{changed};
 
 use crate::local::Local;
-use crate::report::{AckedWrite, Completed, Released, Turn};
+use crate::report::{AckedWrite, ChangeReport, Completed, Released};
 use blocks::{Range, StreamPosition};
 use bytes::Bytes;
 use std::marker::Model;
@@ -155,13 +155,13 @@ impl Write {
     }
 
     /// Applies the change to the write. Returns the effect on it.
-    pub(crate) fn apply(&mut self, change: Change) -> Turn
+    pub(crate) fn apply(&mut self, change: Change) -> ChangeReport
         ensures next { self.new ≡ changed change self.old }
-        ensures turn { result ≡ turn_of (changed change) self.old }
+        ensures report { result ≡ report_of (changed change) self.old }
     {
         let was_open = self.is_open();
         self.set(change);
-        Turn {
+        ChangeReport {
             closes: was_open && !self.is_open(),
             completion: if was_open && self.is_completed() {
                 Some(self.completion())

@@ -5,6 +5,6 @@ mod roles;
 mod sent_items;
 mod turn;
 
-pub use roles::{LocalRole, PeerRole};
+pub use roles::{PrimaryRole, SecondaryRole};
 pub use sent_items::SentItems;
 pub use turn::{STEPS, Turn};

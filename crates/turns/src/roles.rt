@@ -2,7 +2,7 @@
 
 /// The role of a thread of the primary's half.
 #[derive(Clone, Copy, Debug, PartialEq, Eq)]
-pub enum LocalRole {
+pub enum PrimaryRole {
     /// Sends the stream.
     Sender,
     /// Takes acknowledgements.
@@ -15,7 +15,7 @@ pub enum LocalRole {
 
 /// The role of a thread of the secondary's half.
 #[derive(Clone, Copy, Debug, PartialEq, Eq)]
-pub enum PeerRole {
+pub enum SecondaryRole {
     /// Takes the stream.
     Receiver,
     /// Sends acknowledgements.

@@ -4,8 +4,8 @@
 
 mod session;
 
-pub use halves::{Begun, Device, Host, Parts, Runtime};
-pub use locked_halves::{LocalHalf, PeerHalf};
-pub use session::{Session, SessionLocal, SessionMirror, SessionPeer};
-pub use session_link::{Back, Began, Linked, SessionPrimary, SessionSecondary, There};
-pub use session_threads::Mirror;
+pub use halves::{Begun, Device, Host, Runtime, SessionStart};
+pub use locked_halves::{LockedPrimary, LockedSecondary};
+pub use session::{LockedLinkPrimary, LockedLinkSecondary, Session, SharedLinkSession};
+pub use session_link::{Back, Began, Linked, NamedPrimary, NamedSecondary, There};
+pub use session_threads::SharedSession;

@@ -6,29 +6,28 @@ ghost use Rattle.model.specs.CallRefusals.{reopen_refuses, start_refuses, write_
 ghost use Rattle.model.specs.Headline.{IsJoined};
 ghost use Rattle.model.specs.Primary.{PrimaryHistory};
 ghost use Rattle.model.specs.Secondary.{SecondaryHistory};
-ghost use Rattle.ruled_link.specs.Names as names;
+ghost use Rattle.thread_link.specs.Names as names;
 ghost use Rattle.session_nodes.specs.Primaries.{HasAccepted, HasHeld, PrimaryHas, PrimaryIsHad};
 ghost use Rattle.session_nodes.specs.Secondaries.{SecondaryHas, SecondaryIsHad};
 ghost use Rattle.volume.specs.Links.{AreEndsOf};
 
 use blocks::{ConnectionWords, Refusal, Store};
 use bytes::Bytes;
-use halves::{Device, Parts};
-use locked_halves::{LocalHalf, PeerHalf};
+use halves::{Device, SessionStart};
+use locked_halves::{LockedPrimary, LockedSecondary};
 use primary::Receipt;
-use ruled_link::{NamedIn, NamedOut, RuledIn, RuledOut};
 use session_link::{
-    Back, Began, Linked, SessionPrimary, SessionSecondary, There, check_numbers, join_nodes,
-    named_ends,
+    Back, Began, Linked, NamedPrimary, NamedSecondary, There, check_numbers, join_nodes, named_ends,
 };
-use session_threads::{Mirror, Running};
+use session_threads::{Running, SharedSession};
 use std::alloc::Global;
 use std::sync::Wait;
 use std::thread::Threads;
 use std::time::Clock;
+use thread_link::{NamedIn, NamedOut, RuledIn, RuledOut};
 
 /// The primary's half over a session's link.
-pub type SessionLocal<R, L, S> = LocalHalf<
+pub type LockedLinkPrimary<R, L, S> = LockedPrimary<
     R,
     Began<L>,
     NamedOut<R, There<L>>,
@@ -37,7 +36,7 @@ pub type SessionLocal<R, L, S> = LocalHalf<
 >;
 
 /// The secondary's half over a session's link.
-pub type SessionPeer<R, L, T> = PeerHalf<
+pub type LockedLinkSecondary<R, L, T> = LockedSecondary<
     R,
     Began<L>,
     NamedOut<R, Back<L>>,
@@ -46,11 +45,15 @@ pub type SessionPeer<R, L, T> = PeerHalf<
 >;
 
 /// The mirror of a session over a link, which any number of threads may share.
-pub type SessionMirror<R, L, S, T> = Mirror<R, SessionLocal<R, L, S>, SessionPeer<R, L, T>>;
+pub type SharedLinkSession<R, L, S, T> = SharedSession<
+    R,
+    LockedLinkPrimary<R, L, S>,
+    LockedLinkSecondary<R, L, T>,
+>;
 
 /// A running session over a link. It cannot be dropped: whoever starts it has to finish it.
 pub struct Session<R: Threads + Wait + Drop, L: Linked, S: Store + Drop, T: Store + Drop> {
-    running: Running<R, SessionLocal<R, L, S>, SessionPeer<R, L, T>>,
+    running: Running<R, LockedLinkPrimary<R, L, S>, LockedLinkSecondary<R, L, T>>,
 }
 
 impl<
@@ -73,34 +76,34 @@ impl<
         back: (RuledOut<R>, RuledIn<R>),
         local: S,
         peer: T,
-        parts: Parts,
+        parts: SessionStart,
     ) -> Result<Session<R, L, S, T>, Refusal>
         requires there { AreEndsOf L.link names.There there }
         requires back { AreEndsOf L.link names.Back back }
         requires opening { L.opening ≡ opening_of parts (slice_get (S.contents local)) (slice_get (T.contents peer)) }
         ensures refused { IfErr result (λ e. start_refuses e ≡ true) }
     {
-        let (local_ends, peer_ends) = named_ends::<R, L>(there, back);
-        let local = LocalHalf::open(
+        let (primary_ends, secondary_ends) = named_ends::<R, L>(there, back);
+        let primary = LockedPrimary::open(
             rt,
             alloc,
             parts.settings,
             local,
             parts.own,
             parts.marks,
-            local_ends,
+            primary_ends,
             ConnectionWords {
                 sync: parts.sync,
                 loss: parts.loss,
             },
         )?;
-        match PeerHalf::open(rt, alloc, parts.settings, peer, parts.peer, peer_ends) {
-            Ok(peer) => match Running::start(rt, alloc, local, peer, parts.is_cut) {
+        match LockedSecondary::open(rt, alloc, parts.settings, peer, parts.peer, secondary_ends) {
+            Ok(secondary) => match Running::start(rt, alloc, primary, secondary, parts.is_cut) {
                 Ok(running) => Ok(Session { running }),
                 Err(refusal) => Err(refusal),
             },
             Err(refusal) => {
-                drop(local.into_node().into_store());
+                drop(primary.into_node().into_store());
                 Err(refusal)
             }
         }
@@ -114,7 +117,7 @@ impl<R: Threads + Wait + Clock + Drop, L: Linked, S: Store + Drop, T: Store + Dr
     T,
 > {
     /// Returns the mirror, which any number of threads may share.
-    pub fn mirror(&self) -> &SessionMirror<R, L, S, T> {
+    pub fn mirror(&self) -> &SharedLinkSession<R, L, S, T> {
         self.running.mirror()
     }
 
@@ -160,15 +163,15 @@ impl<R: Threads + Wait + Clock + Drop, L: Linked, S: Store + Drop, T: Store + Dr
     /// histories are joined: on each
     /// connection, what one end took begins what the other pushed, both ways. No connection of the secondary has a
     /// number above the primary's last one; else 36 is returned, which no session brings about.
-    pub fn finish(self) -> Result<(SessionPrimary<R, L, S>, SessionSecondary<R, L, T>), Refusal>
+    pub fn finish(self) -> Result<(NamedPrimary<R, L, S>, NamedSecondary<R, L, T>), Refusal>
         ensures had { IfOk result (λ nodes. PrimaryIsHad (Some L.opening) nodes.0 × SecondaryIsHad (Some L.opening) nodes.1) }
         ensures joined { IfOk result (λ nodes. (p : PrimaryHistory) (s : SecondaryHistory) → PrimaryHas nodes.0 p → SecondaryHas nodes.1 s → IsJoined p s) }
         ensures numbered { IfOk result (λ nodes. nodes.1.core.number ≤ nodes.0.core.connections) }
         ensures refused { IfErr result (λ e. e ≡ NotDrained) }
     {
         let Session { running } = self;
-        let (local, peer) = running.finish()?;
-        let (primary, secondary) = into_nodes(local, peer);
+        let (locked_primary, locked_secondary) = running.finish()?;
+        let (primary, secondary) = into_nodes(locked_primary, locked_secondary);
         match check_numbers(&primary, &secondary) {
             Ok(()) => Ok((primary, secondary)),
             Err(refusal) => {
@@ -181,11 +184,11 @@ impl<R: Threads + Wait + Clock + Drop, L: Linked, S: Store + Drop, T: Store + Dr
 
 // Takes both nodes of a session over a link out of their locks, and joins them.
 fn into_nodes<R: Wait + Drop, L: Linked, S: Store + Drop, T: Store + Drop>(
-    local: SessionLocal<R, L, S>,
-    peer: SessionPeer<R, L, T>,
-) -> (SessionPrimary<R, L, S>, SessionSecondary<R, L, T>)
+    primary: LockedLinkPrimary<R, L, S>,
+    secondary: LockedLinkSecondary<R, L, T>,
+) -> (NamedPrimary<R, L, S>, NamedSecondary<R, L, T>)
     ensures had { PrimaryIsHad (Some L.opening) result.0 × SecondaryIsHad (Some L.opening) result.1 }
     ensures joined { (p : PrimaryHistory) (s : SecondaryHistory) → PrimaryHas result.0 p → SecondaryHas result.1 s → IsJoined p s }
 {
-    join_nodes(local.into_node(), peer.into_node())
+    join_nodes(primary.into_node(), secondary.into_node())
 }

@@ -3,7 +3,7 @@ use std::{fmt, io};
 
 /// Why a script is not run, with its name.
 #[derive(Drop)]
-pub(crate) enum Fault<'a> {
+pub(crate) enum ScriptFault<'a> {
     /// The name is empty, begins with a dot or has a slash.
     NotPlain(&'a str),
     /// The file of this name with this ending cannot be read.
@@ -12,14 +12,14 @@ pub(crate) enum Fault<'a> {
     NoStatus(&'a str),
 }
 
-impl fmt::Display for Fault<'_> {
+impl fmt::Display for ScriptFault<'_> {
     fn fmt<W: fmt::Write>(&self, f: &mut fmt::Formatter<W>) -> fmt::Result {
         match self {
-            Fault::NotPlain(name) => write!(f, "{name:?}: not a plain name"),
-            Fault::Unread(name, ending, error) => {
+            ScriptFault::NotPlain(name) => write!(f, "{name:?}: not a plain name"),
+            ScriptFault::Unread(name, ending, error) => {
                 write!(f, "{name}: {name}.{ending} could not be read: {error}")
             }
-            Fault::NoStatus(name) => {
+            ScriptFault::NoStatus(name) => {
                 write!(f, "{name}: {name}.status has no number from 0 to 255")
             }
         }

@@ -1,5 +1,5 @@
 //! A worked script and its files.
-use crate::fault::Fault;
+use crate::fault::ScriptFault;
 use crate::outcome::Outcome;
 use numbers::decimal;
 use std::alloc::Global;
@@ -21,9 +21,9 @@ impl WorkedScript {
     pub(crate) fn read<'a, H: Files + AllocGlobal>(
         rt: &H,
         name: &'a str,
-    ) -> Result<WorkedScript, Fault<'a>> {
+    ) -> Result<WorkedScript, ScriptFault<'a>> {
         if !is_plain(name) {
-            return Err(Fault::NotPlain(name));
+            return Err(ScriptFault::NotPlain(name));
         }
         let commands = required(rt, name, "script")?;
         let expected = expected(rt, name)?;
@@ -47,7 +47,7 @@ fn is_plain(name: &str) -> bool {
 }
 
 /// Reads the outcome that the files of a script expect.
-fn expected<'a, H: Files + AllocGlobal>(rt: &H, name: &'a str) -> Result<Outcome, Fault<'a>> {
+fn expected<'a, H: Files + AllocGlobal>(rt: &H, name: &'a str) -> Result<Outcome, ScriptFault<'a>> {
     let out = required(rt, name, "out")?;
     let err = optional(rt, name, "err")?.unwrap_or_else(|| Vec::new(rt.alloc()));
     let status = status(rt, name)?;
@@ -55,9 +55,9 @@ fn expected<'a, H: Files + AllocGlobal>(rt: &H, name: &'a str) -> Result<Outcome
 }
 
 /// Reads the exit status that they expect.
-fn status<'a, H: Files + AllocGlobal>(rt: &H, name: &'a str) -> Result<u8, Fault<'a>> {
+fn status<'a, H: Files + AllocGlobal>(rt: &H, name: &'a str) -> Result<u8, ScriptFault<'a>> {
     match optional(rt, name, "status")? {
-        Some(digits) => number(&digits).ok_or(Fault::NoStatus(name)),
+        Some(digits) => number(&digits).ok_or(ScriptFault::NoStatus(name)),
         None => Ok(0),
     }
 }
@@ -67,10 +67,10 @@ fn required<'a, H: Files + AllocGlobal>(
     rt: &H,
     name: &'a str,
     ending: &'static str,
-) -> Result<Vec<u8>, Fault<'a>> {
+) -> Result<Vec<u8>, ScriptFault<'a>> {
     match bytes_of(rt, name, ending) {
         Ok(bytes) => Ok(bytes),
-        Err(error) => Err(Fault::Unread(name, ending, error)),
+        Err(error) => Err(ScriptFault::Unread(name, ending, error)),
     }
 }
 
@@ -79,11 +79,11 @@ fn optional<'a, H: Files + AllocGlobal>(
     rt: &H,
     name: &'a str,
     ending: &'static str,
-) -> Result<Option<Vec<u8>>, Fault<'a>> {
+) -> Result<Option<Vec<u8>>, ScriptFault<'a>> {
     match bytes_of(rt, name, ending) {
         Ok(bytes) => Ok(Some(bytes)),
         Err(error) if error.kind() == ErrorKind::NotFound => Ok(None),
-        Err(error) => Err(Fault::Unread(name, ending, error)),
+        Err(error) => Err(ScriptFault::Unread(name, ending, error)),
     }
 }
 

@@ -5,12 +5,12 @@ use crate::links::frames::{Sample, receive, send};
 use blocks::Refusal;
 use bytes::BytesMut;
 use link::{FrameIn, FrameOut};
-use ruled_link::{PIECE_BYTES, RuledOut, ruled};
 use std::alloc::Global;
 use std::sync::Wait;
 use std::thread;
 use std::thread::Threads;
 use std::time::{Duration, Instant};
+use thread_link::{PIECE_BYTES, RuledOut, ruled};
 
 /// Bytes of the frame of a write of one block.
 const FRAME_BYTES: usize = 4128;

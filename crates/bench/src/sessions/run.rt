@@ -1,6 +1,6 @@
 //! A measured session, from its start to its end.
 ghost use Rattle.std.specs.Prelude.{◌≡◌, slice_get};
-ghost use Rattle.ruled_link.specs.Names as names;
+ghost use Rattle.thread_link.specs.Names as names;
 ghost use Rattle.volume.specs.Links.{AreEndsOf};
 ghost use Rattle.volume.specs.Opening.{opening_of};
 
@@ -10,7 +10,6 @@ use bitmap::Bitmap;
 use blocks::{MemStore, Protocol, Refusal, Settings, Tuple};
 use link::{FrameIn, FrameOut};
 use primary::Primary;
-use ruled_link::{RuledIn, RuledOut, ruled};
 use secondary::Secondary;
 use std::alloc::Global;
 use std::fmt::Display;
@@ -18,8 +17,9 @@ use std::marker::Brand;
 use std::net::{Net, TcpListener, TcpStream};
 use std::time::{Duration, Instant};
 use std::{fmt, thread};
-use volume::{Device, Linked, Parts, Runtime, Session};
-use wire_session::{Socket, Unknown, Ways, WireSession, loopback};
+use stream_session::{Socket, StreamSession, Unknown, Ways, loopback};
+use thread_link::{RuledIn, RuledOut, ruled};
+use volume::{Device, Linked, Runtime, Session, SessionStart};
 
 /// Blocks of the device of a session: 32 MiB.
 pub(crate) const BLOCKS: u32 = 8_192;
@@ -70,14 +70,14 @@ pub(crate) fn run<R: Runtime + Net<Listener = TcpListener, Stream = TcpStream>>(
 }
 
 // Returns what a session starts from, and its two disks.
-fn parts(alloc: Global, plan: Plan) -> Result<(Parts, Disks), Refusal> {
+fn parts(alloc: Global, plan: Plan) -> Result<(SessionStart, Disks), Refusal> {
     let settings = Settings {
         protocol: plan.protocol,
         blocks: BLOCKS,
         ..Settings::STANDARD
     };
     let alike = Tuple::new(1, 0, 0, 0);
-    let parts = Parts {
+    let parts = SessionStart {
         settings,
         own: alike,
         peer: alike,
@@ -107,7 +107,7 @@ fn run_named<L: Linked + Send + Sync + 'static, R: Runtime>(
     there: (RuledOut<R>, RuledIn<R>),
     back: (RuledOut<R>, RuledIn<R>),
     disks: Disks,
-    parts: Parts,
+    parts: SessionStart,
 ) -> Result<Report, Refusal>
     requires there { AreEndsOf L.link names.There there }
     requires back { AreEndsOf L.link names.Back back }
@@ -130,7 +130,7 @@ fn run_over<R: Runtime>(
     ways: Ways<Socket, Socket>,
 ) -> Result<Report, Refusal> {
     let (parts, Disks { local, peer }) = parts(alloc, plan)?;
-    let session = WireSession::<R, Unknown, MemStore, MemStore>::start_over(
+    let session = StreamSession::<R, Unknown, MemStore, MemStore>::start_over(
         rt, alloc, local, peer, parts, ways,
     )?;
     let report = measured(&rt, alloc, session.mirror(), plan);

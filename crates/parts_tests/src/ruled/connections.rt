@@ -10,10 +10,10 @@ use blocks::{Block, Refusal};
 use bytes::Bytes;
 use link::{FrameIn, FrameOut};
 use packets::{Frame, Packet, encode};
-use ruled_link::{RuledIn, RuledOut, row};
 use std::alloc::Global;
 use std::process::Abort;
 use std::sync::Wait;
+use thread_link::{RuledIn, RuledOut, row};
 
 /// Encodes a packet. The frame is whole.
 pub(crate) fn spelled(alloc: Global, packet: &Packet) -> Result<Frame, Refusal>

@@ -1,16 +1,16 @@
 //! Tests of ends under the name of their direction.
 ghost use Rattle.std.specs.Prelude.{◌≡◌, None};
 ghost use Rattle.packets.specs.Cutting.{IsCut};
-ghost use Rattle.ruled_link.specs.Names.{row_of};
+ghost use Rattle.thread_link.specs.Names.{row_of};
 
 use crate::ruled::connections::barrier;
 use crate::ruled::ends::carries;
 use crate::vectors::BARRIER;
 use packets::Frame;
-use ruled_link::{Named, RuledIn, RuledOut, join_ends, ruled};
 use std::marker::Brand;
 use std::process::Abort;
 use std::sync::Wait;
+use thread_link::{Named, RuledIn, RuledOut, join_ends, ruled};
 
 /// Sends the frame of barrier 1 through two ends of one name, and joins them by that name.
 fn goes_through<N: Named, R: Wait + Drop>(

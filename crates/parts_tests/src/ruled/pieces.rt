@@ -6,10 +6,10 @@ use crate::ruled::ends::{accepts, gives, gives_none};
 use crate::ruled::kinds::{frames, write};
 use crate::vectors::{BARRIER, OTHER_MAGIC};
 use link::FrameIn;
-use ruled_link::{PIECE_BYTES, Piece, PieceIn, PieceOut, RuledIn, RuledOut, row};
 use std::alloc::Global;
 use std::process::Abort;
 use std::sync::Wait;
+use thread_link::{PIECE_BYTES, Piece, PieceIn, PieceOut, RuledIn, RuledOut, row};
 
 /// Makes a row for this many pieces, and the end of a link that takes them.
 fn taker<R: Wait + Abort + Copy>(rt: R, alloc: Global, pieces: usize) -> (PieceOut<R>, RuledIn<R>)

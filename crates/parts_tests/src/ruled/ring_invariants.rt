@@ -4,11 +4,11 @@ ghost use Rattle.std.specs.Prelude.{[]};
 use crate::ruled::connections::one_block;
 use crate::ruled::ends::carries;
 use crate::ruled::kinds::write;
-use ruled_link::{Piece, PieceIn, PieceOut, RingInvariant, row_with_invariant, with_invariant};
 use std::alloc::Global;
 use std::marker::Brand;
 use std::process::Abort;
 use std::sync::Wait;
+use thread_link::{Piece, PieceIn, PieceOut, RingInvariant, row_with_invariant, with_invariant};
 
 /// Checks that the first piece of the row has these bytes.
 fn pops<R: Wait, M: RingInvariant>(abort: &impl Abort, row: &mut PieceIn<R, M>, bytes: &[u8]) {

@@ -9,10 +9,10 @@ use blocks::{Block, Refusal};
 use bytes::Bytes;
 use link::{FrameIn, FrameOut};
 use packets::{Acknowledgement, Frame, Packet, read};
-use ruled_link::ruled;
 use std::alloc::Global;
 use std::sync::Wait;
 use std::thread::{self, Threads};
+use thread_link::ruled;
 
 /// Frames of a run.
 const FRAMES: u32 = 20_000;

@@ -1,18 +1,18 @@
 //! Tests that a secondary takes the frames that arrived whole, wherever the connection is lost.
-use crate::nodes::{Peer, disk, new_peer};
+use crate::nodes::{RowSecondary, disk, new_secondary};
 use crate::pumping::ends::{LostReader, LostWriter};
-use crate::pumping::receiver::{open_peer, take_frames};
+use crate::pumping::receiver::{open_secondary, take_frames};
 use crate::pumping::sender::sent_bytes;
 use bell::Bell;
 use blocks::Refusal;
 use pumps::{Buffer, PumpEnd, pump_in, pump_out};
-use ruled_link::{PieceIn, PieceOut, RuledOut, row};
 use std::alloc::Global;
 use std::io::Read;
 use std::process::Abort;
 use std::sync::Wait;
 use std::sync::atomic::AtomicBool;
 use std::time::Clock;
+use thread_link::{PieceIn, PieceOut, RuledOut, row};
 
 /// The bytes of a hello (12, 16 and 40), of a write of one block (4,128) and of a barrier (16).
 const ALL_BYTES: usize = 4_212;
@@ -38,11 +38,11 @@ fn taken<R: Wait + Clock + Drop, D: Read>(
     buffer: &mut Buffer,
     reader: &mut D,
     outward: &mut PieceOut<R>,
-    peer: &mut Peer<R>,
+    secondary: &mut RowSecondary<R>,
 ) -> Taken {
     let stop = AtomicBool::new(false);
     let end = pump_in(rt, outward, reader, buffer, &stop, &Bell::new());
-    (end, take_frames(peer))
+    (end, take_frames(secondary))
 }
 
 /// Checks that a secondary takes the wanted number of frames from a reader, and then finds nothing.
@@ -54,9 +54,9 @@ fn takes<R: Wait + Clock + Copy + Drop + Abort, D: Read>(
     wanted: Taken,
 ) {
     let (back, _) = row(rt, alloc, 1).expect(&rt, "a row");
-    let mut peer = new_peer(&rt, alloc, disk(&rt, alloc), 8);
-    let mut outward = open_peer(rt, alloc, &mut peer, RuledOut::new(back));
-    let found = taken(&rt, buffer, reader, &mut outward, &mut peer);
+    let mut secondary = new_secondary(&rt, alloc, disk(&rt, alloc), 8);
+    let mut outward = open_secondary(rt, alloc, &mut secondary, RuledOut::new(back));
+    let found = taken(&rt, buffer, reader, &mut outward, &mut secondary);
     check_taken(&rt, found, wanted);
 }
 

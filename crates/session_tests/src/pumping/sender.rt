@@ -1,29 +1,29 @@
 //! The bytes that a primary sends: its hello, a write and the write's barrier.
 ghost use Rattle.endpoint.specs.Calls.{IsNewIn, IsNewOut};
-ghost use Rattle.ruled_link.specs.Inward.{taking};
-ghost use Rattle.ruled_link.specs.Outward.{sending};
+ghost use Rattle.thread_link.specs.Inward.{taking};
+ghost use Rattle.thread_link.specs.Outward.{sending};
 
-use crate::nodes::{Local, Peer, disk, new_local, new_peer, submit, turn};
-use crate::pumping::receiver::open_peer;
-use ruled_link::{Piece, PieceIn, PieceOut, RuledIn, RuledOut, row, ruled};
+use crate::nodes::{RowPrimary, RowSecondary, disk, new_primary, new_secondary, submit, turn};
+use crate::pumping::receiver::open_secondary;
 use std::alloc::Global;
 use std::process::Abort;
 use std::sync::Wait;
+use thread_link::{Piece, PieceIn, PieceOut, RuledIn, RuledOut, row, ruled};
 
 /// More turns than both nodes need until they are idle.
 const TURNS: u32 = 20;
 
 /// Opens a primary, which takes from `inward`. What it sends comes out of the row whose end this returns.
-fn open_local<R: Wait + Copy + Drop + Abort>(
+fn open_primary<R: Wait + Copy + Drop + Abort>(
     rt: R,
     alloc: Global,
-    local: &mut Local<R>,
+    primary: &mut RowPrimary<R>,
     inward: RuledIn<R>,
 ) -> PieceIn<R>
     requires { IsNewIn (taking inward) }
 {
     let (outward, sent) = row(rt, alloc, 8).expect(&rt, "a row");
-    let opened = local.open(RuledOut::new(outward), inward, 5, 7);
+    let opened = primary.open(RuledOut::new(outward), inward, 5, 7);
     opened.expect(&rt, "an open link");
     sent
 }
@@ -53,44 +53,44 @@ impl<R: Wait> Tap<R> {
 /// Has both nodes go on until they are idle.
 fn work<R: Wait + Drop>(
     rt: &impl Abort,
-    local: &mut Local<R>,
-    peer: &mut Peer<R>,
+    primary: &mut RowPrimary<R>,
+    secondary: &mut RowSecondary<R>,
     tap: &mut Tap<R>,
 ) {
     for _ in 0..TURNS {
-        turn(local, peer);
+        turn(primary, secondary);
         tap.carry(rt);
     }
 }
 
 /// Returns the bytes that a primary sends to a new secondary, which sends back over `back`: both exchange their hellos,
 /// and then the primary writes.
-fn sent_to_peer<R: Wait + Copy + Drop + Abort>(
+fn sent_to_secondary<R: Wait + Copy + Drop + Abort>(
     rt: R,
     alloc: Global,
-    local: &mut Local<R>,
+    primary: &mut RowPrimary<R>,
     sent: PieceIn<R>,
     back: RuledOut<R>,
 ) -> Vec<u8>
     requires { IsNewOut (sending back) }
 {
-    let mut peer = new_peer(&rt, alloc, disk(&rt, alloc), 8);
-    let onward = open_peer(rt, alloc, &mut peer, back);
+    let mut secondary = new_secondary(&rt, alloc, disk(&rt, alloc), 8);
+    let onward = open_secondary(rt, alloc, &mut secondary, back);
     let mut tap = Tap {
         sent,
         onward,
         bytes: Vec::new(alloc),
     };
-    work(&rt, local, &mut peer, &mut tap);
-    submit(&rt, alloc, local, 2);
-    work(&rt, local, &mut peer, &mut tap);
+    work(&rt, primary, &mut secondary, &mut tap);
+    submit(&rt, alloc, primary, 2);
+    work(&rt, primary, &mut secondary, &mut tap);
     tap.bytes
 }
 
 /// Returns the bytes that a primary sends to a secondary over a disk like its own, with one write, under protocol C.
 pub(crate) fn sent_bytes<R: Wait + Copy + Drop + Abort>(rt: R, alloc: Global) -> Vec<u8> {
-    let (back, at_local) = ruled(rt, alloc, 4).expect(&rt, "a link");
-    let mut local = new_local(&rt, alloc, disk(&rt, alloc), false);
-    let sent = open_local(rt, alloc, &mut local, at_local);
-    sent_to_peer(rt, alloc, &mut local, sent, back)
+    let (back, at_primary) = ruled(rt, alloc, 4).expect(&rt, "a link");
+    let mut primary = new_primary(&rt, alloc, disk(&rt, alloc), false);
+    let sent = open_primary(rt, alloc, &mut primary, at_primary);
+    sent_to_secondary(rt, alloc, &mut primary, sent, back)
 }

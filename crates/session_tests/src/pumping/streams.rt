@@ -1,7 +1,6 @@
 //! Tests of both pumps over readers and writers that give and take little at a time, fail, and ask for a stop.
 use bell::Bell;
 use pumps::{Buffer, PumpEnd, pump_in, pump_out};
-use ruled_link::{Piece, PieceIn, PieceOut, row};
 use std::alloc::Global;
 use std::io;
 use std::io::{ErrorKind, Read, Write};
@@ -9,6 +8,7 @@ use std::process::Abort;
 use std::sync::Wait;
 use std::sync::atomic::{AtomicBool, Ordering};
 use std::time::Clock;
+use thread_link::{Piece, PieceIn, PieceOut, row};
 
 /// A writer that asks for a stop at each write, takes at most `step` bytes, and fails after it took `left`. Every
 /// second call is interrupted.

@@ -1,6 +1,6 @@
 //! Cases of two nodes before they settle.
 
-use crate::nodes::{Local, Peer, close, connect, open_alone, submit, write};
+use crate::nodes::{RowPrimary, RowSecondary, close, connect, open_alone, submit, write};
 use blocks::{ConnectionWords, Refusal};
 use primary::Receipt;
 use settle::{Settled, settle};
@@ -38,39 +38,39 @@ const NOTHING: Settled = Settled {
 
 fn check_settlement<R: Wait + Drop>(
     rt: &impl Abort,
-    local: &mut Local<R>,
-    peer: &mut Peer<R>,
+    primary: &mut RowPrimary<R>,
+    secondary: &mut RowSecondary<R>,
     receipts: &[Receipt],
     wanted: Result<Settled, Refusal>,
 ) {
-    assert_eq!(rt; settle(local, peer, receipts), wanted);
+    assert_eq!(rt; settle(primary, secondary, receipts), wanted);
 }
 
 /// Checks that the nodes settle to this, and again: a settlement changes nothing.
 fn check_settles_twice<R: Wait + Drop>(
     rt: &impl Abort,
-    local: &mut Local<R>,
-    peer: &mut Peer<R>,
+    primary: &mut RowPrimary<R>,
+    secondary: &mut RowSecondary<R>,
     receipts: &[Receipt],
     wanted: Settled,
 ) {
-    check_settlement(rt, local, peer, receipts, Ok(wanted));
-    check_settlement(rt, local, peer, receipts, Ok(wanted));
+    check_settlement(rt, primary, secondary, receipts, Ok(wanted));
+    check_settlement(rt, primary, secondary, receipts, Ok(wanted));
 }
 
 /// Settles four writes. Each write is an item of the stream, and ends its epoch with a barrier.
 fn writes<R: Wait + Drop>(
     rt: &impl Abort,
     alloc: Global,
-    local: &mut Local<R>,
-    peer: &mut Peer<R>,
+    primary: &mut RowPrimary<R>,
+    secondary: &mut RowSecondary<R>,
     receipts: &mut Vec<Receipt>,
 ) {
     for block in 0..4 {
-        write(rt, alloc, local, peer, block, receipts);
+        write(rt, alloc, primary, secondary, block, receipts);
     }
-    check_settlement(rt, local, peer, receipts, Err(Refusal::NotDrained));
-    close(rt, local, peer);
+    check_settlement(rt, primary, secondary, receipts, Err(Refusal::NotDrained));
+    close(rt, primary, secondary);
     let wanted = Settled {
         sent: 8,
         taken: 8,
@@ -78,44 +78,48 @@ fn writes<R: Wait + Drop>(
         confirmed: 4,
         unmarked: 0,
     };
-    check_settles_twice(rt, local, peer, receipts, wanted);
+    check_settles_twice(rt, primary, secondary, receipts, wanted);
 }
 
 /// Sends two writes, and has the peer take one of them.
 fn takes_one<R: Wait + Drop>(
     rt: &impl Abort,
     alloc: Global,
-    local: &mut Local<R>,
-    peer: &mut Peer<R>,
+    primary: &mut RowPrimary<R>,
+    secondary: &mut RowSecondary<R>,
 ) {
     for block in 0..2 {
-        submit(rt, alloc, local, block);
-        local.send().expect(rt, "a frame");
+        submit(rt, alloc, primary, block);
+        primary.send().expect(rt, "a frame");
     }
-    peer.receive().expect(rt, "a frame");
+    secondary.receive().expect(rt, "a frame");
 }
 
 /// Checks that something is in the way of a settlement.
-fn check_not_drained<R: Wait + Drop>(rt: &impl Abort, local: &mut Local<R>, peer: &mut Peer<R>) {
-    check_settlement(rt, local, peer, &[], Err(Refusal::NotDrained));
+fn check_not_drained<R: Wait + Drop>(
+    rt: &impl Abort,
+    primary: &mut RowPrimary<R>,
+    secondary: &mut RowSecondary<R>,
+) {
+    check_settlement(rt, primary, secondary, &[], Err(Refusal::NotDrained));
 }
 
 /// Checks that each of the items is in the way until it is done. What the peer did not take is marked.
 fn unfinished<R: Wait + Drop>(
     rt: &impl Abort,
     alloc: Global,
-    local: &mut Local<R>,
-    peer: &mut Peer<R>,
+    primary: &mut RowPrimary<R>,
+    secondary: &mut RowSecondary<R>,
 ) {
-    takes_one(rt, alloc, local, peer);
-    local.close().expect(rt, "a primary that was open");
-    check_not_drained(rt, local, peer);
-    peer.close().expect(rt, "a secondary that was open");
-    check_not_drained(rt, local, peer);
-    peer.peer(0).expect(rt, "an item");
+    takes_one(rt, alloc, primary, secondary);
+    primary.close().expect(rt, "a primary that was open");
+    check_not_drained(rt, primary, secondary);
+    secondary.close().expect(rt, "a secondary that was open");
+    check_not_drained(rt, primary, secondary);
+    secondary.peer(0).expect(rt, "an item");
     for number in 1..3 {
-        check_not_drained(rt, local, peer);
-        local.local(number).expect(rt, "a write");
+        check_not_drained(rt, primary, secondary);
+        primary.local(number).expect(rt, "a write");
     }
     let wanted = Settled {
         sent: 2,
@@ -123,26 +127,26 @@ fn unfinished<R: Wait + Drop>(
         applied: 1,
         ..NOTHING
     };
-    check_settles_twice(rt, local, peer, &[], wanted);
+    check_settles_twice(rt, primary, secondary, &[], wanted);
 }
 
 /// Settles after each of two connections. The second one begins with a resync of nothing, which is two items.
 fn connections<R: Wait + Copy + Drop>(
     (rt, out, alloc): (R, &impl Abort, Global),
-    local: &mut Local<R>,
-    peer: &mut Peer<R>,
+    primary: &mut RowPrimary<R>,
+    secondary: &mut RowSecondary<R>,
     receipts: &mut Vec<Receipt>,
 ) {
-    write(out, alloc, local, peer, 2, receipts);
-    close(out, local, peer);
+    write(out, alloc, primary, secondary, 2, receipts);
+    close(out, primary, secondary);
     connect(
         (rt, out, alloc),
-        local,
-        peer,
+        primary,
+        secondary,
         ConnectionWords { sync: 4, loss: 5 },
     );
-    write(out, alloc, local, peer, 3, receipts);
-    close(out, local, peer);
+    write(out, alloc, primary, secondary, 3, receipts);
+    close(out, primary, secondary);
     let wanted = Settled {
         sent: 4,
         taken: 4,
@@ -150,62 +154,68 @@ fn connections<R: Wait + Copy + Drop>(
         confirmed: 2,
         unmarked: 0,
     };
-    check_settles_twice(out, local, peer, receipts, wanted);
+    check_settles_twice(out, primary, secondary, receipts, wanted);
     open_alone(
         (rt, out, alloc),
-        local,
+        primary,
         ConnectionWords { sync: 6, loss: 7 },
     );
-    local.close().expect(out, "a primary that was open");
+    primary.close().expect(out, "a primary that was open");
     // Nothing went over a third connection, which the secondary did not open.
     let wanted = Settled {
         confirmed: 2,
         ..NOTHING
     };
-    check_settles_twice(out, local, peer, receipts, wanted);
+    check_settles_twice(out, primary, secondary, receipts, wanted);
 }
 
 /// Checks that receipts of other nodes are refused after a write.
 fn strange<R: Wait + Drop>(
     rt: &impl Abort,
     alloc: Global,
-    local: &mut Local<R>,
-    peer: &mut Peer<R>,
+    primary: &mut RowPrimary<R>,
+    secondary: &mut RowSecondary<R>,
     receipts: &mut Vec<Receipt>,
 ) {
-    write(rt, alloc, local, peer, 2, receipts);
-    close(rt, local, peer);
-    check_settlement(rt, local, peer, receipts, Err(Refusal::StrangeReceipt));
+    write(rt, alloc, primary, secondary, 2, receipts);
+    close(rt, primary, secondary);
+    check_settlement(
+        rt,
+        primary,
+        secondary,
+        receipts,
+        Err(Refusal::StrangeReceipt),
+    );
 }
 
 /// Connects the nodes, and has them settle.
 fn goes_connected<R: Wait + Copy + Drop>(
     (rt, out, alloc): (R, &impl Abort, Global),
-    local: &mut Local<R>,
-    peer: &mut Peer<R>,
+    primary: &mut RowPrimary<R>,
+    secondary: &mut RowSecondary<R>,
     receipts: &mut Vec<Receipt>,
     case: Case,
 ) {
     connect(
         (rt, out, alloc),
-        local,
-        peer,
+        primary,
+        secondary,
         ConnectionWords { sync: 2, loss: 3 },
     );
     match case {
-        Case::Write(block) => write(out, alloc, local, peer, block, receipts),
-        Case::Writes => writes(out, alloc, local, peer, receipts),
-        Case::Unfinished => unfinished(out, alloc, local, peer),
-        Case::Connections => connections((rt, out, alloc), local, peer, receipts),
-        _ => strange(out, alloc, local, peer, receipts),
+        Case::Write(block) => write(out, alloc, primary, secondary, block, receipts),
+        Case::Writes => writes(out, alloc, primary, secondary, receipts),
+        Case::Unfinished => unfinished(out, alloc, primary, secondary),
+        Case::Connections => connections((rt, out, alloc), primary, secondary, receipts),
+        _ => strange(out, alloc, primary, secondary, receipts),
     }
 }
 
 /// Has the nodes settle. Appends the receipts of their writes to `receipts`.
 pub(crate) fn goes<R: Wait + Copy + Drop>(
     (rt, out, alloc): (R, &impl Abort, Global),
-    local: &mut Local<R>,
-    peer: &mut Peer<R>,
+    primary: &mut RowPrimary<R>,
+    secondary: &mut RowSecondary<R>,
     receipts: &mut Vec<Receipt>,
     case: Case,
 ) {
@@ -215,12 +225,12 @@ pub(crate) fn goes<R: Wait + Copy + Drop>(
                 unmarked,
                 ..NOTHING
             };
-            check_settles_twice(out, local, peer, receipts, wanted);
+            check_settles_twice(out, primary, secondary, receipts, wanted);
         }
         Case::Failing => {
-            check_settlement(out, local, peer, receipts, Err(Refusal::ReadFault));
-            check_settlement(out, local, peer, receipts, Ok(NOTHING));
+            check_settlement(out, primary, secondary, receipts, Err(Refusal::ReadFault));
+            check_settlement(out, primary, secondary, receipts, Ok(NOTHING));
         }
-        _ => goes_connected((rt, out, alloc), local, peer, receipts, case),
+        _ => goes_connected((rt, out, alloc), primary, secondary, receipts, case),
     }
 }

@@ -121,15 +121,15 @@ impl TransferLog {
     {
         self.last_writes.forget_all(&mut self.released);
         self.completed.clear();
-        let Some(turn) = self.ring.change(number, change) else {
+        let Some(report) = self.ring.change(number, change) else {
             return None;
         };
-        note_completed(&mut self.completed, turn.completion);
+        note_completed(&mut self.completed, report.completion);
         note(
             &mut self.released,
             self.ring.release(number, self.acknowledged_through),
         );
-        if !turn.closes {
+        if !report.closes {
             return None;
         }
         self.epochs.completed(number)

@@ -1,8 +1,8 @@
 use Rattle.std.proofs.Common.{sym, ◌∙◌, ap}
 use Rattle.endpoint.specs.PacketReceiver.{incoming}
 use Rattle.endpoint.specs.PacketSender.{outgoing}
-use Rattle.ruled_link.specs.Inward.{InwardState, taking}
-use Rattle.ruled_link.specs.Outward.{OutwardState, sending}
+use Rattle.thread_link.specs.Inward.{InwardState, taking}
+use Rattle.thread_link.specs.Outward.{OutwardState, sending}
 use Rattle.session_link.proofs.Directions.{joins}
 use Rattle.session_link.proofs.direction.join_direction.Goals as goal
 

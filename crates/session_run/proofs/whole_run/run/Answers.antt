@@ -1,6 +1,6 @@
 use Rattle.std.proofs.Common.{◌≡◌}
 use Rattle.blocks.specs.declared.refusal.Refusal.TheVariants.{BadSetting}
-use Rattle.session_run.specs.declared.fault.Fault.TheVariants.{Refused}
+use Rattle.session_run.specs.declared.fault.RunFault.TheVariants.{Refused}
 use Rattle.session_run.proofs.whole_run.run.Goals as goal
 
 pub returns-in-Ok-clause-refused : goal.returns-in-Ok-clause-refused

@@ -26,12 +26,12 @@ returns-in_ok-step-in-Gather-2-clause-adds c =
     ) in
     let made : view c.in_ok-step-in-Gather-2.step ≡ step e c.in-Gather-2.part (held ++ bytes) = c.in_ok-step-in-Gather-2.ensures.made
     ∙ ap (step e c.in-Gather-2.part) gathered in
-    subst (λ (f : Fed). OnOk c.turn.result
-    (Adds f c.turn.new.self c.args.out.now.bytes.items c.turn.new.out.bytes.items c.args.out.now.requests.items c.turn.new.out.requests.items))
+    subst (λ (f : Fed). OnOk c.take_step.result
+    (Adds f c.take_step.new.self c.args.out.now.bytes.items c.take_step.new.out.bytes.items c.args.out.now.requests.items c.take_step.new.out.requests.items))
     (whole_is e c.self.inside.phase c.in-Gather-2.part held bytes c.args.self.now (view c.in_ok-step-in-Gather-2.step) c.self.view_is c.in-Gather-2.is
     c.requires.some c.requires.portion
     (omega (arith, c.len.ensures, rw c.in-Gather-2.is at c.wanted.ensures, c.if-len-bytes.false)) made)
-    c.turn.ensures.adds
+    c.take_step.ensures.adds
 
 pub returns-in-Skip-clause-adds : goal.returns-in-Skip-clause-adds
 returns-in-Skip-clause-adds c =
@@ -41,14 +41,14 @@ returns-in-Skip-clause-adds c =
 pub returns-in_ok-step-in-Skip-2-clause-adds : goal.returns-in_ok-step-in-Skip-2-clause-adds
 returns-in_ok-step-in-Skip-2-clause-adds c =
     let same : c.in-Skip-2.refused ≡ c.in-Skip.refused = cc (c.in-Skip.is, c.in-Skip-2.is) in
-    subst (λ (f : Fed). OnOk c.turn-in-Skip-2.result
-    (Adds f c.turn-in-Skip-2.new.self c.args.out.now.bytes.items c.turn-in-Skip-2.new.out.bytes.items c.args.out.now.requests.items
-    c.turn-in-Skip-2.new.out.requests.items))
+    subst (λ (f : Fed). OnOk c.take_step-in-Skip-2.result
+    (Adds f c.take_step-in-Skip-2.new.self c.args.out.now.bytes.items c.take_step-in-Skip-2.new.out.bytes.items c.args.out.now.requests.items
+    c.take_step-in-Skip-2.new.out.requests.items))
     (skipped_is c.self.inside.export c.self.inside.phase c.in-Skip.left c.in-Skip.refused c.self.inside.held.items c.args.bytes.now c.args.self.now
     (view c.in_ok-step-in-Skip-2.step)
     c.self.view_is c.in-Skip.is c.self.invariant c.requires.some c.requires.portion c.if-bytes-left.false (c.in_ok-step-in-Skip-2.ensures.made
     ∙ ap skipped same))
-    c.turn-in-Skip-2.ensures.adds
+    c.take_step-in-Skip-2.ensures.adds
 
 pub returns-in-Closed-clause-adds : goal.returns-in-Closed-clause-adds
 returns-in-Closed-clause-adds c =

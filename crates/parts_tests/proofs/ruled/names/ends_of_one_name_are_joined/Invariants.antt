@@ -1,4 +1,4 @@
-use Rattle.ruled_link.specs.Names.{There}
+use Rattle.thread_link.specs.Names.{There}
 use Rattle.parts_tests.proofs.ruled.names.ends_of_one_name_are_joined.Given as goal
 
 abbrev pub ghosts-goes_through : goal.ghosts-goes_through

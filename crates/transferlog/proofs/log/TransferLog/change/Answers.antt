@@ -26,7 +26,7 @@ invariant_of-self c =
     let n = c.args.number in
     let f = changed c.args.change in
     let inv = c.self.invariant in
-    let none = sym c.in_default.is ∙ c.change.ensures.turn in
+    let none = sym c.in_default.is ∙ c.change.ensures.report in
     let writes = writes_are s n f None (number-changed c.args.change) c.change.ensures.rises inv.kept (no_release s n f (number-changed c.args.change) none) in
     log_changed l _ n c.args.change inv (ap (λ r. r.next) c.change.ensures.next) refl refl refl refl (ap (λ r. r.writes) c.change.ensures.next ∙ writes)
     c.forget_all.ensures.capacity c.clear.ensures.capacity (record { confirmed_writes = inv.acknowledged_through; begun = inv.begun })
@@ -41,7 +41,7 @@ returns-in_default c =
     let n = c.args.number in
     let f = changed c.args.change in
     let inv = c.self.invariant in
-    let none = sym c.in_default.is ∙ c.change.ensures.turn in
+    let none = sym c.in_default.is ∙ c.change.ensures.report in
     let keeps = number-changed c.args.change in
     let gone = no_release s n f keeps none in
     let closed = closes_is s n f None c.change.ensures.rises none in
@@ -51,8 +51,8 @@ returns-in_default c =
     (c.clear.ensures.items ∙ completed_is s n f None c.change.ensures.rises none)
     (ap (λ (b : Bool). ended_by b n l.epochs.state) closed))
 
-pub invariant_of-self-then-not-turn : goal.invariant_of-self-then-not-turn
-invariant_of-self-then-not-turn c =
+pub invariant_of-self-then-not-report : goal.invariant_of-self-then-not-report
+invariant_of-self-then-not-report c =
     let l = c.self.inside in
     let s = log_of l in
     let n = c.args.number in
@@ -66,8 +66,8 @@ invariant_of-self-then-not-turn c =
     (record { blocks = refl; numbers = c.forget_all.ensures.numbers; known = c.forget_all.ensures.known }) c.change.ensures.rises
     (onto_empty _ _ _ c.note.ensures.items c.forget_all.ensures.items ∙ ring.1)
 
-pub returns-then-not-turn : goal.returns-then-not-turn
-returns-then-not-turn c =
+pub returns-then-not-report : goal.returns-then-not-report
+returns-then-not-report c =
     let l = c.self.inside in
     let s = log_of l in
     let n = c.args.number in
@@ -75,13 +75,13 @@ returns-then-not-turn c =
     let inv = c.self.invariant in
     let ring = after_release s n f c.change.new.self c.release.new.self c.release.result (number-changed c.args.change) c.change.ensures.rises inv.kept
     (ap (λ r. r.writes) c.change.ensures.next) c.release.ensures.release (ap (λ r. r.writes) c.release.ensures.next) in
-    let turned = sym c.in-Some.is ∙ c.change.ensures.turn in
-    let closed = closes_is s n f (Some c.in-Some.turn) c.change.ensures.rises turned in
-    let open_still : c.in-Some.turn.closes ≡ false = is_not c.in-Some.turn.closes c.if-not-turn.true in
+    let turned = sym c.in-Some.is ∙ c.change.ensures.report in
+    let closed = closes_is s n f (Some c.in-Some.report) c.change.ensures.rises turned in
+    let open_still : c.in-Some.report.closes ≡ false = is_not c.in-Some.report.closes c.if-not-report.true in
     rw (← c.self.view_is, c.forget_all.ensures.numbers) (changed_is s n f _ _ _ (None, l.epochs.state)
     ring.0
     (onto_empty _ _ _ c.note.ensures.items c.forget_all.ensures.items ∙ ring.1)
-    (onto_empty _ _ _ c.note_completed.ensures.items c.clear.ensures.items ∙ completed_is s n f (Some c.in-Some.turn) c.change.ensures.rises turned)
+    (onto_empty _ _ _ c.note_completed.ensures.items c.clear.ensures.items ∙ completed_is s n f (Some c.in-Some.report) c.change.ensures.rises turned)
     (ap (λ (b : Bool). ended_by b n l.epochs.state) (sym open_still ∙ closed)))
 
 pub invariant_of-self-2 : goal.invariant_of-self-2
@@ -109,11 +109,11 @@ returns c =
     let inv = c.self.invariant in
     let ring = after_release s n f c.change.new.self c.release.new.self c.release.result (number-changed c.args.change) c.change.ensures.rises inv.kept
     (ap (λ r. r.writes) c.change.ensures.next) c.release.ensures.release (ap (λ r. r.writes) c.release.ensures.next) in
-    let turned = sym c.in-Some.is ∙ c.change.ensures.turn in
-    let closed = closes_is s n f (Some c.in-Some.turn) c.change.ensures.rises turned in
-    let closes : c.in-Some.turn.closes ≡ true = is_so c.in-Some.turn.closes c.if-not-turn.false in
+    let turned = sym c.in-Some.is ∙ c.change.ensures.report in
+    let closed = closes_is s n f (Some c.in-Some.report) c.change.ensures.rises turned in
+    let closes : c.in-Some.report.closes ≡ true = is_so c.in-Some.report.closes c.if-not-report.false in
     rw (← c.self.view_is, c.forget_all.ensures.numbers) (changed_is s n f _ _ _ (c.completed.result, c.completed.new.self.state)
     ring.0
     (onto_empty _ _ _ c.note.ensures.items c.forget_all.ensures.items ∙ ring.1)
-    (onto_empty _ _ _ c.note_completed.ensures.items c.clear.ensures.items ∙ completed_is s n f (Some c.in-Some.turn) c.change.ensures.rises turned)
+    (onto_empty _ _ _ c.note_completed.ensures.items c.clear.ensures.items ∙ completed_is s n f (Some c.in-Some.report) c.change.ensures.rises turned)
     (c.completed.ensures ∙ ap (λ (b : Bool). ended_by b n l.epochs.state) (sym closes ∙ closed)))

@@ -41,13 +41,13 @@ invariant_of-self-2 c =
     let is = found s.slots.items i c.index_mut.result.now c.in-Some.write inside c.index_mut.ensures.value c.in-Some.is in
     let number = numbered_at c.args.number s.first i c.in-Some.write s.slots.items at c.self.invariant.numbered is in
     record {
-      numbered = numbered-set c.args.number s.first i (Some c.apply-turn.new.self) s.slots.items at
-          (rw c.apply-turn.ensures.next (number-changed c.args.change c.in-Some.write ∙ number)) c.self.invariant.numbered;
-      counted = c.self.invariant.counted ∙ sym (length-changed i c.in-Some.write c.apply-turn.new.self s.slots.items is);
+      numbered = numbered-set c.args.number s.first i (Some c.apply-report.new.self) s.slots.items at
+          (rw c.apply-report.ensures.next (number-changed c.args.change c.in-Some.write ∙ number)) c.self.invariant.numbered;
+      counted = c.self.invariant.counted ∙ sym (length-changed i c.in-Some.write c.apply-report.new.self s.slots.items is);
       first = c.self.invariant.first;
       small = c.self.invariant.small;
-      waiting = each_changed (WaitsFrom s.waiting) i c.in-Some.write c.apply-turn.new.self s.slots.items is
-          (λ from. rw c.apply-turn.ensures.next (waits_changed s.waiting c.args.change c.in-Some.write from)) c.self.invariant.waiting;
+      waiting = each_changed (WaitsFrom s.waiting) i c.in-Some.write c.apply-report.new.self s.slots.items is
+          (λ from. rw c.apply-report.ensures.next (waits_changed s.waiting c.args.change c.in-Some.write from)) c.self.invariant.waiting;
       waiting_within = c.self.invariant.waiting_within;
     }
 
@@ -59,7 +59,7 @@ returns-clause-next c =
     let at : c.args.number ≡ s.first + i = omega arith in
     let is = found s.slots.items i c.index_mut.result.now c.in-Some.write inside c.index_mut.ensures.value c.in-Some.is in
     rw (← c.self.view_is) (rw (
-      c.apply-turn.ensures.next,
+      c.apply-report.ensures.next,
       with_change-slot c.args.number s.first i (changed c.args.change) c.in-Some.write s.slots.items at c.self.invariant.numbered is,
     ) refl)
 
@@ -79,22 +79,22 @@ pub returns-clause-rises : goal.returns-clause-rises
 returns-clause-rises c =
     let s = c.self.inside in rw (← c.self.view_is) (rises_in 0 s.first s.slots.items (omega arith) c.self.invariant.numbered)
 
-pub returns-then-number-self-clause-turn : goal.returns-then-number-self-clause-turn
-returns-then-number-self-clause-turn c =
+pub returns-then-number-self-clause-report : goal.returns-then-number-self-clause-report
+returns-then-number-self-clause-report c =
     let s = c.self.inside in
     let none = none_before c.args.number s.first s.slots.items c.if-number-self.true c.self.invariant.numbered in
     rw (← c.self.view_is) (rw (write_at-none c.args.number (writes_in s.slots.items) none) refl)
 
-pub returns-then-index-len-clause-turn : goal.returns-then-index-len-clause-turn
-returns-then-index-len-clause-turn c =
+pub returns-then-index-len-clause-report : goal.returns-then-index-len-clause-report
+returns-then-index-len-clause-report c =
     let s = c.self.inside in
     let i = c.args.number - s.first in
     let past = past_the_end i s.slots.items (omega (arith, s.slots.ok.0)) in
     let none = none_in_hole c.args.number s.first i s.slots.items (omega arith) c.self.invariant.numbered past in
     rw (← c.self.view_is) (rw (write_at-none c.args.number (writes_in s.slots.items) none) refl)
 
-pub returns-in_default-clause-turn : goal.returns-in_default-clause-turn
-returns-in_default-clause-turn c =
+pub returns-in_default-clause-report : goal.returns-in_default-clause-report
+returns-in_default-clause-report c =
     let s = c.self.inside in
     let i = c.args.number - s.first in
     let inside : i < length s.slots.items = omega (arith, s.slots.ok.0) in
@@ -102,14 +102,14 @@ returns-in_default-clause-turn c =
     let none = none_in_hole c.args.number s.first i s.slots.items (omega arith) c.self.invariant.numbered hole in
     rw (← c.self.view_is) (rw (write_at-none c.args.number (writes_in s.slots.items) none) refl)
 
-pub returns-clause-turn : goal.returns-clause-turn
-returns-clause-turn c =
+pub returns-clause-report : goal.returns-clause-report
+returns-clause-report c =
     let s = c.self.inside in
     let i = c.args.number - s.first in
     let inside : i < length s.slots.items = omega (arith, s.slots.ok.0) in
     let at : c.args.number ≡ s.first + i = omega arith in
     let is = found s.slots.items i c.index_mut.result.now c.in-Some.write inside c.index_mut.ensures.value c.in-Some.is in
-    rw (← c.self.view_is) (rw (write_at-slot c.args.number s.first i s.slots.items at c.self.invariant.numbered, is) (rw c.apply-turn.ensures.turn refl))
+    rw (← c.self.view_is) (rw (write_at-slot c.args.number s.first i s.slots.items at c.self.invariant.numbered, is) (rw c.apply-report.ensures.report refl))
 
 pub invariant_of-self-3 : goal.invariant_of-self-3
 invariant_of-self-3 c =
@@ -120,9 +120,9 @@ invariant_of-self-3 c =
     let is = found s.slots.items i c.index_mut.result.now c.in-Some.write inside c.index_mut.ensures.value c.in-Some.is in
     let number = numbered_at c.args.number s.first i c.in-Some.write s.slots.items at c.self.invariant.numbered is in
     record {
-      numbered = numbered-set c.args.number s.first i (Some c.apply-turn.new.self) s.slots.items at
-          (rw c.apply-turn.ensures.next (number-changed c.args.change c.in-Some.write ∙ number)) c.self.invariant.numbered;
-      counted = c.self.invariant.counted ∙ sym (length-changed i c.in-Some.write c.apply-turn.new.self s.slots.items is);
+      numbered = numbered-set c.args.number s.first i (Some c.apply-report.new.self) s.slots.items at
+          (rw c.apply-report.ensures.next (number-changed c.args.change c.in-Some.write ∙ number)) c.self.invariant.numbered;
+      counted = c.self.invariant.counted ∙ sym (length-changed i c.in-Some.write c.apply-report.new.self s.slots.items is);
       first = c.self.invariant.first;
       small = c.self.invariant.small;
       waiting = c.lowest_waiting-self-inside.ensures.from;

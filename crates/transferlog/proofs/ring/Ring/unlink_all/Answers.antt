@@ -2,12 +2,12 @@ use Rattle.std.proofs.Common.{◌≡◌, ◌+◌, ◌++◌, ◌<◌, ◌≤◌, 
 use Rattle.std.specs.Prelude.{filter, map, IsSome}
 use Rattle.std.specs.Option.{option_map, option_and_then, option_to_list}
 use Rattle.std.proofs.lemmas.List.{length-map, append-nil}
-use Rattle.transferlog.specs.Writes.{LogWrite, completed_of, turn_of, unlinking}
+use Rattle.transferlog.specs.Writes.{LogWrite, completed_of, report_of, unlinking}
 use Rattle.transferlog.specs.Ring.{RingState, Each, Rises, with_change, write_at}
 use Rattle.transferlog.specs.Slots.{ring_of, IsRing}
 use Rattle.transferlog.specs.declared.ring.Ring.TheInside.{Inside}
 use Rattle.transferlog.specs.declared.report.Completed.{Completed}
-use Rattle.transferlog.specs.declared.report.Turn.{Turn}
+use Rattle.transferlog.specs.declared.report.ChangeReport.{ChangeReport}
 use Rattle.transferlog.proofs.InSlots.{rises_of}
 use Rattle.transferlog.proofs.Sweep.{goes, out_at, gone_next, all_before, all_after, room_left}
 use Rattle.transferlog.proofs.Unlinking.{completes, unlinked, unlinked_next, none_unlinked, all_unlinked, completion_at, all_completed, numbers_from}
@@ -36,10 +36,10 @@ loop-number-init c =
       ring = rw (none_unlinked r.first ws least) refl;
     }
 
-completed_now : (k : ℕ) (s left : RingState) (turn : Option Turn) (result : Option Completed) → left ≡ record s { writes = map (unlinked k) s.writes }
-    → turn ≡ option_map (turn_of unlinking) (write_at k left.writes) → result ≡ option_and_then (λ (t : Turn). t.completion) turn
+completed_now : (k : ℕ) (s left : RingState) (report : Option ChangeReport) (result : Option Completed) → left ≡ record s { writes = map (unlinked k) s.writes }
+    → report ≡ option_map (report_of unlinking) (write_at k left.writes) → result ≡ option_and_then (λ (t : ChangeReport). t.completion) report
     → result ≡ out_at completes completed_of k s.writes
-completed_now k s left turn result left_is turn_is is = is ∙ completion_at k s.writes left.writes turn turn_is (ap (λ r. r.writes) left_is)
+completed_now k s left report result left_is turn_is is = is ∙ completion_at k s.writes left.writes report turn_is (ap (λ r. r.writes) left_is)
 
 room : (k n cap : ℕ) (ws : List LogWrite) (items old : List Completed) → Rises 0 ws → IsSome (out_at completes completed_of k ws)
     → items ≡ old ++ map completed_of (filter (goes completes k) ws)
@@ -53,8 +53,8 @@ note_completed-requires c =
     λ some.
     let k = c.loop-number.number in
     let ws = c.args.self.now.writes in
-    let is = completed_now k c.args.self.now c.loop-number.self c.change-turn.result c.completion_in.result c.loop-number.invariant.ring
-    c.change-turn.ensures.turn c.completion_in.ensures in
+    let is = completed_now k c.args.self.now c.loop-number.self c.change-report.result c.completion_in.result c.loop-number.invariant.ring
+    c.change-report.ensures.report c.completion_in.ensures in
     let P : Option Completed → Type 0 = λ o. IsSome o in
     room k _ _ ws c.loop-number.completed.items c.args.completed.now.items (rises_of c.self.inside c.args.self.now c.self.view_is c.self.invariant)
     (subst P is some)
@@ -68,7 +68,7 @@ loop-number-preserved c =
     let inv = c.loop-number.invariant in
     let old = c.args.completed.now.items in
     let rises = rises_of c.self.inside c.args.self.now c.self.view_is c.self.invariant in
-    let is = completed_now k c.args.self.now c.loop-number.self c.change-turn.result c.completion_in.result inv.ring c.change-turn.ensures.turn
+    let is = completed_now k c.args.self.now c.loop-number.self c.change-report.result c.completion_in.result inv.ring c.change-report.ensures.report
     c.completion_in.ensures in
     record {
       completed = c.note_completed.ensures.items ∙ (ap (λ xs. xs ++ option_to_list c.completion_in.result) inv.completed
@@ -76,7 +76,7 @@ loop-number-preserved c =
           ∙ ap (λ ys. old ++ ys) (ap (λ (o : Option Completed). map completed_of (filter (goes completes k) ws) ++ option_to_list o) is
           ∙ sym (gone_next completes completed_of k 0 ws rises))));
       capacity = c.note_completed.ensures.capacity ∙ inv.capacity;
-      ring = c.change-turn.ensures.next ∙ (ap (λ (r : RingState). record r { writes = with_change k unlinking r.writes }) inv.ring
+      ring = c.change-report.ensures.next ∙ (ap (λ (r : RingState). record r { writes = with_change k unlinking r.writes }) inv.ring
           ∙ ap (λ (vs : List LogWrite). record c.args.self.now { writes = vs }) (unlinked_next k ws));
     }
 

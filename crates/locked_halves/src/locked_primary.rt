@@ -1,0 +1,203 @@
+//! The primary under its lock.
+ghost use Rattle.std.specs.Prelude.{◌≡◌, true, false, slice_get, unwrap_or, IfErr, IfSome};
+ghost use Rattle.endpoint.specs.Calls.{IsNewIn, IsNewOut};
+ghost use Rattle.locked_halves.specs.Shown.{HasReleased, PrimaryHasShown};
+ghost use Rattle.model.specs.CallRefusals.{local_open_refuses};
+ghost use Rattle.model.specs.Primary.{primary_opening};
+ghost use Rattle.model.specs.Theorems.{primary_at};
+ghost use Rattle.session_nodes.specs.Primaries.{PrimaryIsHad};
+
+use bell::Bell;
+use bitmap::Bitmap;
+use blocks::{ConnectionWords, Done, Refusal, Settings, Store, Tuple};
+use bytes::Bytes;
+use halves::PrimaryHalf;
+use link::{FrameIn, FrameOut};
+use node_lines::primary_line;
+use primary::{Primary, Receipt};
+use session_nodes::{Beginning, SessionPrimary};
+use status_lines::PrimaryLine;
+use std::alloc::Global;
+use std::sync::{Mutex, Wait};
+use turns::{PrimaryRole, SentItems, Turn};
+
+/// The primary under its lock.
+#[derive(Drop)]
+pub struct LockedPrimary<
+    R: Wait + Drop,
+    B: Beginning,
+    O: FrameOut + Drop,
+    I: FrameIn + Drop,
+    S: Store + Drop,
+> {
+    rt: R,
+    node: Mutex<SessionPrimary<B, O, I, S>>,
+    work_bell: Bell,
+    writers_bell: Bell,
+    pump_bell: Bell,
+}
+
+impl<
+    R: Wait + Drop,
+    B: Beginning,
+    O: FrameOut + Drop,
+    I: FrameIn + Drop,
+    S: Store + Drop,
+> LockedPrimary<R, B, O, I, S> {
+    /// Creates the half of a primary over this disk, opened over unused ends of a link under two words. The refusals
+    /// are those of `SessionPrimary::open`: 7, 15 and 33.
+    pub fn open(
+        rt: R,
+        alloc: Global,
+        settings: Settings,
+        store: S,
+        tuple: Tuple,
+        marks: Bitmap,
+        link: (O, I),
+        words: ConnectionWords,
+    ) -> Result<LockedPrimary<R, B, O, I, S>, Refusal>
+        requires outward { IsNewOut (O.state link.0) }
+        requires inward { IsNewIn (I.state link.1) }
+        requires began { IfSome B.opening (λ opening. primary_opening settings (slice_get (S.contents store)) tuple (λ block. unwrap_or (slice_get marks block) false)
+            ≡ primary_at opening) }
+        ensures refused { IfErr result (λ e. local_open_refuses e ≡ true) }
+    {
+        match SessionPrimary::open(alloc, settings, store, tuple, marks, link, words) {
+            Ok(node) => Ok(LockedPrimary {
+                rt,
+                node: Mutex::new(node),
+                work_bell: Bell::new(),
+                writers_bell: Bell::new(),
+                pump_bell: Bell::new(),
+            }),
+            Err(refusal) => Err(refusal),
+        }
+    }
+
+    /// Takes the node out of its lock. It has a history that began as the half did, and whose connections all used its ends.
+    pub fn into_node(self) -> Primary<O, I, S>
+        ensures { PrimaryIsHad B.opening result }
+    {
+        self.node.into_inner().into_node()
+    }
+}
+
+impl<
+    R: Wait + Drop,
+    B: Beginning,
+    O: FrameOut + Drop,
+    I: FrameIn + Drop,
+    S: Store + Drop,
+> PrimaryHalf for LockedPrimary<R, B, O, I, S> {
+    ghost use Rattle.locked_halves.specs.Shown.{HasReleased, PrimaryHasShown};
+    ghost use Rattle.std.specs.Prelude.{IsTrue};
+    ghost use Rattle.session_nodes.specs.Primaries.{HasAccepted, HasHeld};
+
+    ghost accepts = { HasAccepted B.opening };
+
+    // It says nothing of a disk whose reads are not known to be faithful.
+    ghost holds = { λ first count bytes. ((store : S) → IsTrue (S.faithful store)) → HasHeld B.opening first count bytes };
+
+    ghost releases = { HasReleased B.opening };
+
+    ghost shows = { PrimaryHasShown B.opening };
+
+    fn submit(&self, first: u64, bytes: &Bytes) -> Result<u64, Refusal> {
+        let (number, _) = self.node.lock(&self.rt).submit(first, bytes)?;
+        Ok(number)
+    }
+
+    fn take_completed(&self, number: u64) -> Result<Receipt, Refusal> {
+        self.node.lock(&self.rt).take_completed(number)
+    }
+
+    fn read(&self, first: u64, count: u64) -> Result<Vec<u8>, Refusal> {
+        self.node.lock(&self.rt).read(first, count)
+    }
+
+    fn send(&self) -> Result<Done, Refusal> {
+        self.node.lock(&self.rt).send()
+    }
+
+    fn ack_in(&self) -> Result<Done, Refusal> {
+        self.node.lock(&self.rt).ack_in()
+    }
+
+    fn turn(&self, role: PrimaryRole) -> Turn {
+        let turn = self.node.lock(&self.rt).turn(role);
+        if turn.wakes_writers {
+            self.writers_bell.ring_all(&self.rt);
+        }
+        turn
+    }
+
+    fn close(&self) {
+        let _ = self.node.lock(&self.rt).close();
+        self.writers_bell.ring_all(&self.rt);
+    }
+
+    fn close_lost(&self, connection: u32) {
+        self.node.lock(&self.rt).close_lost(connection);
+        self.writers_bell.ring_all(&self.rt);
+    }
+
+    fn reopen(&self, sync: u64, loss: u64) -> Result<u32, Refusal> {
+        self.node.lock(&self.rt).reopen(sync, loss)
+    }
+
+    fn has_unfinished(&self) -> bool {
+        self.node.lock(&self.rt).has_unfinished()
+    }
+
+    fn sent_if_quiet(&self) -> Option<SentItems> {
+        self.node.lock(&self.rt).sent_if_quiet()
+    }
+
+    fn accepted(&self) -> u64 {
+        self.node.lock(&self.rt).node().accepted()
+    }
+
+    fn released(&self) -> u64 {
+        released_of(&self.node.lock(&self.rt))
+    }
+
+    fn marks(&self) -> u32 {
+        self.node.lock(&self.rt).node().marks()
+    }
+
+    fn status(&self) -> PrimaryLine {
+        line_of(&self.node.lock(&self.rt))
+    }
+
+    fn work_bell(&self) -> &Bell {
+        &self.work_bell
+    }
+
+    fn writers_bell(&self) -> &Bell {
+        &self.writers_bell
+    }
+
+    fn pump_bell(&self) -> &Bell {
+        &self.pump_bell
+    }
+}
+
+// Returns the number up to which each write of a locked node is released.
+fn released_of<B: Beginning, O: FrameOut + Drop, I: FrameIn + Drop, S: Store + Drop>(
+    primary: &SessionPrimary<B, O, I, S>,
+) -> u64
+    ensures { HasReleased B.opening result }
+{
+    // Proof hint: brings the node's history into scope.
+    let _ = primary.node();
+    primary.released()
+}
+
+// Returns what the line of a locked node shows.
+fn line_of<B: Beginning, O: FrameOut + Drop, I: FrameIn + Drop, S: Store + Drop>(
+    primary: &SessionPrimary<B, O, I, S>,
+) -> PrimaryLine
+    ensures { PrimaryHasShown B.opening result }
+{
+    primary_line(primary.node())
+}

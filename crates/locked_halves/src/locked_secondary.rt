@@ -1,0 +1,149 @@
+//! The secondary under its lock.
+ghost use Rattle.std.specs.Prelude.{◌≡◌, true, slice_get, IfErr, IfSome};
+ghost use Rattle.endpoint.specs.Calls.{IsNewIn, IsNewOut};
+ghost use Rattle.locked_halves.specs.Shown.{SecondaryHasShown};
+ghost use Rattle.model.specs.CallRefusals.{peer_open_refuses};
+ghost use Rattle.model.specs.Secondary.{secondary_opening};
+ghost use Rattle.model.specs.Theorems.{secondary_at};
+ghost use Rattle.session_nodes.specs.Secondaries.{SecondaryIsHad};
+
+use bell::Bell;
+use blocks::{Done, Refusal, Settings, Store, Tuple};
+use halves::SecondaryHalf;
+use link::{FrameIn, FrameOut};
+use node_lines::secondary_line;
+use secondary::Secondary;
+use session_nodes::{Beginning, SessionSecondary};
+use status_lines::SecondaryLine;
+use std::alloc::Global;
+use std::sync::{Mutex, Wait};
+use turns::{SecondaryRole, SentItems, Turn};
+
+/// The secondary under its lock.
+#[derive(Drop)]
+pub struct LockedSecondary<
+    R: Wait + Drop,
+    B: Beginning,
+    O: FrameOut + Drop,
+    I: FrameIn + Drop,
+    S: Store + Drop,
+> {
+    rt: R,
+    node: Mutex<SessionSecondary<B, O, I, S>>,
+    work_bell: Bell,
+    pump_bell: Bell,
+}
+
+impl<
+    R: Wait + Drop,
+    B: Beginning,
+    O: FrameOut + Drop,
+    I: FrameIn + Drop,
+    S: Store + Drop,
+> LockedSecondary<R, B, O, I, S> {
+    /// Creates the half of a secondary over this disk, opened over unused ends of a link. The refusals are those of
+    /// `SessionSecondary::open`: 7 and 15.
+    pub fn open(
+        rt: R,
+        alloc: Global,
+        settings: Settings,
+        store: S,
+        tuple: Tuple,
+        link: (O, I),
+    ) -> Result<LockedSecondary<R, B, O, I, S>, Refusal>
+        requires outward { IsNewOut (O.state link.0) }
+        requires inward { IsNewIn (I.state link.1) }
+        requires began { IfSome B.opening (λ opening. secondary_opening settings (slice_get (S.contents store)) tuple ≡ secondary_at opening) }
+        ensures refused { IfErr result (λ e. peer_open_refuses e ≡ true) }
+    {
+        match SessionSecondary::open(alloc, settings, store, tuple, link) {
+            Ok(node) => Ok(LockedSecondary {
+                rt,
+                node: Mutex::new(node),
+                work_bell: Bell::new(),
+                pump_bell: Bell::new(),
+            }),
+            Err(refusal) => Err(refusal),
+        }
+    }
+
+    /// Takes the node out of its lock. It has a history that began as the half did, and whose connections all used its ends.
+    pub fn into_node(self) -> Secondary<O, I, S>
+        ensures { SecondaryIsHad B.opening result }
+    {
+        self.node.into_inner().into_node()
+    }
+}
+
+impl<
+    R: Wait + Drop,
+    B: Beginning,
+    O: FrameOut + Drop,
+    I: FrameIn + Drop,
+    S: Store + Drop,
+> SecondaryHalf for LockedSecondary<R, B, O, I, S> {
+    ghost use Rattle.locked_halves.specs.Shown.{SecondaryHasShown};
+
+    ghost shows = { SecondaryHasShown B.opening };
+
+    fn receive(&self) -> Result<Done, Refusal> {
+        self.node.lock(&self.rt).receive()
+    }
+
+    fn ack_out(&self) -> Result<Done, Refusal> {
+        self.node.lock(&self.rt).ack_out()
+    }
+
+    fn turn(&self, role: SecondaryRole) -> Turn {
+        self.node.lock(&self.rt).turn(role)
+    }
+
+    fn close(&self) {
+        let _ = self.node.lock(&self.rt).close();
+    }
+
+    fn close_lost(&self, connection: u32) {
+        self.node.lock(&self.rt).close_lost(connection);
+    }
+
+    fn may_reopen(&self) -> Result<(), Refusal> {
+        self.node.lock(&self.rt).may_reopen()
+    }
+
+    fn reopen(&self, number: u32) -> Result<(), Refusal> {
+        self.node.lock(&self.rt).reopen(number)
+    }
+
+    fn has_taken(&self, sent: SentItems) -> bool {
+        self.node.lock(&self.rt).has_taken(sent)
+    }
+
+    fn has_unfinished(&self) -> bool {
+        self.node.lock(&self.rt).has_unfinished()
+    }
+
+    fn applied(&self) -> u32 {
+        self.node.lock(&self.rt).node().items_applied()
+    }
+
+    fn status(&self) -> SecondaryLine {
+        line_of(&self.node.lock(&self.rt))
+    }
+
+    fn work_bell(&self) -> &Bell {
+        &self.work_bell
+    }
+
+    fn pump_bell(&self) -> &Bell {
+        &self.pump_bell
+    }
+}
+
+// Returns what the line of a locked node shows.
+fn line_of<B: Beginning, O: FrameOut + Drop, I: FrameIn + Drop, S: Store + Drop>(
+    secondary: &SessionSecondary<B, O, I, S>,
+) -> SecondaryLine
+    ensures { SecondaryHasShown B.opening result }
+{
+    secondary_line(secondary.node())
+}

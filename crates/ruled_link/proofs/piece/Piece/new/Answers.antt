@@ -1,5 +1,0 @@
-use Rattle.std.proofs.Common.{rules}
-use Rattle.ruled_link.proofs.piece.Piece.new.Goals as goal
-
-pub returns : goal.returns
-returns c = search rules

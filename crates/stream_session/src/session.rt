@@ -1,0 +1,220 @@
+//! A session whose frames go over streams of bytes, such as sockets.
+ghost use Rattle.std.specs.Prelude.{◌≡◌, ◌<◌, ◌≤◌, ◌⊎◌, ◌*◌, true, false, Err, length, slice_get, unwrap_or, vec_len, IfErr, IfOk, IfSome, IsTrue};
+ghost use Rattle.blocks.specs.declared.refusal.Refusal.TheVariants.{BadRange, NoMemory, NotConnected, NotDrained, ReadFault};
+ghost use Rattle.halves.specs.Opening.{opening_of};
+ghost use Rattle.model.specs.CallRefusals.{local_open_refuses, peer_open_refuses, start_over_refuses, write_refuses};
+ghost use Rattle.model.specs.Primary.{primary_opening};
+ghost use Rattle.model.specs.Secondary.{secondary_opening};
+ghost use Rattle.model.specs.Theorems.{primary_at, secondary_at};
+ghost use Rattle.session_nodes.specs.Primaries.{HasAccepted, HasHeld, PrimaryIsHad};
+ghost use Rattle.session_nodes.specs.Secondaries.{SecondaryIsHad};
+
+use bitmap::Bitmap;
+use blocks::{ConnectionWords, Refusal, Settings, Store, Tuple};
+use bytes::Bytes;
+use halves::{Device, SessionStart};
+use locked_halves::{LockedPrimary, LockedSecondary};
+use primary::{Primary, Receipt};
+use secondary::Secondary;
+use session_link::check_numbers;
+use session_nodes::Beginning;
+use session_threads::{PumpEnds, Rows, Running, SharedSession, Sink, Source, Way, Ways, half_rows};
+use std::alloc::Global;
+use std::sync::Wait;
+use std::thread::Threads;
+use std::time::Clock;
+use thread_link::{RuledIn, RuledOut};
+
+/// The primary's half of a session over streams.
+pub type LockedStreamPrimary<R, B, S> = LockedPrimary<R, B, RuledOut<R>, RuledIn<R>, S>;
+
+/// The secondary's half of a session over streams.
+pub type LockedStreamSecondary<R, B, T> = LockedSecondary<R, B, RuledOut<R>, RuledIn<R>, T>;
+
+/// The mirror of a session over streams, which any number of threads may share.
+pub type SharedStreamSession<R, B, S, T> = SharedSession<
+    R,
+    LockedStreamPrimary<R, B, S>,
+    LockedStreamSecondary<R, B, T>,
+>;
+
+/// The primary of a session over streams.
+pub type StreamPrimary<R, S> = Primary<RuledOut<R>, RuledIn<R>, S>;
+
+/// The secondary of a session over streams.
+pub type StreamSecondary<R, T> = Secondary<RuledOut<R>, RuledIn<R>, T>;
+
+/// A running session over streams. It has one connection. It cannot be dropped: whoever starts it has to finish it.
+pub struct StreamSession<R: Threads + Wait + Drop, B: Beginning, S: Store + Drop, T: Store + Drop> {
+    running: Running<R, LockedStreamPrimary<R, B, S>, LockedStreamSecondary<R, B, T>>,
+}
+
+impl<
+    R: Threads + Wait + Clock + Copy + Drop + Send + Sync + 'static,
+    B: Beginning + Send + Sync + 'static,
+    S: Store + Drop + Send + 'static,
+    T: Store + Drop + Send + 'static,
+> StreamSession<R, B, S, T> {
+    /// Starts a session over two disks and two ways, one for each direction of its link, whose parts are its beginning if that is
+    /// known: starts a pump at each end of a way, exchanges the hellos, and starts the threads. A pump that ends drops its writer
+    /// or reader, and then both ends of the link close.
+    ///
+    /// `BadSetting` (15), `UsedIdentifier` (33) and the refusals of the hello (30 to 33) come as for the nodes;
+    /// `NotConnected` (12) if a way ends during the hello; 20 to 25, 34 or 35 if foreign bytes arrive over it;
+    /// `NoMemory` (7) if there is no memory, and if a thread cannot be started. Then nothing runs, and all that was
+    /// handed over is dropped. The contract says besides that 18 may come, and no other (`start_over_refuses`).
+    pub fn start_over<W: Sink, D: Source, V: Sink, E: Source>(
+        rt: R,
+        alloc: Global,
+        local: S,
+        peer: T,
+        parts: SessionStart,
+        ways: Ways<Way<W, D>, Way<V, E>>,
+    ) -> Result<StreamSession<R, B, S, T>, Refusal>
+        requires opening { IfSome B.opening (λ opening. opening ≡ opening_of parts (slice_get (S.contents local)) (slice_get (T.contents peer))) }
+        ensures refused { IfErr result (λ e. start_over_refuses e ≡ true) }
+    {
+        parts.settings.check()?;
+        let words = ConnectionWords {
+            sync: parts.sync,
+            loss: parts.loss,
+        };
+        let settings = parts.settings;
+        let (primary, primary_rows) = open_primary(
+            rt,
+            alloc,
+            settings,
+            local,
+            parts.own,
+            parts.marks,
+            words,
+        )?;
+        match open_secondary(rt, alloc, settings, peer, parts.peer) {
+            Ok((secondary, secondary_rows)) => {
+                let rows = Rows {
+                    primary: primary_rows,
+                    secondary: secondary_rows,
+                };
+                match Running::start_over(rt, alloc, primary, secondary, rows, ways, parts.is_cut) {
+                    Ok(running) => Ok(StreamSession { running }),
+                    Err(refusal) => Err(refusal),
+                }
+            }
+            Err(refusal) => {
+                drop(primary.into_node().into_store());
+                Err(refusal)
+            }
+        }
+    }
+}
+
+// Creates the primary's half over rows of its own. Returns it with the pumps' ends of these.
+fn open_primary<R: Wait + Copy + Drop, B: Beginning, S: Store + Drop>(
+    rt: R,
+    alloc: Global,
+    settings: Settings,
+    store: S,
+    tuple: Tuple,
+    marks: Bitmap,
+    words: ConnectionWords,
+) -> Result<(LockedStreamPrimary<R, B, S>, PumpEnds<R>), Refusal>
+    requires link { 0 < settings.link }
+    requires began { IfSome B.opening (λ opening. primary_opening settings (slice_get (S.contents store)) tuple (λ block. unwrap_or (slice_get marks block) false)
+        ≡ primary_at opening) }
+    ensures refused { IfErr result (λ e. local_open_refuses e ≡ true) }
+{
+    let (ends, rows) = half_rows(rt, alloc, settings.link)?;
+    match LockedPrimary::open(rt, alloc, settings, store, tuple, marks, ends, words) {
+        Ok(half) => Ok((half, rows)),
+        Err(refusal) => Err(refusal),
+    }
+}
+
+// Creates the secondary's half like `open_primary`.
+fn open_secondary<R: Wait + Copy + Drop, B: Beginning, T: Store + Drop>(
+    rt: R,
+    alloc: Global,
+    settings: Settings,
+    store: T,
+    tuple: Tuple,
+) -> Result<(LockedStreamSecondary<R, B, T>, PumpEnds<R>), Refusal>
+    requires link { 0 < settings.link }
+    requires began { IfSome B.opening (λ opening. secondary_opening settings (slice_get (T.contents store)) tuple ≡ secondary_at opening) }
+    ensures refused { IfErr result (λ e. peer_open_refuses e ≡ true) }
+{
+    let (ends, rows) = half_rows(rt, alloc, settings.link)?;
+    match LockedSecondary::open(rt, alloc, settings, store, tuple, ends) {
+        Ok(half) => Ok((half, rows)),
+        Err(refusal) => Err(refusal),
+    }
+}
+
+impl<
+    R: Threads + Wait + Clock + Drop,
+    B: Beginning,
+    S: Store + Drop,
+    T: Store + Drop,
+> StreamSession<R, B, S, T> {
+    /// Returns the mirror, which any number of threads may share.
+    pub fn mirror(&self) -> &SharedStreamSession<R, B, S, T> {
+        self.running.mirror()
+    }
+
+    /// Writes whole blocks from `first` on, and returns the receipt once the write is completed as the protocol says:
+    /// `Device::write` of the mirror, with its refusals, 1, 5 to 8, 12 and 16. A primary that began as the session did accepted
+    /// these bytes under the receipt's number.
+    pub fn write(&self, first: u64, bytes: &Bytes) -> Result<Receipt, Refusal>
+        ensures own { IfOk result (λ receipt. (receipt.first ≡ first) × (receipt.count * 4096 ≡ length bytes.now)) }
+        ensures accepted { IfOk result (λ receipt. HasAccepted B.opening receipt.number first bytes.now) }
+        ensures refused { IfErr result (λ e. write_refuses e ≡ true) }
+    {
+        self.running.mirror().write(first, bytes)
+    }
+
+    /// Reads blocks of the local disk, 1 to 32 inside the device and inside one extent: `Device::read` of the mirror, with
+    /// its refusals. If reads of such a disk are always faithful, the disk of a primary that began as the session did held
+    /// these bytes there.
+    pub fn read(&self, first: u64, count: u64) -> Result<Vec<u8>, Refusal>
+        ensures held { IfOk result (λ bytes. ((store : S) → IsTrue (S.faithful store)) → HasHeld B.opening first count bytes.items) }
+        ensures length { IfOk result (λ bytes. vec_len bytes ≡ count * 4096) }
+        ensures refused { IfErr result (λ e. (e ≡ BadRange) ⊎ ((e ≡ NoMemory) ⊎ (e ≡ ReadFault))) }
+    {
+        self.running.mirror().read(first, count)
+    }
+
+    /// Closes both ends of the link: `Device::cut` of the mirror.
+    pub fn cut(&self) {
+        self.running.mirror().cut();
+    }
+
+    /// Returns `NotConnected` (12), whatever the words are, since a session over streams has one connection: `Device::reconnect`
+    /// of the mirror does so, too.
+    pub fn reconnect(&self, _sync: u64, _loss: u64) -> Result<u32, Refusal>
+        ensures refused { result ≡ Err NotConnected }
+    {
+        Err(Refusal::NotConnected)
+    }
+
+    /// Ends the session: closes both ends, lets the disks finish all pending work, stops the threads, and returns both
+    /// nodes. `NotDrained` (36) if a thread still shares a node.
+    ///
+    /// Each node has a history that began as the session did, and whose connections all used its own ends. Whether what one took
+    /// begins what the other pushed depends on the streams, and no contract can speak of them. No connection of the secondary has
+    /// a number above the primary's last one; else 36 is returned, which no session brings about.
+    pub fn finish(self) -> Result<(StreamPrimary<R, S>, StreamSecondary<R, T>), Refusal>
+        ensures had { IfOk result (λ nodes. PrimaryIsHad B.opening nodes.0 × SecondaryIsHad B.opening nodes.1) }
+        ensures numbered { IfOk result (λ nodes. nodes.1.core.number ≤ nodes.0.core.connections) }
+        ensures refused { IfErr result (λ e. e ≡ NotDrained) }
+    {
+        let StreamSession { running } = self;
+        let (locked_primary, locked_secondary) = running.finish()?;
+        let (primary, secondary) = (locked_primary.into_node(), locked_secondary.into_node());
+        match check_numbers(&primary, &secondary) {
+            Ok(()) => Ok((primary, secondary)),
+            Err(refusal) => {
+                drop((primary.into_store(), secondary.into_store()));
+                Err(refusal)
+            }
+        }
+    }
+}

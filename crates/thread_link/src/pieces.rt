@@ -1,0 +1,336 @@
+//! The row of pieces of one direction, and its two ends.
+ghost use Rattle.std.specs.Prelude.{◌≡◌, ◌<◌, ◌≤◌, List, [], ◌∷◌, ◌++◌, length, OnOk, OnErr, IfNone, IfOk, IfErr, MatchOption};
+ghost use Rattle.std.specs.Bool.{OnTrue, OnFalse};
+ghost use Rattle.thread_link.specs.Moments.{WasEmpty, WasFull};
+ghost use Rattle.thread_link.specs.Pieces.{PieceState};
+ghost use Rattle.thread_link.specs.Inward.{IsDropped};
+
+use crate::sheet::Sheet;
+use crate::stock::{Returns, Stock};
+use crate::{NoInvariant, Piece, RingInvariant};
+use crossbeam_queue::protocol::{Join, Lesson, Outcome, Protocol, Split};
+use crossbeam_queue::{Pass, RuledArrayQueue};
+use std::alloc::{AllocError, Global};
+use std::collections::LinkedList;
+use std::marker::{Model, PhantomData};
+use std::sync::{Arc, Wait};
+
+/// What a pass may do, and what it has pushed and taken. No value of it is made.
+pub struct Log {
+    pub pushes: bool,
+    pub takes: bool,
+    pub pushed: LinkedList<Piece>,
+    pub taken: LinkedList<Piece>,
+}
+
+/// The protocol of a row that keeps the invariant `M`.
+struct InOrder<M: RingInvariant> {
+    of: PhantomData<M>,
+}
+
+impl<M: RingInvariant> Protocol<Sheet, Log> for InOrder<M> {
+    ghost use Rattle.std.specs.Prelude.{true, []};
+    ghost use Rattle.thread_link.specs.Row.{log};
+    ghost use Rattle.thread_link.specs.Row as row;
+
+    ghost holds = { row.InOrder M.holds };
+
+    ghost first = { log true true [] [] };
+}
+
+struct Ends;
+
+impl Split<Log> for Ends {
+    ghost use Rattle.std.specs.Prelude.{true, false, []};
+    ghost use Rattle.thread_link.specs.Row.{log};
+
+    ghost left = { λ v. log true false v.pushed [] };
+
+    ghost right = { λ v. log false true [] v.taken };
+}
+
+impl Join<Log> for Ends {
+    ghost use Rattle.std.specs.Prelude.{true, false, []};
+    ghost use Rattle.thread_link.specs.Row.{log};
+
+    ghost both = { λ v w. log true true v.pushed w.taken };
+
+    ghost spent = { log false false [] [] };
+}
+
+/// What a pass that may both push and take learns.
+struct Whole;
+
+impl Lesson<Sheet, Log> for Whole {
+    ghost use Rattle.std.specs.Prelude.{◌≡◌, ◌++◌};
+
+    ghost fact = { λ v pieces. v.pushed ≡ v.taken ++ pieces };
+}
+
+struct Pushed<M: RingInvariant> {
+    of: PhantomData<M>,
+}
+
+impl<M: RingInvariant> Outcome<Sheet, Log> for Pushed<M> {
+    ghost use Rattle.std.specs.Prelude.{◌≡◌, [], ◌∷◌, ◌++◌};
+    ghost use Rattle.thread_link.specs.Row.{log};
+
+    ghost then = { λ v x w. w ≡ log v.pushes v.takes (v.pushed ++ x ∷ []) v.taken };
+}
+
+impl<M: RingInvariant> Lesson<Sheet, Log> for Pushed<M> {
+    ghost use Rattle.thread_link.specs.Row.{PushedAt};
+
+    ghost fact = { λ v pieces. PushedAt M.holds v.pushed pieces };
+}
+
+struct Taken<M: RingInvariant> {
+    of: PhantomData<M>,
+}
+
+impl<M: RingInvariant> Outcome<Sheet, Log> for Taken<M> {
+    ghost use Rattle.std.specs.Prelude.{◌≡◌, [], ◌∷◌, ◌++◌};
+    ghost use Rattle.thread_link.specs.Row.{log};
+
+    ghost then = { λ v x w. w ≡ log v.pushes v.takes v.pushed (v.taken ++ x ∷ []) };
+}
+
+impl<M: RingInvariant> Lesson<Sheet, Log> for Taken<M> {
+    ghost use Rattle.std.specs.Prelude.{◌++◌};
+
+    ghost fact = { λ v pieces. M.holds (v.taken ++ pieces) v.taken };
+}
+
+type Row<M> = RuledArrayQueue<Sheet, Log, InOrder<M>>;
+
+/// The pushing end of a row.
+#[derive(Drop)]
+pub struct PieceOut<R: Wait, M: RingInvariant = NoInvariant> {
+    rt: R,
+    row: Arc<Row<M>, Global>,
+    pass: Pass<Sheet, Log>,
+    stock: Stock,
+}
+
+impl<R: Wait, M: RingInvariant> Model for PieceOut<R, M> {
+    ghost use Rattle.std.specs.Prelude.{◌≡◌, true, false, []};
+    ghost use Rattle.crossbeam_queue.specs.Passes as passes;
+    ghost use Rattle.thread_link.specs.Pieces.{EndState};
+
+    ghost Value = { EndState };
+
+    ghost use Rattle.thread_link.specs.Row.{log};
+
+    ghost view = { λ e. record { row = e.pass.table_id; pieces = (passes.view e.pass).pushed } };
+
+    ghost invariant = { λ e. passes.IsPassOf e.row.value e.pass × (passes.view e.pass ≡ log true false (passes.view e.pass).pushed []) };
+}
+
+/// The taking end of a row.
+#[derive(Drop)]
+pub struct PieceIn<R: Wait, M: RingInvariant = NoInvariant> {
+    rt: R,
+    row: Arc<Row<M>, Global>,
+    pass: Pass<Sheet, Log>,
+    returns: Returns,
+}
+
+impl<R: Wait, M: RingInvariant> Model for PieceIn<R, M> {
+    ghost use Rattle.std.specs.Prelude.{◌≡◌, true, false, []};
+    ghost use Rattle.crossbeam_queue.specs.Passes as passes;
+    ghost use Rattle.thread_link.specs.Pieces.{EndState};
+
+    ghost Value = { EndState };
+
+    ghost use Rattle.thread_link.specs.Row.{log};
+
+    ghost view = { λ e. record { row = e.pass.table_id; pieces = (passes.view e.pass).taken } };
+
+    ghost invariant = { λ e. passes.IsPassOf e.row.value e.pass × (passes.view e.pass ≡ log false true [] (passes.view e.pass).taken) };
+}
+
+/// Creates a row for `capacity` pieces, and returns its two ends.
+pub fn row<R: Wait + Copy>(
+    rt: R,
+    alloc: Global,
+    capacity: usize,
+) -> Result<(PieceOut<R>, PieceIn<R>), AllocError>
+    requires { 0 < capacity }
+    ensures ends { IfOk result (λ ends. (ends.0.pieces ≡ []) × (ends.1.pieces ≡ []) × (ends.0.row ≡ ends.1.row)) }
+    ensures room { IfOk result (λ ends. ends.0.row.slots ≡ capacity) }
+{
+    row_with_invariant::<R, NoInvariant>(rt, alloc, capacity)
+}
+
+/// Like `row`, with the invariant `M` kept.
+pub fn row_with_invariant<R: Wait + Copy, M: RingInvariant>(
+    rt: R,
+    alloc: Global,
+    capacity: usize,
+) -> Result<(PieceOut<R, M>, PieceIn<R, M>), AllocError>
+    requires some { 0 < capacity }
+    requires first { M.holds [] [] }
+    ensures ends { IfOk result (λ ends. (ends.0.pieces ≡ []) × (ends.1.pieces ≡ []) × (ends.0.row ≡ ends.1.row)) }
+    ensures room { IfOk result (λ ends. ends.0.row.slots ≡ capacity) }
+{
+    let (queue, mut pass) = Row::<M>::ruled(alloc, capacity)?;
+    let taker = queue.another::<Ends>(&mut pass);
+    let row = Arc::new(alloc, queue)?;
+    let other = Arc::try_clone(&row)?;
+    let (stock, returns) = Stock::new(alloc, capacity)?;
+    Ok((
+        PieceOut {
+            rt,
+            row,
+            pass,
+            stock,
+        },
+        PieceIn {
+            rt,
+            row: other,
+            pass: taker,
+            returns,
+        },
+    ))
+}
+
+impl<R: Wait, M: RingInvariant> PieceOut<R, M> {
+    /// Pushes a piece at the end of the row, or hands it back if the row was full at some moment of the call. Takes no
+    /// memory.
+    #[inline]
+    pub fn push(&mut self, piece: Piece) -> Result<(), Piece>
+        ensures pushed { OnOk result (self.new ≡ record self.old { pieces = self.old.pieces ++ piece ∷ [] }) }
+        ensures handed_back { IfErr result (λ back. back ≡ piece) }
+        ensures unchanged { OnErr result (self.new ≡ self.old) }
+        ensures full { OnErr result (WasFull M.holds self.old.row self.old.pieces) }
+    {
+        match self.push_bytes(piece.number(), piece.bytes()) {
+            true => Ok(()),
+            false => Err(piece),
+        }
+    }
+
+    /// Pushes a piece of connection `number` at the end of the row, and returns whether there was room. Takes no
+    /// memory.
+    #[inline]
+    pub(crate) fn push_bytes(&mut self, number: u32, bytes: &[u8]) -> bool
+        requires some { 0 < length bytes.now }
+        requires few { length bytes.now ≤ 1400 }
+        ensures pushed { OnTrue result (self.new ≡ record self.old {
+          pieces = self.old.pieces ++ record { number = number; bytes = bytes.now } ∷ [];
+        }) }
+        ensures unchanged { OnFalse result (self.new ≡ self.old) }
+        ensures full { OnFalse result (WasFull M.holds self.old.row self.old.pieces) }
+    {
+        let mut sheet = self.stock.take(&self.rt);
+        sheet.write(number, bytes);
+        match self
+            .row
+            .push_as::<Pushed<M>, R>(&self.rt, &mut self.pass, sheet)
+        {
+            Ok(()) => true,
+            Err(sheet) => {
+                self.stock.put_back(&self.rt, sheet);
+                false
+            }
+        }
+    }
+}
+
+impl<R: Wait, M: RingInvariant> PieceIn<R, M> {
+    /// Takes the first piece of the row, or nothing if the row was empty at some moment of the call. Takes no memory.
+    #[inline]
+    pub fn pop(&mut self) -> Option<Piece>
+        ensures first { MatchOption result (self.new ≡ self.old) (λ piece.
+            self.new ≡ record self.old { pieces = self.old.pieces ++ piece ∷ [] }) }
+        ensures empty { IfNone result (WasEmpty M.holds self.old.pieces) }
+    {
+        let sheet = self.pop_sheet()?;
+        let piece = sheet.piece().copied();
+        self.give_back(sheet);
+        Some(piece)
+    }
+
+    /// Takes the sheet of the first piece of the row, or nothing if the row was empty at some moment of the call. The
+    /// caller gives the sheet back once it has read it.
+    #[inline]
+    fn pop_sheet(&mut self) -> Option<Sheet>
+        ensures first { MatchOption result (self.new ≡ self.old) (λ piece.
+            self.new ≡ record self.old { pieces = self.old.pieces ++ piece ∷ [] }) }
+        ensures empty { IfNone result (WasEmpty M.holds self.old.pieces) }
+    {
+        self.row.pop_as::<Taken<M>, R>(&self.rt, &mut self.pass)
+    }
+
+    /// Takes the sheet of the first piece of connection `number` or a later one. Drops the pieces of earlier
+    /// connections before it.
+    #[inline]
+    pub(crate) fn pop_from(&mut self, number: u32) -> Option<Sheet>
+        ensures next { MatchOption result (IsDropped number self.old self.new [])
+            (λ piece. (number ≤ piece.number) × IsDropped number self.old self.new (piece ∷ [])) }
+        ensures empty { IfNone result (WasEmpty M.holds self.new.pieces) }
+    {
+        for _ in 0..u64::MAX {
+            let sheet = self.pop_sheet()?;
+            if sheet.piece().number() >= number {
+                return Some(sheet);
+            }
+            self.give_back(sheet);
+        }
+        // No run drops 2^64 - 1 pieces.
+        for _ in self.rt.forever() {}
+        unreachable!()
+    }
+
+    /// Gives a sheet that was read back to the pushing end.
+    #[inline]
+    pub(crate) fn give_back(&self, sheet: Sheet) {
+        self.returns.put(&self.rt, sheet);
+    }
+
+    /// Returns the runtime that its calls wait by.
+    pub(crate) fn runtime(&self) -> &R {
+        &self.rt
+    }
+}
+
+/// Returns the two ends of one row unchanged. The caller, who has both, then knows that the pieces taken begin the
+/// pieces pushed. Takes no memory.
+pub fn join_pieces<R: Wait, M: RingInvariant>(
+    outward: PieceOut<R, M>,
+    inward: PieceIn<R, M>,
+) -> (PieceOut<R, M>, PieceIn<R, M>)
+    requires { outward.row ≡ inward.row }
+    ensures ends { (result.0 ≡ outward) × (result.1 ≡ inward) }
+    ensures begins { (rest : List PieceState) × (inward.pieces ++ rest ≡ outward.pieces) }
+{
+    let PieceOut {
+        rt,
+        row,
+        mut pass,
+        stock,
+    } = outward;
+    let PieceIn {
+        rt: other_rt,
+        row: other,
+        pass: taker,
+        returns,
+    } = inward;
+    row.absorb::<Ends>(&mut pass, taker);
+    row.learn_as::<Whole>(&mut pass);
+    let taker = row.another::<Ends>(&mut pass);
+    (
+        PieceOut {
+            rt,
+            row,
+            pass,
+            stock,
+        },
+        PieceIn {
+            rt: other_rt,
+            row: other,
+            pass: taker,
+            returns,
+        },
+    )
+}
