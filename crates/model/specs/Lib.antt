@@ -21,6 +21,7 @@ pub mod Secondary
 pub mod SecondarySteps
 pub mod Settlement
 pub mod Status
+pub mod Stopped
 pub mod Stream
 pub mod TestRows
 pub mod Theorems

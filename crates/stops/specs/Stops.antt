@@ -1,24 +1,19 @@
 -- What is left when the nodes stop at any moment, and what the next session may open with. Nothing is proved here.
-use Rattle.std.specs.Prelude.{ℕ, ◌≡◌, ◌<◌, nat_lt, Bool, true, false, not, ◌&&◌, List, [], ◌∷◌, map, Option, Some, None, if◌then◌else◌, IsTrue}
+use Rattle.std.specs.Prelude.{ℕ, ◌≡◌, ◌<◌, nat_lt, Bool, true, false, ◌&&◌, List, [], ◌∷◌, map, Option, Some, None, if◌then◌else◌, IsTrue}
 use Rattle.std.specs.List.{AllByRecursion}
-use Rattle.blocks.specs.Identifiers.{lost}
 use Rattle.blocks.specs.declared.tuple.Tuple.{Tuple}
 use Rattle.model.specs.Contents.{BlockMap, IsDisk}
 use Rattle.model.specs.Headline.{Cover, IsGrounded, IsJoined, is_covered}
 use Rattle.model.specs.LocalRuns.{PrimaryEvent, primary_run, SecondaryEvent, secondary_run, ClosesToo, FailsToApply}
 use Rattle.model.specs.Pair.{same_block}
-use Rattle.model.specs.Primary.{PrimaryHistory, primary_connection, local_map}
+use Rattle.model.specs.Primary.{PrimaryHistory, local_map}
 use Rattle.model.specs.Secondary.{SecondaryHistory, secondary_map}
+pub use Rattle.model.specs.Stopped.{stopped_tuple}
 use Rattle.model.specs.Theorems.{Opening, IsSoundOpening, primary_at, secondary_at}
 
 -- the identifiers of a disk of which nothing is known
 abbrev pub unknown : Tuple
 unknown = record { current = 0; bitmap = 0; first_historical = 0; second_historical = 0 }
-
--- The identifiers that a close of the primary would leave now: those of a lost connection, if a stream stands. They are what the
--- metadata has at each moment.
-abbrev pub stopped_tuple : PrimaryHistory → Tuple
-stopped_tuple p = let c = primary_connection p in if not c.closed && c.begun then lost c.loss p.tuple else p.tuple
 
 -- these marks, on the primary's device
 abbrev pub known_at : PrimaryHistory → (ℕ → Bool) → ℕ → Bool
