@@ -31,20 +31,31 @@ class Misused(Exception):
 
 
 class Server:
-    """A server over two new images, which another program may start."""
+    """A server over two images, new ones if `image_bytes` is given, which another program may start. `said` are the lines that it wrote
+    before it listened."""
 
     def __init__(self, program, folder, image_bytes, *options, starter=()):
         self.images = [os.path.join(folder, name) for name in ("local.img", "peer.img")]
-        for image in self.images:
-            with open(image, "wb") as file:
-                file.truncate(image_bytes)
+        if image_bytes is not None:
+            for image in self.images:
+                with open(image, "wb") as file:
+                    file.truncate(image_bytes)
         self.port = free_port()
         self.child = subprocess.Popen(
             [*starter, program, "serve", "--local", self.images[0], "--peer", self.images[1], "--listen", f"127.0.0.1:{self.port}", *options],
             stdin=subprocess.PIPE, stdout=subprocess.PIPE, stderr=subprocess.PIPE, text=True)
+        self.said = []
         line = self.child.stderr.readline()
-        if "is an export of" not in line:
-            raise Failed(f"the server did not start: {line!r}")
+        while line and "is an export of" not in line:
+            self.said.append(line.rstrip("\n"))
+            line = self.child.stderr.readline()
+        if not line:
+            raise Failed(f"the server did not start: {self.said!r}")
+
+    # Kills the server.
+    def kill(self):
+        self.child.kill()
+        self.child.communicate()
 
     # Ends the server. Returns its status, its output and its messages.
     def end(self, seconds=SECONDS):

@@ -5,6 +5,7 @@
 mod accept;
 mod answer;
 mod client;
+mod housekeeper;
 mod job;
 mod keeper;
 mod limited_stream;

@@ -18,9 +18,6 @@ const QUEUE: usize = 256;
 /// writes, since a WRITE_ZEROES over the largest device has 8,192 ranges.
 const SESSION_WRITES: u64 = 1_000_000;
 
-/// The first word that is given to a connection: it is no identifier of a disk at the start.
-const FIRST_WORD: u64 = 2;
-
 /// The state that all threads of a server share, through all of its sessions.
 #[derive(Drop)]
 pub struct Service {
@@ -44,12 +41,14 @@ pub struct Service {
 }
 
 impl Service {
-    /// Creates the state of a server of a device of `blocks` blocks. `NoMemory` (7) if there is no memory.
+    /// Creates the state of a server of a device of `blocks` blocks, which gives its connections the words from `first_word` on: none of
+    /// them may be an identifier of a disk at the start. `NoMemory` (7) if there is no memory.
     pub fn new(
         alloc: Global,
         blocks: u32,
         protocol: Protocol,
         requests: Requests,
+        first_word: u64,
     ) -> Result<Service, Refusal>
         ensures { IfOk result (λ service. (service.protocol ≡ protocol) × (service.blocks ≡ blocks)) }
     {
@@ -66,7 +65,7 @@ impl Service {
             requests,
             stop: AtomicBool::new(false),
             clients: AtomicU32::new(0),
-            next_word: AtomicU64::new(FIRST_WORD),
+            next_word: AtomicU64::new(first_word),
             most_marks: AtomicU32::new(0),
         })
     }

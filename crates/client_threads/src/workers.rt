@@ -1,5 +1,6 @@
 //! The threads that do requests over one session.
 use crate::answer::answer;
+use crate::housekeeper::keep_house;
 use crate::keeper::keep;
 use crate::service::Service;
 use blocks::Refusal;
@@ -62,7 +63,28 @@ pub fn work<R: Runtime>(
             keep(rt, service, device, cut_every, &over)
         },
         || -> Result<Vec<Receipt>, Refusal> {
-            let done = work_if_kept(rt, service, device, &is_kept);
+            let done = work_beside_housekeeper(rt, service, device, &is_kept, &over);
+            over.store(true, Ordering::SeqCst);
+            done
+        },
+    );
+    done
+}
+
+// Does requests until the session ends, beside the thread that lets extents leave the metadata. Where that one cannot be started, they
+// stay, which costs a later start time and nothing else.
+fn work_beside_housekeeper<R: Runtime>(
+    rt: &R,
+    service: &Service,
+    device: &(impl Device + Sync),
+    is_kept: &AtomicBool,
+    over: &AtomicBool,
+) -> Result<Vec<Receipt>, Refusal> {
+    let (_, done) = thread::join(
+        rt,
+        || keep_house(rt, service, device, over),
+        || -> Result<Vec<Receipt>, Refusal> {
+            let done = work_if_kept(rt, service, device, is_kept);
             over.store(true, Ordering::SeqCst);
             done
         },
@@ -149,7 +171,7 @@ fn do_some<R: Wait + Clock>(
 // those of a write that failed while the link was up, are tried again over a new connection. If that does not help, as with a
 // disk that keeps failing, they stay marked. Where no block is marked, the peer's disk may only be slow, and a new connection
 // would not help it. A server that goes on has clients that wait meanwhile, so it gives this less time. Once a sync of the peer's
-// image has failed the link stays down, and there is nothing to wait for.
+// image or a metadata file has failed the link stays down, and there is nothing to wait for.
 fn wait_for_rest<R: Wait + Clock>(rt: &R, service: &Service, device: &impl Device) {
     let mut marks = u32::MAX;
     let mut applied = u32::MAX;
@@ -159,7 +181,10 @@ fn wait_for_rest<R: Wait + Clock>(rt: &R, service: &Service, device: &impl Devic
         // A closed link is quiet too. A close marks blocks before, so they are counted after.
         let is_quiet = device.is_quiet();
         let left = device.marks();
-        if (is_quiet && left == 0) || service.requests.is_peer_failed() {
+        if (is_quiet && left == 0)
+            || service.requests.is_peer_failed()
+            || device.is_metadata_broken()
+        {
             break;
         }
         // `applied` starts at 0 with each connection, which is no progress yet.

@@ -157,11 +157,12 @@ const SERVE_STATUSES: &str = "
 Exit statuses: 0 done; 1 an image cannot be opened or locked, is no regular file
 or block device, is of another length or is in use, the images cannot be
 compared, an address cannot be listened at, or memory, a thread or the output
-failed; or, at the end, blocks were not copied or differ without a mark, a sync
-has failed, or an image may have kept parts of a failed write, was replaced or
-has another length; 2 wrong usage; 3 a session was refused by another number
-than 7. Of several faults the last line tells the first, and a line before it
-each further one.
+failed, or a metadata file cannot be used; or, at the end, blocks were not copied
+or differ without a mark, a sync has failed, or an image may have kept parts of a
+failed write, was replaced or has another length; 2 wrong usage; 3 the images
+are given the wrong way round, or a session was refused by another number than
+7. Of several faults the last line tells the first, and a line before it each
+further one.
 ";
 
 /// What a run over sockets does.
@@ -183,8 +184,8 @@ then, R may also be 20 to 25, 34 or 35.
 
 /// What a server does, and what it prints.
 const SERVE: &str = "\
-If the images differ at the start, every block of --local is copied over --peer,
-unless --first assume-equal takes them as alike.
+Blocks that differ are copied from --local over --peer. Which these are the server
+knows from the metadata that it keeps beside each image, in IMAGE.metadata.
 
 The server mirrors two images of the same length, regular files or block
 devices, 4 KiB to 8 TiB in whole blocks of 4 KiB, and serves them as one export
@@ -202,13 +203,17 @@ plus up to 100 MB for each client with long requests under way. Both images are
 locked meanwhile: if another server or a run uses one, the server fails with
 status 1.
 
-With --first compare, the default, the server reads both images at the start,
-and says after each GiB how far it is. That takes long for large ones, and
-clients wait meanwhile. --first copy copies all of --local over --peer without
-a look. A copy of all has to be done before clients have written a million
-blocks, or it begins anew. --first assume-equal takes the images as alike, as
-two new files of zeros are: where they differ after all, nothing says so. Never
-use it after a kill, nor after an end with a status other than 0.
+The first start makes the metadata. With --first compare, the default, the server
+reads both images, says after each GiB how far it is, and copies the blocks that
+differ. That takes long for large images, and clients wait meanwhile. --first copy
+copies all of --local over --peer without a look. --first assume-equal takes the
+images as alike, as two new files of zeros are: where they differ after all,
+nothing says so, but drbdpair verify. Each later start copies what the metadata
+says may differ, and says how much that is before it listens. If the metadata
+cannot be used, all is copied, and a line says why. --local-metadata and
+--peer-metadata name other files for it; for block devices they have to. With
+--metadata none there is no metadata, each start is a first one, and if any
+blocks differ all are copied.
 
   drbdpair serve --local a.img --peer b.img
   nbdcopy disk.img nbd://127.0.0.1
@@ -225,11 +230,11 @@ that fails, a line on standard error says how many, and the status is 1; so it
 is if a flush or the end could not put an image on stable storage, if the images
 could not be compared, or if a file may have kept parts of a write that failed.
 If an image was replaced or has another length, the three lines do not come. The
-end of standard input does not end it, and a signal kills it. A write is
-answered under C, while the link is up, once both files have taken it; that a
-killed server leaves it in both is neither proved nor tested. After a power
-failure only what was flushed is certain. In the background it reads its orders
-from a pipe:
+end of standard input does not end it. A signal kills it, which loses nothing
+that was answered: the next start copies the extents of 4 MiB that were active.
+After a power failure only what was flushed is certain, and what was lost lies
+inside those extents, too. In the background the server reads its orders from a
+pipe:
 
   mkfifo orders
   drbdpair serve --local a.img --peer b.img <> orders &
@@ -344,6 +349,64 @@ impl Display for ServeHelp {
     fn fmt<W: fmt::Write>(&self, f: &mut fmt::Formatter<W>) -> fmt::Result {
         f.write_str(SERVE)?;
         f.write_str(SERVE_STATUSES)
+    }
+}
+
+/// What `create-md` does.
+pub(crate) struct CreateMdHelp;
+
+impl fmt::Display for CreateMdHelp {
+    fn fmt<W: fmt::Write>(&self, f: &mut fmt::Formatter<W>) -> fmt::Result {
+        f.write_str(
+            "\
+Makes the metadata of an image, in IMAGE.metadata or the file that is named. The
+next server over it takes nothing for granted: it copies all of its local image
+over the peer's. Metadata that is there stays, unless --force is given. A server
+makes metadata by itself, so this is for beginning anew.
+
+Exit statuses: 0 done; 1 there is metadata already, the image is in use or could
+not be opened, or a file or memory failed; 2 wrong usage.
+",
+        )
+    }
+}
+
+/// What `dump-md` does.
+pub(crate) struct DumpMdHelp;
+
+impl fmt::Display for DumpMdHelp {
+    fn fmt<W: fmt::Write>(&self, f: &mut fmt::Formatter<W>) -> fmt::Result {
+        f.write_str(
+            "\
+Shows what the metadata of an image says: the ids of its pair and its node, its
+generation identifiers in hexadecimal (current, bitmap, two historical), its
+role, whose secondary it is, whether it is consistent, whether its last server
+ended as it was told to and the image is unchanged since, how many extents of
+4 MiB are active, and how much the next server copies: what is marked, and all
+of the active extents.
+
+Exit statuses: 0 done; 1 there is no metadata or it is damaged, the image is in
+use or could not be opened, or a file or memory failed; 2 wrong usage.
+",
+        )
+    }
+}
+
+/// What `verify` does.
+pub(crate) struct VerifyHelp;
+
+impl fmt::Display for VerifyHelp {
+    fn fmt<W: fmt::Write>(&self, f: &mut fmt::Formatter<W>) -> fmt::Result {
+        f.write_str(
+            "\
+Compares both images of a mirror, of which it only reads, while no server uses
+them. It prints how many blocks differ, and how many of these the local image's
+metadata does not cover, so that a server would not copy them.
+
+Exit statuses: 0 each block that differs is covered; 1 one is not, an image is
+in use or could not be read, or memory failed; 2 wrong usage.
+",
+        )
     }
 }
 

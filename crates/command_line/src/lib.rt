@@ -4,6 +4,7 @@
 
 mod fault;
 mod help;
+mod images;
 mod order;
 mod run;
 mod serve;

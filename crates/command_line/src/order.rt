@@ -1,9 +1,9 @@
 //! The order that a command line gives.
 use crate::fault::UsageFault;
-use crate::help::{RunHelp, ScriptHelp, ServeHelp, TcpHelp};
-use crate::{run, serve};
+use crate::help::{CreateMdHelp, DumpMdHelp, RunHelp, ScriptHelp, ServeHelp, TcpHelp, VerifyHelp};
+use crate::{images, run, serve};
 use clap::{Arg, ArgMatches, Command, Error};
-use options::{Images, Path, RunOptions, ServeOptions};
+use options::{DumpFormat, ImageOptions, Images, Path, RunOptions, ServeOptions, VerifyOptions};
 use std::alloc::{AllocError, Global};
 use std::convert::AsStr;
 
@@ -19,6 +19,12 @@ pub enum Order<'a> {
     Run(RunOptions, Images<'a>),
     /// To serve two images to block clients.
     Serve(ServeOptions<'a>),
+    /// To make the metadata of an image, anew if that is forced.
+    CreateMd(ImageOptions<'a>, bool),
+    /// To show the metadata of an image.
+    DumpMd(ImageOptions<'a>, DumpFormat),
+    /// To compare both images of a mirror.
+    Verify(VerifyOptions<'a>),
 }
 
 /// The texts below the usages.
@@ -28,6 +34,9 @@ pub struct HelpTexts {
     run: String,
     tcp: String,
     serve: String,
+    create_md: String,
+    dump_md: String,
+    verify: String,
 }
 
 impl HelpTexts {
@@ -38,6 +47,9 @@ impl HelpTexts {
             run: format!(in alloc; "{RunHelp}")?,
             tcp: format!(in alloc; "{TcpHelp}")?,
             serve: format!(in alloc; "{ServeHelp}")?,
+            create_md: format!(in alloc; "{CreateMdHelp}")?,
+            dump_md: format!(in alloc; "{DumpMdHelp}")?,
+            verify: format!(in alloc; "{VerifyHelp}")?,
         })
     }
 }
@@ -80,6 +92,9 @@ fn matches_of<'a, S: AsStr>(
         .subcommand(run::run(alloc, helps.run.as_str())?)?
         .subcommand(run::tcp(alloc, helps.tcp.as_str())?)?
         .subcommand(serve::serve(alloc, helps.serve.as_str())?)?
+        .subcommand(images::create_md(alloc, helps.create_md.as_str())?)?
+        .subcommand(images::dump_md(alloc, helps.dump_md.as_str())?)?
+        .subcommand(images::verify(alloc, helps.verify.as_str())?)?
         .try_get_matches_from(words)
 }
 
@@ -88,6 +103,15 @@ fn order_of<'a>(matches: &ArgMatches<'a>, progress: bool) -> Result<Order<'a>, U
         Some(("run", words)) => run_of(words, Path::Link, progress),
         Some(("tcp", words)) => run_of(words, Path::Sockets, progress),
         Some(("serve", words)) => serve_of(words),
+        Some(("create-md", words)) => Ok(Order::CreateMd(
+            images::image_options(words),
+            words.get_flag("force"),
+        )),
+        Some(("dump-md", words)) => Ok(Order::DumpMd(
+            images::image_options(words),
+            images::format(words),
+        )),
+        Some(("verify", words)) => verify_of(words),
         Some((_, words)) => Ok(Order::Script(words.get_str("FILE").unwrap_or("-"))),
         None => Ok(Order::Script("-")),
     }
@@ -114,6 +138,15 @@ fn serve_of<'a>(words: &ArgMatches<'a>) -> Result<Order<'a>, UsageFault<'a>> {
         Some(options) => Ok(Order::Serve(options)),
         None => Err(UsageFault::Address(serve::listen(words))),
     }
+}
+
+// Returns the order for a comparison.
+fn verify_of<'a>(words: &ArgMatches<'a>) -> Result<Order<'a>, UsageFault<'a>> {
+    let options = images::verify_options(words);
+    if options.local.image == options.peer {
+        return Err(UsageFault::SharedImage(options.peer));
+    }
+    Ok(Order::Verify(options))
 }
 
 // Returns the image that is named for both disks, if there is one.

@@ -3,9 +3,12 @@ use crate::run::{number, option, protocol, protocol_option};
 use blocks::MAX_DEVICE_BLOCKS;
 use clap::builder::ValueParser;
 use clap::{Arg, ArgAction, ArgMatches, Command, Error};
-use options::{FirstStart, ServeOptions};
+use options::{FirstStart, MetadataFiles, ServeOptions};
 use std::alloc::Global;
 use std::net::SocketAddr;
+
+/// The values of `--metadata`.
+const METADATA: [&str; 2] = ["beside", "none"];
 
 /// The values of `--first`.
 const FIRSTS: [&str; 3] = ["compare", "copy", "assume-equal"];
@@ -16,6 +19,7 @@ const ABOUT: &str = "Serves two mirrored images to clients of the network block 
 pub(crate) fn serve<'a>(alloc: Global, help: &'a str) -> Result<Command<'a>, Error> {
     let command = Command::new(alloc, "serve").about(ABOUT).after_help(help);
     let command = with_device(alloc, command)?;
+    let command = with_metadata(alloc, command)?;
     let command = with_link(alloc, command)?;
     with_start_and_end(alloc, command)
 }
@@ -36,6 +40,34 @@ fn with_device<'a>(alloc: Global, command: Command<'a>) -> Result<Command<'a>, E
             "Blocks of the device, of 4 KiB; the local image's if none are given",
             1,
             i64::from(MAX_DEVICE_BLOCKS),
+        ))?;
+    Ok(command)
+}
+
+// Adds the options of the metadata.
+fn with_metadata<'a>(alloc: Global, command: Command<'a>) -> Result<Command<'a>, Error> {
+    let command = command
+        .arg(
+            option(
+                alloc,
+                "metadata",
+                "WHERE",
+                "Metadata beside each image, or none",
+            )
+            .value_parser(ValueParser::Names(&METADATA))
+            .default_value("beside"),
+        )?
+        .arg(option(
+            alloc,
+            "local-metadata",
+            "FILE",
+            "The metadata of the local image, if not beside it as IMAGE.metadata",
+        ))?
+        .arg(option(
+            alloc,
+            "peer-metadata",
+            "FILE",
+            "The metadata of the peer's image, if not beside it",
         ))?;
     Ok(command)
 }
@@ -70,7 +102,7 @@ fn with_start_and_end<'a>(alloc: Global, command: Command<'a>) -> Result<Command
                 alloc,
                 "first",
                 "HOW",
-                "At the start: compare the images, copy all of the local one, or assume-equal",
+                "Where there is no metadata: compare the images, copy all of the local one, or assume-equal",
             )
             .value_parser(ValueParser::Names(&FIRSTS))
             .default_value("compare"),
@@ -93,6 +125,7 @@ pub(crate) fn options<'a>(words: &ArgMatches<'a>) -> Option<ServeOptions<'a>> {
         local: words.get_str("local").unwrap_or(""),
         peer: words.get_str("peer").unwrap_or(""),
         blocks: words.get_one("blocks"),
+        metadata: metadata(words),
         protocol: protocol(words),
         listen,
         page_port: page_port(words),
@@ -105,6 +138,17 @@ pub(crate) fn options<'a>(words: &ArgMatches<'a>) -> Option<ServeOptions<'a>> {
 /// Returns where the server is to listen, as it was given.
 pub(crate) fn listen<'a>(words: &ArgMatches<'a>) -> &'a str {
     words.get_str("listen").unwrap_or("")
+}
+
+// Returns where the metadata of both images is.
+fn metadata<'a>(words: &ArgMatches<'a>) -> MetadataFiles<'a> {
+    match words.get_str("metadata") {
+        Some("none") => MetadataFiles::Unkept,
+        _ => MetadataFiles::Kept {
+            local: words.get_str("local-metadata"),
+            peer: words.get_str("peer-metadata"),
+        },
+    }
 }
 
 // Returns what is to be done with the images at the start.

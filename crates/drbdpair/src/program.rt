@@ -4,7 +4,7 @@ ghost use Rattle.std.specs.Prelude.{◌≤◌};
 use command_line::{HelpTexts, Order, parse};
 use numbers::Status;
 use script::script_on;
-use serving::AnyContents;
+use serving::{AnyBytes, AnyContents};
 use session_run::Host;
 use std::alloc::Global;
 use std::convert::AsStr;
@@ -16,7 +16,7 @@ use std::random::RandomSource;
 use std::rt::Files;
 
 /// Runs the program over its words. The first is its name; then come `script FILE`, where `-` stands for `input`, or
-/// `run`, `tcp` or `serve` with its options; no words at all mean `script -`. Returns the exit status. A long run shows
+/// `run`, `tcp`, `serve`, `create-md`, `dump-md` or `verify` with its options; no words at all mean `script -`. Returns the exit status. A long run shows
 /// its progress if `err` is a terminal.
 pub fn run_on<
     S: AsStr,
@@ -57,8 +57,17 @@ fn carry_out<
         Order::Script(file) => run_script(rt, *file, input, out, err),
         Order::Run(options, images) => session_run::run(rt, options, images, out, err).code(),
         Order::Serve(options) => {
-            serving::serve::<AnyContents, H, I, W, E>(rt, options, input, out, err).code()
+            serving::serve::<AnyContents, AnyBytes, AnyBytes, H, I, W, E>(
+                rt, options, input, out, err,
+            ).code()
         }
+        Order::CreateMd(options, is_forced) => {
+            image_commands::create_md(rt, options, *is_forced, out, err).code()
+        }
+        Order::DumpMd(options, format) => {
+            image_commands::dump_md(rt, options, *format, out, err).code()
+        }
+        Order::Verify(options) => image_commands::verify(rt, options, out, err).code(),
     }
 }
 

@@ -1,6 +1,6 @@
 //! A mirrored device, as its callers see it.
 ghost use Rattle.std.specs.Prelude.{◌≡◌, ◌⊎◌, ◌*◌, true, length, vec_len, IfErr, IfOk};
-ghost use Rattle.blocks.specs.declared.refusal.Refusal.TheVariants.{BadRange, NoMemory, ReadFault};
+ghost use Rattle.blocks.specs.declared.refusal.Refusal.TheVariants.{BadRange, LocalFault, NoMemory, ReadFault};
 ghost use Rattle.model.specs.CallRefusals.{begin_refuses, complete_refuses, reconnect_refuses, write_refuses};
 
 use crate::Begun;
@@ -43,13 +43,13 @@ pub trait Device {
     /// many writes begins them all, and then waits for one after another.
     ///
     /// It tries again on `Conflict` (2), `LogFull` (3) and `ActivityFull` (4), and returns every other refusal of
-    /// `Primary::submit`: `BadRange` (1), `JournalFull` (5), `StreamFull` (6), `NoMemory` (7), `NotConnected` (12). It
-    /// returns no other.
+    /// `Primary::submit`: `BadRange` (1), `JournalFull` (5), `StreamFull` (6), `NoMemory` (7), `NotConnected` (12); and
+    /// `LocalFault` (8) if the metadata's file failed, and does not have the write's extent. It returns no other.
     fn begin(&self, first: u64, bytes: Bytes) -> Result<Begun, Refusal>
         ensures range { IfOk result (λ begun. (begun.first ≡ first) × (begun.count * 4096 ≡ length bytes)) }
         ensures contents { IfOk result (λ begun. begun.contents ≡ bytes) }
         ensures accepted { IfOk result (λ begun. accepts begun.number first bytes) }
-        ensures refused { IfErr result (λ e. begin_refuses e ≡ true) };
+        ensures refused { IfErr result (λ e. (begin_refuses e ≡ true) ⊎ (e ≡ LocalFault)) };
 
     /// Waits until a write that was begun is completed as the protocol says, and returns its receipt.
     ///
@@ -107,4 +107,16 @@ pub trait Device {
 
     /// Returns how many items of its last connection the peer's disk has done. It starts anew with a connection.
     fn applied(&self) -> u32;
+
+    /// Prepares extents of the metadata to leave, `most` at the most: their marks are written, and the file is synced. Returns how many
+    /// are prepared now.
+    fn prepare_leaving(&self, most: u64) -> u64;
+
+    /// Takes out of the metadata each prepared extent to which no write was accepted since, and that has no unreleased write. The caller has
+    /// synced both disks since they were prepared. Returns how many left.
+    fn leave_prepared(&self) -> u64;
+
+    /// Returns whether a call of a metadata file has failed. Then the link is down and stays so, and writes to extents that are not
+    /// entered are refused.
+    fn is_metadata_broken(&self) -> bool;
 }

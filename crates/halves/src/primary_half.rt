@@ -1,6 +1,6 @@
 //! The primary's half.
 ghost use Rattle.std.specs.Prelude.{◌≡◌, ◌⊎◌, ◌*◌, true, vec_len, IfErr, IfOk};
-ghost use Rattle.blocks.specs.declared.refusal.Refusal.TheVariants.{BadRange, NoMemory, ReadFault};
+ghost use Rattle.blocks.specs.declared.refusal.Refusal.TheVariants.{BadRange, LocalFault, NoMemory, ReadFault};
 ghost use Rattle.model.specs.CallRefusals.{ack_in_refuses, reopen_refuses, send_refuses, submit_refuses, take_completed_refuses};
 
 use bell::Bell;
@@ -28,10 +28,11 @@ pub trait PrimaryHalf {
     /// `shows line`: the primary's status line was this one.
     ghost shows: { PrimaryLine → Type 0 };
 
-    /// Accepts a write and returns its number. Refuses with 1 to 7 and 12.
+    /// Accepts a write and returns its number. Refuses with 1 to 7 and 12, and with 8 if the metadata's file failed, and does not
+    /// have the write's extent.
     fn submit(&self, first: u64, bytes: &Bytes) -> Result<u64, Refusal>
         ensures accepted { IfOk result (λ number. accepts number first bytes.now) }
-        ensures refused { IfErr result (λ e. submit_refuses e ≡ true) };
+        ensures refused { IfErr result (λ e. (submit_refuses e ≡ true) ⊎ (e ≡ LocalFault)) };
 
     /// Returns the receipt of a write, once. Refuses with 8, 9 and 16.
     fn take_completed(&self, number: u64) -> Result<Receipt, Refusal>
@@ -85,6 +86,16 @@ pub trait PrimaryHalf {
     /// Returns what the node's status line shows.
     fn status(&self) -> PrimaryLine
         ensures shown { shows result };
+
+    /// Prepares extents of the metadata to leave, `most` at the most: `KeptPrimary::prepare_leaving`. Returns how many are prepared now.
+    fn prepare_leaving(&self, most: u64) -> u64;
+
+    /// Takes out of the metadata what is prepared: `KeptPrimary::leave_prepared`. The caller has synced both disks since it was prepared.
+    /// Returns how many extents left.
+    fn leave_prepared(&self) -> u64;
+
+    /// Returns whether a call of the metadata's file has failed.
+    fn is_metadata_broken(&self) -> bool;
 
     /// Returns the bell that the half's threads wait on.
     fn work_bell(&self) -> &Bell;

@@ -55,6 +55,9 @@ pub trait SecondaryHalf {
     fn status(&self) -> SecondaryLine
         ensures shown { shows result };
 
+    /// Returns whether a call of the metadata's file has failed.
+    fn is_metadata_broken(&self) -> bool;
+
     /// Returns the bell that the half's threads wait on.
     fn work_bell(&self) -> &Bell;
 

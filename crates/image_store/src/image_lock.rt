@@ -57,6 +57,11 @@ impl ImageLock {
         }
     }
 
+    /// Returns the locked file.
+    pub fn file(&self) -> &File {
+        &self.file
+    }
+
     /// Returns how many bytes the image has.
     pub fn image_bytes(&self) -> io::Result<u64> {
         image_bytes(&self.file)

@@ -1,6 +1,8 @@
 //! The primary under its lock.
-ghost use Rattle.std.specs.Prelude.{◌≡◌, true, false, slice_get, unwrap_or, IfErr, IfSome};
+ghost use Rattle.std.specs.Prelude.{◌≡◌, ◌⊎◌, true, false, is_some, slice_get, unwrap_or, IfErr, IfSome};
+ghost use Rattle.blocks.specs.declared.refusal.Refusal.TheVariants.{LocalFault};
 ghost use Rattle.endpoint.specs.Calls.{IsNewIn, IsNewOut};
+ghost use Rattle.kept_nodes.specs.Kept.{PrimaryIsKept};
 ghost use Rattle.locked_halves.specs.Shown.{HasReleased, PrimaryHasShown};
 ghost use Rattle.model.specs.CallRefusals.{local_open_refuses};
 ghost use Rattle.model.specs.Primary.{primary_opening};
@@ -12,7 +14,9 @@ use bitmap::Bitmap;
 use blocks::{ConnectionWords, Done, Refusal, Settings, Store, Tuple};
 use bytes::Bytes;
 use halves::PrimaryHalf;
+use kept_nodes::KeptPrimary;
 use link::{FrameIn, FrameOut};
+use metadata::{Metadata, StableFile};
 use node_lines::primary_line;
 use primary::{Primary, Receipt};
 use session_nodes::{Beginning, SessionPrimary};
@@ -21,7 +25,7 @@ use std::alloc::Global;
 use std::sync::{Mutex, Wait};
 use turns::{PrimaryRole, SentItems, Turn};
 
-/// The primary under its lock.
+/// The primary under its lock, with the metadata of its disk.
 #[derive(Drop)]
 pub struct LockedPrimary<
     R: Wait + Drop,
@@ -29,9 +33,10 @@ pub struct LockedPrimary<
     O: FrameOut + Drop,
     I: FrameIn + Drop,
     S: Store + Drop,
+    F: StableFile,
 > {
     rt: R,
-    node: Mutex<SessionPrimary<B, O, I, S>>,
+    node: Mutex<KeptPrimary<B, O, I, S, F>>,
     work_bell: Bell,
     writers_bell: Bell,
     pump_bell: Bell,
@@ -43,9 +48,10 @@ impl<
     O: FrameOut + Drop,
     I: FrameIn + Drop,
     S: Store + Drop,
-> LockedPrimary<R, B, O, I, S> {
-    /// Creates the half of a primary over this disk, opened over unused ends of a link under two words. The refusals
-    /// are those of `SessionPrimary::open`: 7, 15 and 33.
+    F: StableFile,
+> LockedPrimary<R, B, O, I, S, F> {
+    /// Creates the half of a primary over this disk, opened over unused ends of a link under two words, with the metadata of the disk,
+    /// if it has some. The refusals are those of `KeptPrimary::open`: 7, 15 and 33, and 8 if the metadata's file fails.
     pub fn open(
         rt: R,
         alloc: Global,
@@ -55,14 +61,15 @@ impl<
         marks: Bitmap,
         link: (O, I),
         words: ConnectionWords,
-    ) -> Result<LockedPrimary<R, B, O, I, S>, Refusal>
+        metadata: Option<Metadata<F>>,
+    ) -> Result<LockedPrimary<R, B, O, I, S, F>, Refusal>
         requires outward { IsNewOut (O.state link.0) }
         requires inward { IsNewIn (I.state link.1) }
         requires began { IfSome B.opening (λ opening. primary_opening settings (slice_get (S.contents store)) tuple (λ block. unwrap_or (slice_get marks block) false)
             ≡ primary_at opening) }
-        ensures refused { IfErr result (λ e. local_open_refuses e ≡ true) }
+        ensures refused { IfErr result (λ e. (local_open_refuses e ≡ true) ⊎ ((e ≡ LocalFault) × (is_some metadata ≡ true))) }
     {
-        match SessionPrimary::open(alloc, settings, store, tuple, marks, link, words) {
+        match KeptPrimary::open(alloc, settings, store, tuple, marks, link, words, metadata) {
             Ok(node) => Ok(LockedPrimary {
                 rt,
                 node: Mutex::new(node),
@@ -74,11 +81,13 @@ impl<
         }
     }
 
-    /// Takes the node out of its lock. It has a history that began as the half did, and whose connections all used its ends.
-    pub fn into_node(self) -> Primary<O, I, S>
-        ensures { PrimaryIsHad B.opening result }
+    /// Takes the node out of its lock, with its metadata. It has a history that began as the half did, and whose connections all used
+    /// its ends, and of which the metadata says what a stop has to leave.
+    pub fn into_parts(self) -> (Primary<O, I, S>, Option<Metadata<F>>)
+        ensures had { PrimaryIsHad B.opening result.0 }
+        ensures kept { PrimaryIsKept B.opening result.0 result.1 }
     {
-        self.node.into_inner().into_node()
+        self.node.into_inner().into_parts()
     }
 }
 
@@ -88,7 +97,8 @@ impl<
     O: FrameOut + Drop,
     I: FrameIn + Drop,
     S: Store + Drop,
-> PrimaryHalf for LockedPrimary<R, B, O, I, S> {
+    F: StableFile,
+> PrimaryHalf for LockedPrimary<R, B, O, I, S, F> {
     ghost use Rattle.locked_halves.specs.Shown.{HasReleased, PrimaryHasShown};
     ghost use Rattle.std.specs.Prelude.{IsTrue};
     ghost use Rattle.session_nodes.specs.Primaries.{HasAccepted, HasHeld};
@@ -146,27 +156,39 @@ impl<
     }
 
     fn has_unfinished(&self) -> bool {
-        self.node.lock(&self.rt).has_unfinished()
+        self.node.lock(&self.rt).node().has_unfinished()
     }
 
     fn sent_if_quiet(&self) -> Option<SentItems> {
-        self.node.lock(&self.rt).sent_if_quiet()
+        self.node.lock(&self.rt).node().sent_if_quiet()
     }
 
     fn accepted(&self) -> u64 {
-        self.node.lock(&self.rt).node().accepted()
+        self.node.lock(&self.rt).node().node().accepted()
     }
 
     fn released(&self) -> u64 {
-        released_of(&self.node.lock(&self.rt))
+        released_of(self.node.lock(&self.rt).node())
     }
 
     fn marks(&self) -> u32 {
-        self.node.lock(&self.rt).node().marks()
+        self.node.lock(&self.rt).node().node().marks()
     }
 
     fn status(&self) -> PrimaryLine {
-        line_of(&self.node.lock(&self.rt))
+        line_of(self.node.lock(&self.rt).node())
+    }
+
+    fn prepare_leaving(&self, most: u64) -> u64 {
+        self.node.lock(&self.rt).prepare_leaving(most)
+    }
+
+    fn leave_prepared(&self) -> u64 {
+        self.node.lock(&self.rt).leave_prepared()
+    }
+
+    fn is_metadata_broken(&self) -> bool {
+        self.node.lock(&self.rt).is_broken()
     }
 
     fn work_bell(&self) -> &Bell {

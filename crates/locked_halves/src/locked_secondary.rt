@@ -1,6 +1,8 @@
 //! The secondary under its lock.
-ghost use Rattle.std.specs.Prelude.{◌≡◌, true, slice_get, IfErr, IfSome};
+ghost use Rattle.std.specs.Prelude.{◌≡◌, ◌⊎◌, true, is_some, slice_get, IfErr, IfSome};
+ghost use Rattle.blocks.specs.declared.refusal.Refusal.TheVariants.{LocalFault};
 ghost use Rattle.endpoint.specs.Calls.{IsNewIn, IsNewOut};
+ghost use Rattle.kept_nodes.specs.Kept.{SecondaryIsKept};
 ghost use Rattle.locked_halves.specs.Shown.{SecondaryHasShown};
 ghost use Rattle.model.specs.CallRefusals.{peer_open_refuses};
 ghost use Rattle.model.specs.Secondary.{secondary_opening};
@@ -10,7 +12,9 @@ ghost use Rattle.session_nodes.specs.Secondaries.{SecondaryIsHad};
 use bell::Bell;
 use blocks::{Done, Refusal, Settings, Store, Tuple};
 use halves::SecondaryHalf;
+use kept_nodes::KeptSecondary;
 use link::{FrameIn, FrameOut};
+use metadata::{Metadata, StableFile};
 use node_lines::secondary_line;
 use secondary::Secondary;
 use session_nodes::{Beginning, SessionSecondary};
@@ -19,7 +23,7 @@ use std::alloc::Global;
 use std::sync::{Mutex, Wait};
 use turns::{SecondaryRole, SentItems, Turn};
 
-/// The secondary under its lock.
+/// The secondary under its lock, with the metadata of its disk.
 #[derive(Drop)]
 pub struct LockedSecondary<
     R: Wait + Drop,
@@ -27,9 +31,10 @@ pub struct LockedSecondary<
     O: FrameOut + Drop,
     I: FrameIn + Drop,
     S: Store + Drop,
+    F: StableFile,
 > {
     rt: R,
-    node: Mutex<SessionSecondary<B, O, I, S>>,
+    node: Mutex<KeptSecondary<B, O, I, S, F>>,
     work_bell: Bell,
     pump_bell: Bell,
 }
@@ -40,9 +45,11 @@ impl<
     O: FrameOut + Drop,
     I: FrameIn + Drop,
     S: Store + Drop,
-> LockedSecondary<R, B, O, I, S> {
-    /// Creates the half of a secondary over this disk, opened over unused ends of a link. The refusals are those of
-    /// `SessionSecondary::open`: 7 and 15.
+    F: StableFile,
+> LockedSecondary<R, B, O, I, S, F> {
+    /// Creates the half of a secondary over this disk, opened over unused ends of a link, with the metadata of the disk, if it has some, and
+    /// whether the disk is doubted.
+    /// The refusals are those of `KeptSecondary::open`: 7 and 15, and 8 if the metadata's file fails.
     pub fn open(
         rt: R,
         alloc: Global,
@@ -50,13 +57,15 @@ impl<
         store: S,
         tuple: Tuple,
         link: (O, I),
-    ) -> Result<LockedSecondary<R, B, O, I, S>, Refusal>
+        metadata: Option<Metadata<F>>,
+        is_doubted: bool,
+    ) -> Result<LockedSecondary<R, B, O, I, S, F>, Refusal>
         requires outward { IsNewOut (O.state link.0) }
         requires inward { IsNewIn (I.state link.1) }
         requires began { IfSome B.opening (λ opening. secondary_opening settings (slice_get (S.contents store)) tuple ≡ secondary_at opening) }
-        ensures refused { IfErr result (λ e. peer_open_refuses e ≡ true) }
+        ensures refused { IfErr result (λ e. (peer_open_refuses e ≡ true) ⊎ ((e ≡ LocalFault) × (is_some metadata ≡ true))) }
     {
-        match SessionSecondary::open(alloc, settings, store, tuple, link) {
+        match KeptSecondary::open(alloc, settings, store, tuple, link, metadata, is_doubted) {
             Ok(node) => Ok(LockedSecondary {
                 rt,
                 node: Mutex::new(node),
@@ -67,11 +76,13 @@ impl<
         }
     }
 
-    /// Takes the node out of its lock. It has a history that began as the half did, and whose connections all used its ends.
-    pub fn into_node(self) -> Secondary<O, I, S>
-        ensures { SecondaryIsHad B.opening result }
+    /// Takes the node out of its lock, with its metadata, and whether its disk is still doubted. It has a history that began as the half did, and whose connections all used
+    /// its ends, and of which the metadata says what a stop has to leave.
+    pub fn into_parts(self) -> (Secondary<O, I, S>, Option<Metadata<F>>, bool)
+        ensures had { SecondaryIsHad B.opening result.0 }
+        ensures kept { SecondaryIsKept B.opening result.0 result.1 result.2 }
     {
-        self.node.into_inner().into_node()
+        self.node.into_inner().into_parts()
     }
 }
 
@@ -81,7 +92,8 @@ impl<
     O: FrameOut + Drop,
     I: FrameIn + Drop,
     S: Store + Drop,
-> SecondaryHalf for LockedSecondary<R, B, O, I, S> {
+    F: StableFile,
+> SecondaryHalf for LockedSecondary<R, B, O, I, S, F> {
     ghost use Rattle.locked_halves.specs.Shown.{SecondaryHasShown};
 
     ghost shows = { SecondaryHasShown B.opening };
@@ -115,19 +127,23 @@ impl<
     }
 
     fn has_taken(&self, sent: SentItems) -> bool {
-        self.node.lock(&self.rt).has_taken(sent)
+        self.node.lock(&self.rt).node().has_taken(sent)
     }
 
     fn has_unfinished(&self) -> bool {
-        self.node.lock(&self.rt).has_unfinished()
+        self.node.lock(&self.rt).node().has_unfinished()
     }
 
     fn applied(&self) -> u32 {
-        self.node.lock(&self.rt).node().items_applied()
+        self.node.lock(&self.rt).node().node().items_applied()
     }
 
     fn status(&self) -> SecondaryLine {
-        line_of(&self.node.lock(&self.rt))
+        line_of(self.node.lock(&self.rt).node())
+    }
+
+    fn is_metadata_broken(&self) -> bool {
+        self.node.lock(&self.rt).is_broken()
     }
 
     fn work_bell(&self) -> &Bell {

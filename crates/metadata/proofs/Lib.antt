@@ -3,6 +3,7 @@ pub mod Moments
 pub mod Places
 pub mod Kept
 pub mod Marks
+pub mod Entered
 pub mod WordLemmas
 pub mod Sealed
 pub mod SlotLemmas

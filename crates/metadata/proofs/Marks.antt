@@ -6,10 +6,10 @@ use Rattle.metadata.specs.Says.{marked_in}
 use Rattle.metadata.specs.Steps.{IsIn}
 
 -- a part of a list of one number has it everywhere
-part-length : (m n b : ℕ) → n ≤ m → length (take n (replicate m b)) ≡ n
+pub part-length : (m n b : ℕ) → n ≤ m → length (take n (replicate m b)) ≡ n
 part-length m n b few = omega (arith, length-take n (replicate m b), length-replicate {A = ℕ} m b, few)
 
-part-each : (m n b : ℕ) → n ≤ m → (i : ℕ) → i < n → slice_index (take n (replicate m b)) i ≡ b
+pub part-each : (m n b : ℕ) → n ≤ m → (i : ℕ) → i < n → slice_index (take n (replicate m b)) i ≡ b
 part-each m n b few i low = get_or-take n (replicate m b) i 0 low ∙ get_or-replicate m i b 0 (omega arith)
 
 -- blocks whose marks were written with one number

@@ -2,6 +2,7 @@
 use Rattle.std.specs.Prelude.{ℕ, ◌≡◌, ◌≢◌, ◌⊎◌, ◌+◌, ◌==◌, ◌<◌, ◌≤◌, Bool, true, false, not, List, length, take, slice_index, Option, None, Ok, Err}
 use Rattle.blocks.specs.declared.block.TheConstants.{MAX_DEVICE_BLOCKS}
 use Rattle.metadata.specs.declared.layout.TheConstants.{MARKS_AT, MAX_EXTENTS, EXTENTS_AT, SELECTOR_AT}
+use Rattle.metadata.specs.declared.metadata.TheConstants.{MAX_MARKS}
 use Rattle.metadata.specs.declared.header.Header.{Header}
 use Rattle.metadata.specs.declared.identifiers.Identifiers.{Identifiers}
 use Rattle.metadata.specs.declared.fault.FileFault.{FileFault}
@@ -58,6 +59,19 @@ pub record WithoutEntry (extent : ℕ) (old new : List ℕ) : Type 0 where
   pub size : length new ≡ length old
   pub here : is_entered new extent ≡ false
   pub others : (x : ℕ) → x ≢ extent → is_entered new x ≡ is_entered old x
+
+-- each extent from this one on and before the end is entered, or each is not
+abbrev pub EachEntered : List ℕ → Bool → ℕ → ℕ → Type 0
+EachEntered entries entered from end = (x : ℕ) → from ≤ x → x < end → is_entered entries x ≡ entered
+
+-- extents that are not entered, as many as one write enters, behind others that are
+pub record IsMissing (entries : List ℕ) (from first count : ℕ) : Type 0 where
+  pub behind : from ≤ first
+  pub some : 0 < count
+  pub few : count ≤ MAX_MARKS
+  pub inside : first + count ≤ length entries
+  pub skipped : EachEntered entries true from first
+  pub missing : EachEntered entries false first (first + count)
 
 -- The file is one that an open takes and says what is in memory, and so is whatever a crash leaves, but that it may have more
 -- extents entered.

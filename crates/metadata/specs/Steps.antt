@@ -1,8 +1,9 @@
 -- What each call changes of what a file says: nothing but what is named here.
-use Rattle.std.specs.Prelude.{ℕ, ◌≡◌, ◌≢◌, ◌⊎◌, ◌+◌, ◌<◌, ◌≤◌, List, length, Ok}
+use Rattle.std.specs.Prelude.{ℕ, ◌≡◌, ◌≢◌, ◌⊎◌, ◌+◌, ◌<◌, ◌≤◌, true, false, List, length, Ok}
 use Rattle.metadata.specs.declared.layout.TheConstants.{MAX_EXTENTS, MARKS_AT}
 use Rattle.metadata.specs.declared.identifiers.Identifiers.{Identifiers}
 use Rattle.metadata.specs.Says.{header_bytes, selected_in, saved_bytes, entered_in, marked_in, opened_identifiers}
+use Rattle.metadata.specs.State.{is_entered}
 
 -- the same length, header and identifiers, and so the same header and identifiers for an open
 pub record SameFront (old new : List ℕ) : Type 0 where
@@ -24,6 +25,23 @@ pub record OnlyEntry (extent : ℕ) (old new : List ℕ) : Type 0 where
   pub front : SameFront old new
   pub others : (x : ℕ) → x < MAX_EXTENTS → x ≢ extent → entered_in new x ≡ entered_in old x
   pub marks : SameMarks old new
+
+-- the same header, identifiers and marks, and each extent that was entered still is
+pub record MoreEntries (old new : List ℕ) : Type 0 where
+  pub front : SameFront old new
+  pub entries : (x : ℕ) → x < MAX_EXTENTS → entered_in old x ≡ true → entered_in new x ≡ true
+  pub marks : SameMarks old new
+
+-- the same header, identifiers and marks, and each extent that is entered in memory stays as it was in the file
+pub record MayEnter (memory old new : List ℕ) : Type 0 where
+  pub front : SameFront old new
+  pub entries : (x : ℕ) → x < MAX_EXTENTS → is_entered memory x ≡ true → entered_in new x ≡ entered_in old x
+  pub marks : SameMarks old new
+
+-- more extents are entered, and so is each before the end that is not entered in memory
+pub record EntersMissing (memory : List ℕ) (end : ℕ) (old new : List ℕ) : Type 0 where
+  pub more : MoreEntries old new
+  pub missing : (x : ℕ) → x < end → is_entered memory x ≡ false → entered_in new x ≡ true
 
 -- only the marks of these blocks may have changed
 pub record OnlyMarks (first count : ℕ) (old new : List ℕ) : Type 0 where

@@ -3,6 +3,7 @@
 
 mod codec;
 mod creation;
+mod enter_all;
 mod fault;
 mod header;
 mod identifiers;

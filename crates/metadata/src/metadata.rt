@@ -1,5 +1,6 @@
 //! The metadata of one disk.
 ghost use Rattle.std.specs.Prelude.{◌≡◌, ◌⊎◌, ◌+◌, ◌<◌, ◌≤◌, ℕ, List, true, false, Ok, Err, length, slice_set, drop, take, IsTrue, IsOk, OnOk, OnErr};
+ghost use Rattle.blocks.specs.declared.block.TheConstants.{MAX_DEVICE_BLOCKS};
 ghost use Rattle.metadata.specs.declared.fault.MetadataFault.TheVariants.{Broken};
 ghost use Rattle.metadata.specs.declared.layout.TheConstants.{MARKS_AT};
 ghost use Rattle.metadata.specs.Calls.{Holds, Leaves, Only};
@@ -15,10 +16,11 @@ use crate::{Header, Identifiers, MetadataFault, StableFile};
 use blocks::{Block, Extent};
 use std::marker::Model;
 
-/// The most blocks that one call marks or unmarks: one write of the file.
+/// The most blocks that one call marks or unmarks, and the most extents that one write enters: one write of the file.
 pub const MAX_MARKS: u64 = 4096;
 
-const ONES: [u8; MAX_MARKS as usize] = [1; MAX_MARKS as usize];
+/// A byte for each block or extent that one write marks or enters.
+pub(crate) const ONES: [u8; MAX_MARKS as usize] = [1; MAX_MARKS as usize];
 
 const ZEROS: [u8; MAX_MARKS as usize] = [0; MAX_MARKS as usize];
 
@@ -73,6 +75,8 @@ impl<F: StableFile> Metadata<F> {
     /// Returns whether a call of the file has failed, so that each further call is refused.
     pub fn is_broken(&self) -> bool
         ensures broken { result ≡ self.now.is_broken }
+        ensures sized { length self.now.entries ≡ extents_of self.now.header.blocks }
+        ensures few { self.now.header.blocks ≤ MAX_DEVICE_BLOCKS }
         ensures stands { result ≡ false → IsTrue (F.faithful self.now.file)
             → Stands self.now.header self.now.identifiers self.now.entries (F.seen self.now.file) (F.may_leave self.now.file) }
     {
@@ -117,6 +121,7 @@ impl<F: StableFile> Metadata<F> {
         ensures refused { self.old.is_broken ≡ true → (result ≡ Err Broken) × (self.new ≡ self.old) }
         ensures breaks { OnErr result (self.new ≡ record self.old { file = self.new.file; is_broken = true }) }
         ensures cause { OnErr result ((self.old.is_broken ≡ true) ⊎ (F.faults self.old.file < F.faults self.new.file)) }
+        ensures falls { IsTrue (F.faithful self.new.file) → IsTrue (F.faithful self.old.file) }
 
         ensures already { self.old.is_broken ≡ false → is_entered self.old.entries extent.0 ≡ true → IsOk result × (self.new ≡ self.old) }
         ensures memory { OnOk result (self.new ≡ record self.old { file = self.new.file; entries = self.new.entries }) }
@@ -142,16 +147,18 @@ impl<F: StableFile> Metadata<F> {
         Ok(())
     }
 
-    /// Takes the extent out, with one write and no sync. Until a sync a crash may leave it entered.
+    /// Takes the extent out, with one write and no sync. Until a sync a crash may leave it entered. After a failed call the extent
+    /// counts as left, unless the call was refused as `Broken`.
     pub fn leave(&mut self, extent: Extent) -> Result<(), MetadataFault>
         requires inside { extent.0 < length self.old.entries }
 
         ensures refused { self.old.is_broken ≡ true → (result ≡ Err Broken) × (self.new ≡ self.old) }
-        ensures breaks { OnErr result (self.new ≡ record self.old { file = self.new.file; is_broken = true }) }
+        ensures breaks { OnErr result ((self.old.is_broken ≡ true → ⊥) → self.new ≡ record self.old { file = self.new.file; entries = self.new.entries; is_broken = true }) }
         ensures cause { OnErr result ((self.old.is_broken ≡ true) ⊎ (F.faults self.old.file < F.faults self.new.file)) }
+        ensures falls { IsTrue (F.faithful self.new.file) → IsTrue (F.faithful self.old.file) }
 
         ensures memory { OnOk result (self.new ≡ record self.old { file = self.new.file; entries = self.new.entries }) }
-        ensures entry { OnOk result (WithoutEntry extent.0 self.old.entries self.new.entries) }
+        ensures entry { self.old.is_broken ≡ false → WithoutEntry extent.0 self.old.entries self.new.entries }
         ensures says { OnOk result (IsTrue (F.faithful self.new.file) → OnlyEntry extent.0 (F.seen self.old.file) (F.seen self.new.file)) }
         ensures left { OnOk result (IsTrue (F.faithful self.new.file) → entered_in (F.seen self.new.file) extent.0 ≡ false) }
         ensures any_moment { self.old.is_broken ≡ false → IsTrue (F.faithful self.new.file)
@@ -161,8 +168,9 @@ impl<F: StableFile> Metadata<F> {
             return Err(MetadataFault::Broken);
         }
         self.is_broken = true;
-        self.file.write_at(EXTENTS_AT + extent.0, &[0])?;
+        // Before the write: if it fails, the file may have the extent entered or not.
         self.entries[extent.0 as usize] = 0;
+        self.file.write_at(EXTENTS_AT + extent.0, &[0])?;
         self.is_broken = false;
         Ok(())
     }
@@ -175,6 +183,7 @@ impl<F: StableFile> Metadata<F> {
         ensures refused { self.old.is_broken ≡ true → (result ≡ Err Broken) × (self.new ≡ self.old) }
         ensures breaks { OnErr result (self.new ≡ record self.old { file = self.new.file; is_broken = true }) }
         ensures cause { OnErr result ((self.old.is_broken ≡ true) ⊎ (F.faults self.old.file < F.faults self.new.file)) }
+        ensures falls { IsTrue (F.faithful self.new.file) → IsTrue (F.faithful self.old.file) }
 
         ensures memory { OnOk result (self.new ≡ record self.old { file = self.new.file }) }
         ensures says { OnOk result (IsTrue (F.faithful self.new.file) → OnlyMarks first.0 count (F.seen self.old.file) (F.seen self.new.file)) }
@@ -193,6 +202,7 @@ impl<F: StableFile> Metadata<F> {
         ensures refused { self.old.is_broken ≡ true → (result ≡ Err Broken) × (self.new ≡ self.old) }
         ensures breaks { OnErr result (self.new ≡ record self.old { file = self.new.file; is_broken = true }) }
         ensures cause { OnErr result ((self.old.is_broken ≡ true) ⊎ (F.faults self.old.file < F.faults self.new.file)) }
+        ensures falls { IsTrue (F.faithful self.new.file) → IsTrue (F.faithful self.old.file) }
 
         ensures memory { OnOk result (self.new ≡ record self.old { file = self.new.file }) }
         ensures says { OnOk result (IsTrue (F.faithful self.new.file) → OnlyMarks first.0 count (F.seen self.old.file) (F.seen self.new.file)) }
@@ -210,6 +220,7 @@ impl<F: StableFile> Metadata<F> {
         ensures refused { self.old.is_broken ≡ true → (result ≡ Err Broken) × (self.new ≡ self.old) }
         ensures breaks { OnErr result (self.new ≡ record self.old { file = self.new.file; is_broken = true }) }
         ensures cause { OnErr result ((self.old.is_broken ≡ true) ⊎ (F.faults self.old.file < F.faults self.new.file)) }
+        ensures falls { IsTrue (F.faithful self.new.file) → IsTrue (F.faithful self.old.file) }
 
         ensures memory { OnOk result (self.new ≡ record self.old { file = self.new.file }) }
         ensures says { OnOk result (IsTrue (F.faithful self.new.file) → OnlyMarks first.0 (length bytes.now) (F.seen self.old.file) (F.seen self.new.file)) }
@@ -235,6 +246,7 @@ impl<F: StableFile> Metadata<F> {
         ensures refused { self.old.is_broken ≡ true → (result ≡ Err Broken) × (self.new ≡ self.old) }
         ensures breaks { OnErr result (self.new ≡ record self.old { file = self.new.file; is_broken = true }) }
         ensures cause { OnErr result ((self.old.is_broken ≡ true) ⊎ (F.faults self.old.file < F.faults self.new.file)) }
+        ensures falls { IsTrue (F.faithful self.new.file) → IsTrue (F.faithful self.old.file) }
 
         ensures memory { OnOk result (self.new ≡ record self.old { file = self.new.file }) }
         ensures seen { F.seen self.new.file ≡ F.seen self.old.file }
@@ -257,6 +269,7 @@ impl<F: StableFile> Metadata<F> {
         ensures refused { self.old.is_broken ≡ true → (result ≡ Err Broken) × (self.new ≡ self.old) }
         ensures breaks { OnErr result (self.new ≡ record self.old { file = self.new.file; is_broken = true }) }
         ensures cause { OnErr result ((self.old.is_broken ≡ true) ⊎ (F.faults self.old.file < F.faults self.new.file)) }
+        ensures falls { IsTrue (F.faithful self.new.file) → IsTrue (F.faithful self.old.file) }
 
         ensures memory { OnOk result (self.new ≡ record self.old { file = self.new.file }) }
         ensures seen { F.seen self.new.file ≡ F.seen self.old.file }
@@ -278,6 +291,7 @@ impl<F: StableFile> Metadata<F> {
         ensures refused { self.old.is_broken ≡ true → (result ≡ Err Broken) × (self.new ≡ self.old) }
         ensures breaks { OnErr result (self.new ≡ record self.old { file = self.new.file; is_broken = true }) }
         ensures cause { OnErr result ((self.old.is_broken ≡ true) ⊎ (F.faults self.old.file < F.faults self.new.file)) }
+        ensures falls { IsTrue (F.faithful self.new.file) → IsTrue (F.faithful self.old.file) }
 
         ensures memory { OnOk result (self.new ≡ record self.old { file = self.new.file; identifiers = identifiers.now }) }
         ensures says { OnOk result (IsTrue (F.faithful self.new.file) → OnlyIdentifiers identifiers.now (F.seen self.old.file) (F.seen self.new.file)) }

@@ -11,6 +11,9 @@ type File = MetadataFile<MemoryFile, AnyBytes>;
 
 const BLOCKS: u64 = 2000;
 
+/// The blocks of a device with three extents more than one write enters.
+const WIDE_BLOCKS: u64 = 4_197_376;
+
 /// The calls of an open before the first call of anything else.
 const OPEN_CALLS: u64 = 6;
 
@@ -77,7 +80,7 @@ fn file_of(rt: &impl Abort, alloc: Global, bytes: &SparseBytes, trouble: Trouble
 }
 
 fn opened(rt: &impl Abort, alloc: Global, bytes: &SparseBytes, trouble: Trouble) -> Metadata<File> {
-    match open(alloc, file_of(rt, alloc, bytes, trouble), Some(BLOCKS)) {
+    match open(alloc, file_of(rt, alloc, bytes, trouble), None) {
         Ok(metadata) => metadata,
         Err((_fault, _file)) => panic!(rt; "the file is refused"),
     }
@@ -125,6 +128,7 @@ fn marks(rt: &impl Abort, metadata: &mut Metadata<File>) -> [u8; 8] {
 
 #[derive(Clone, Copy, Debug, PartialEq, Eq)]
 enum Call {
+    EnterAll,
     Enter,
     Leave,
     Mark,
@@ -133,7 +137,8 @@ enum Call {
     Save,
 }
 
-const CALLS: [Call; 6] = [
+const CALLS: [Call; 7] = [
+    Call::EnterAll,
     Call::Enter,
     Call::Leave,
     Call::Mark,
@@ -150,11 +155,12 @@ const READINGS: [AfterCrash; 5] = [
     AfterCrash::Torn(255),
 ];
 
-// Enters extent 1, leaves extent 0, marks the blocks 4 and 5, unmarks the blocks 3 and 4, syncs, or saves the second identifiers.
+// Enters all extents, enters extent 1, leaves extent 0, marks the blocks 4 and 5, unmarks the blocks 3 and 4, syncs, or saves the second identifiers.
 fn run(rt: &impl Abort, metadata: &mut Metadata<File>, call: Call) -> Result<(), MetadataFault> {
     assert!(rt; metadata.extents() == 2);
     assert!(rt; metadata.header().blocks == BLOCKS);
     match call {
+        Call::EnterAll => metadata.enter_all(),
         Call::Enter => metadata.enter(Extent(1)),
         Call::Leave => metadata.leave(Extent(0)),
         Call::Mark => metadata.mark(Block(4), 2),
@@ -176,6 +182,32 @@ fn used(rt: &impl Abort, alloc: Global) -> SparseBytes {
     metadata.mark(Block(6), 1).expect(rt, "mark");
     metadata.sync().expect(rt, "sync");
     left(rt, metadata, AfterCrash::Lost)
+}
+
+// The bytes of a file of the wide device in which extent 1 is entered.
+fn wide(rt: &impl Abort, alloc: Global) -> SparseBytes {
+    let file = file_of(rt, alloc, &SparseBytes::new(alloc), Trouble::Never);
+    let header = Header {
+        blocks: WIDE_BLOCKS,
+        ..HEADER
+    };
+    match create(alloc, file, header, &first()) {
+        Ok(mut metadata) => {
+            assert!(rt; metadata.extents() == MAX_MARKS + 3);
+            metadata.enter(Extent(1)).expect(rt, "enter");
+            left(rt, metadata, AfterCrash::Lost)
+        }
+        Err((_fault, _file)) => panic!(rt; "the file is not created"),
+    }
+}
+
+fn are_all_entered(rt: &impl Abort, metadata: &Metadata<File>) -> bool {
+    for extent in 0..metadata.extents() {
+        if !is_entered(rt, metadata, extent) {
+            return false;
+        }
+    }
+    true
 }
 
 fn has(file: &SparseBytes, at: u64, bytes: &[u8]) -> bool {
@@ -347,13 +379,33 @@ fn stands(rt: &impl Abort, metadata: &mut Metadata<File>, call: Call, done: bool
     let found = marks(rt, metadata);
     assert!(rt; identifiers == first() || call == Call::Save && identifiers == second());
     assert!(rt; zero || call == Call::Leave);
-    assert!(rt; !one || call == Call::Enter);
+    assert!(rt; !one || call == Call::Enter || call == Call::EnterAll);
     assert!(rt; found[..3] == [0, 0, 0] && found[6] != 0 && found[7] == 0);
     assert!(rt; found[3] != 0 || call == Call::Unmark);
     assert!(rt; found[5] == 0 || call == Call::Mark);
     if done {
-        assert!(rt; one || call != Call::Enter);
+        assert!(rt; one || call != Call::Enter && call != Call::EnterAll);
         assert!(rt; identifiers == second() || call != Call::Save);
+    }
+}
+
+#[test]
+fn a_stop_while_all_extents_are_entered_keeps_what_was_entered(rt: HostRuntime) {
+    let alloc = rt.alloc();
+    let bytes = wide(&rt, alloc);
+    // Extent 0, as many as one write enters, those behind them, and the sync.
+    let calls = 4;
+    for after in 1..=calls + 1 {
+        for reading in READINGS {
+            let mut metadata = opened(&rt, alloc, &bytes, Trouble::StopsAt(OPEN_CALLS + after));
+            let done = metadata.enter_all().is_ok();
+            assert!(rt; done == (after > calls));
+            let bytes = left(&rt, metadata, reading);
+            let metadata = opened(&rt, alloc, &bytes, Trouble::Never);
+            assert!(rt; metadata.identifiers() == first());
+            assert!(rt; is_entered(&rt, &metadata, 1));
+            assert!(rt; !done || are_all_entered(&rt, &metadata));
+        }
     }
 }
 

@@ -2,10 +2,22 @@
 use blocks::Protocol;
 use std::net::SocketAddr;
 
+/// Where the metadata of a server's images is.
+#[derive(Clone, Copy, Debug, PartialEq, Eq)]
+pub enum MetadataFiles<'a> {
+    /// There is none: at each start nothing is known of the images.
+    Unkept,
+    /// In these files; where none is named, beside its image, as `IMAGE.metadata`.
+    Kept {
+        local: Option<&'a str>,
+        peer: Option<&'a str>,
+    },
+}
+
 /// How a server begins over two images about which it knows nothing.
 #[derive(Clone, Copy, Debug, PartialEq, Eq)]
 pub enum FirstStart {
-    /// It compares them, and copies all of the local image if they differ.
+    /// It compares them, and copies the blocks that differ; all of the local image without metadata.
     Compare,
     /// It copies all of the local image.
     Copy,
@@ -22,6 +34,8 @@ pub struct ServeOptions<'a> {
     pub peer: &'a str,
     /// Blocks of the device, 1 to 2,147,483,648; if none is given, as many as the local image has.
     pub blocks: Option<u32>,
+    /// Where the metadata of both is.
+    pub metadata: MetadataFiles<'a>,
     /// When a write is completed.
     pub protocol: Protocol,
     /// Where clients connect.

@@ -1,15 +1,17 @@
 //! Read-only accessors.
-ghost use Rattle.std.specs.Prelude.{◌≡◌, ℕ, length, not};
+ghost use Rattle.std.specs.Prelude.{◌≡◌, ◌==◌, ℕ, filter, length, not};
 ghost use Rattle.bitmap.specs.Marks.{marked};
+ghost use Rattle.model.specs.Contents.{extent_of};
 ghost use Rattle.model.specs.Headline.{is_marked};
-ghost use Rattle.model.specs.Primary.{PrimaryHistory, first_unreleased, items_sent, marked_blocks, primary_connection, resync_runs, is_established, unsent};
+ghost use Rattle.model.specs.Primary.{PrimaryHistory, first_unreleased, items_sent, marked_blocks, primary_connection, resync_runs, is_established, unreleased, unsent};
 ghost use Rattle.model.specs.Status.{incomplete, open_epochs, unanswered};
+ghost use Rattle.model.specs.Stopped.{stopped_tuple};
 ghost use Rattle.primary_protocol.specs.Node.{NodeHas};
 ghost use Rattle.primary.specs.State.{node};
 
 use crate::Primary;
 use bitmap::Bitmap;
-use blocks::{Block, Settings, Store, Tuple};
+use blocks::{Block, Extent, Settings, Store, Tuple};
 use handshakes::HELLO_FRAMES;
 use link::{FrameIn, FrameOut};
 use primary_core::JournalEntry;
@@ -27,6 +29,14 @@ impl<O: FrameOut + Drop, I: FrameIn + Drop, S: Store + Drop> Primary<O, I, S> {
         ensures { (h : PrimaryHistory) → NodeHas (node self.now) h → result ≡ h.tuple }
     {
         self.core.tuple()
+    }
+
+    /// Returns the identifiers that a close would leave now: those of a lost connection if a stream stands, else the
+    /// disk's. They are what stable storage has to hold at each moment.
+    pub fn tuple_if_stopped(&self) -> Tuple
+        ensures { (h : PrimaryHistory) → NodeHas (node self.now) h → result ≡ stopped_tuple h }
+    {
+        self.core.tuple_if_stopped()
     }
 
     /// Returns the peer's generation identifiers, as last seen.
@@ -135,6 +145,13 @@ impl<O: FrameOut + Drop, I: FrameIn + Drop, S: Store + Drop> Primary<O, I, S> {
         ensures { (h : PrimaryHistory) → NodeHas (node self.now) h → result ≡ first_unreleased h }
     {
         self.core.first_unreleased()
+    }
+
+    /// Returns how many unreleased writes lie in the extent. It takes constant time.
+    pub fn unreleased_in(&self, extent: Extent) -> u32
+        ensures { (h : PrimaryHistory) → NodeHas (node self.now) h → result ≡ length (filter (λ a. extent_of a.write.first == extent.0) (unreleased h)) }
+    {
+        self.core.unreleased_in(extent)
     }
 
     /// Returns how many epochs of the stream have a write or a resync block and are not acknowledged.

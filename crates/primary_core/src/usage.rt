@@ -1,15 +1,17 @@
 //! Read-only accessors.
 ghost use Rattle.std.specs.Prelude.{◌≡◌, filter, is_some, length, option_map, slice_get};
 ghost use Rattle.epochs.specs.Epochs.{unacknowledged};
+ghost use Rattle.activitylog.specs.Activity.{writes_of};
 ghost use Rattle.transferlog.specs.Writes.{is_open, is_unanswered};
 ghost use Rattle.bitmap.specs.Marks.{count, marked};
 ghost use Rattle.primary_core.specs.State.{items_in, resync_in, way_in, way_of};
 ghost use Rattle.primary_protocol.specs.Core.{is_established};
+ghost use Rattle.primary_protocol.specs.Transitions.{stopped_tuple};
 
 use crate::entry::JournalEntry;
 use crate::state::PrimaryCore;
 use bitmap::Bitmap;
-use blocks::{Block, Settings, Tuple};
+use blocks::{Block, Extent, Settings, Tuple};
 use resync::UnderWay;
 
 impl PrimaryCore {
@@ -25,6 +27,20 @@ impl PrimaryCore {
         ensures { result ≡ self.now.state.tuple }
     {
         self.generations.tuple
+    }
+
+    /// Returns the identifiers that a close would leave now: those of a lost connection if a stream stands, else the
+    /// disk's.
+    pub fn tuple_if_stopped(&self) -> Tuple
+        ensures { result ≡ stopped_tuple self.now.state }
+    {
+        let mut stopped = self.generations;
+        if let Some(connection) = &self.connection {
+            if self.is_established() {
+                stopped.lost(connection.loss);
+            }
+        }
+        stopped.tuple
     }
 
     /// Returns the peer's identifiers, as last seen.
@@ -152,5 +168,12 @@ impl PrimaryCore {
         ensures { result ≡ option_map (λ w. w.number) (slice_get self.now.state.log.writes 0) }
     {
         Some(self.log.unreleased_from(0)?.number())
+    }
+
+    /// Returns how many unreleased writes lie in the extent. It takes constant time.
+    pub fn unreleased_in(&self, extent: Extent) -> u32
+        ensures { result ≡ writes_of extent.0 self.now.state.activity.active }
+    {
+        self.activity.writes(extent)
     }
 }

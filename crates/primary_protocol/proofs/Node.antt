@@ -12,6 +12,7 @@ pub mod Receipts
 pub mod Runs
 pub mod Says
 pub mod Sends
+pub mod Stopped
 pub mod Takes
 pub mod Unanswered
 pub mod Writing

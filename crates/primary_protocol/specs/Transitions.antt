@@ -181,6 +181,10 @@ send room out_of_memory s = elim s.end [
 abbrev pub unreleased_blocks : List LogWrite → ℕ → Bool
 unreleased_blocks writes block = list_any (λ w. is_between w.first w.count block) writes
 
+-- the identifiers that a close would leave
+abbrev pub stopped_tuple : PrimaryState → Tuple
+stopped_tuple s = elim s.end [ None ↦ s.tuple | Some e ↦ if is_established s then lost e.loss s.tuple else s.tuple ]
+
 -- Closes the end: marks unreleased writes, changes the tuple by `lost` if the stream had begun, and takes the
 -- connection from every write. Gives how many writes that completed.
 abbrev pub closing : EndState → PrimaryState → ℕ × PrimaryState

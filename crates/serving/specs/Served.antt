@@ -51,6 +51,7 @@ pub record HasServed (options : ServeOptions) (ours theirs : ℕ → List ℕ) (
   pub ended : HasEnded options ours theirs end
   pub unchanged : (end.changed.local ≡ false) × (end.changed.peer ≡ false)
   pub synced : (end.unsynced.local ≡ None) × (end.unsynced.peer ≡ None)
+  pub kept : end.is_metadata_broken ≡ false
   pub clean : end.totals.marked ≡ 0
   pub read : end.found.is_unread ≡ false
   pub none : IfSome end.found.unmarked (λ n. n ≡ 0)

@@ -1,5 +1,5 @@
 -- What the sessions of a server leave, one after another.
-use Rattle.std.specs.Prelude.{ℕ, ◌≡◌, ◌+◌, ◌≤◌, false, List, [], ◌∷◌, IsTrue, length, min, slice_get}
+use Rattle.std.specs.Prelude.{ℕ, ◌≡◌, ◌⊎◌, ◌+◌, ◌≤◌, false, List, [], ◌∷◌, IsTrue, length, min, slice_get}
 use Rattle.std.specs.List.{list_any}
 use Rattle.bitmap.specs.Marks.{marked}
 use Rattle.blocks.specs.declared.settings.Settings.{Settings}
@@ -100,6 +100,17 @@ pub record IsFirst (chosen : Settings) (how : FirstStart) (disks : DisksState) (
   pub peer : first.disks.peer ≡ disks.peer
   pub honest : IsTrusted how first → WasHonest (opening first)
 
+-- The start of a server's first session over images with metadata, with these settings: nothing was written yet.
+pub record IsKeptStart (chosen : Settings) (disks : DisksState) (first : Rest) : Type 0 where
+  pub settings : first.parts.settings ≡ chosen
+  pub totals : first.totals ≡ record { completed = 0; confirmed = 0; marked = 0 }
+  pub local : first.disks.local ≡ disks.local
+  pub peer : first.disks.peer ≡ disks.peer
+
+-- The start of a server's first session, without metadata or with it.
+abbrev pub IsStart : Settings → FirstStart → DisksState → Rest → Type 0
+IsStart chosen how disks first = IsFirst chosen how disks first ⊎ IsKeptStart chosen disks first
+
 -- Sessions led from the first start to this one; between them are the starts of those after the first, the latest first.
 abbrev pub HasCome : Rest → List Rest → Rest → Type 0
 HasCome first [] rest = rest ≡ first
@@ -110,14 +121,14 @@ abbrev pub StayedFaithful : List Rest → Rest → Type 0
 StayedFaithful [] rest = Unit {0}
 StayedFaithful (before ∷ earlier) rest = IsTrue rest.disks.local_faithful × StayedFaithful earlier before
 
--- What a server leaves after its sessions, one or more: from such a first start one led to the next, and the last one to this. If the
--- disks were faithful, the identifiers with which each session began were honest.
+-- What a server leaves after its sessions, one or more: from such a start one led to the next, and the last one to this. If the
+-- identifiers of the first one were honest and the disks were faithful, those with which each session began were honest.
 pub record IsServed (chosen : Settings) (how : FirstStart) (disks : DisksState) (rest : Rest) : Type 0 where
   pub first : Rest
-  pub starts : IsFirst chosen how disks first
+  pub starts : IsStart chosen how disks first
   pub earlier : List Rest
   pub last : Rest
   pub session : IsSession (opening last) last.totals rest
   pub come : HasCome first earlier last
-  pub honest : IsTrusted how first → StayedFaithful earlier last → WasHonest (opening last)
-  pub unparted : IsTrusted how first → StayedFaithful earlier last → IsUnparted (opening last)
+  pub honest : WasHonest (opening first) → StayedFaithful earlier last → WasHonest (opening last)
+  pub unparted : WasHonest (opening first) → IsUnparted (opening first) → StayedFaithful earlier last → IsUnparted (opening last)

@@ -25,6 +25,8 @@ pub(crate) struct End<'a> {
     pub(crate) torn: PerDisk<bool>,
     /// Why a sync of an image failed, the first that did.
     pub(crate) unsynced: PerDisk<Option<io::Error>>,
+    /// Whether a metadata file could not be written.
+    pub(crate) is_metadata_broken: bool,
 }
 
 impl<'a> End<'a> {
@@ -42,6 +44,7 @@ impl<'a> End<'a> {
         ensures read { OnOk result (self.now.found.is_unread ≡ false) }
         ensures whole { OnOk result ((self.now.torn.local ≡ false) × (self.now.torn.peer ≡ false)) }
         ensures synced { OnOk result ((self.now.unsynced.local ≡ None) × (self.now.unsynced.peer ≡ None)) }
+        ensures kept { OnOk result (self.now.is_metadata_broken ≡ false) }
     {
         if self.changed.local || self.changed.peer {
             return self.tell(None, err);
@@ -64,6 +67,7 @@ impl<'a> End<'a> {
         ensures read { OnOk result (self.now.found.is_unread ≡ false) }
         ensures whole { OnOk result ((self.now.torn.local ≡ false) × (self.now.torn.peer ≡ false)) }
         ensures synced { OnOk result ((self.now.unsynced.local ≡ None) × (self.now.unsynced.peer ≡ None)) }
+        ensures kept { OnOk result (self.now.is_metadata_broken ≡ false) }
     {
         match self.report_others(first, err) {
             None => Ok(()),
@@ -83,6 +87,7 @@ impl<'a> End<'a> {
         ensures read { result ≡ None → self.now.found.is_unread ≡ false }
         ensures whole { result ≡ None → (self.now.torn.local ≡ false) × (self.now.torn.peer ≡ false) }
         ensures synced { result ≡ None → (self.now.unsynced.local ≡ None) × (self.now.unsynced.peer ≡ None) }
+        ensures kept { result ≡ None → self.now.is_metadata_broken ≡ false }
     {
         let unmarked = self.found.unmarked.unwrap_or(0);
         let marked = self.totals.marked;
@@ -120,7 +125,13 @@ impl<'a> End<'a> {
         );
         first = first_fault_or(err, first, self.torn.peer.then_some(ServeFault::Torn(peer)));
         first = first_fault_or(err, first, unsynced(local, self.unsynced.local));
-        first_fault_or(err, first, unsynced(peer, self.unsynced.peer))
+        first = first_fault_or(err, first, unsynced(peer, self.unsynced.peer));
+        first_fault_or(
+            err,
+            first,
+            self.is_metadata_broken
+                .then_some(ServeFault::BrokenMetadata),
+        )
     }
 }
 

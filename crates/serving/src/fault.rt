@@ -9,6 +9,7 @@ ghost use Rattle.serving.specs.declared.fault.ServeFault.TheVariants.{Refused, U
 
 use blocks::{BLOCK_BYTES, MAX_DEVICE_BLOCKS, Refusal};
 use client_threads::{ListenFault, StartFault};
+use image_metadata::{MetadataFault, MetadataFileFault};
 use image_store::OpenFault;
 use numbers::SessionStatus;
 use std::{fmt, io};
@@ -40,6 +41,20 @@ pub(crate) enum ServeFault<'a> {
     Unsynced(&'a str, io::Error),
     /// The output could not be written.
     Unwritten(io::Error),
+    /// The metadata file of the image could not be opened or locked.
+    Metadata(&'a str, MetadataFileFault),
+    /// The image is a block device, and no file for its metadata is named.
+    UnnamedMetadata(&'a str),
+    /// The metadata of the images could not be read or made.
+    UnmadeMetadata(&'a str, MetadataFault),
+    /// The images are given the wrong way round.
+    WrongWayRound(&'a str, &'a str),
+    /// The image's size and time of change could not be read.
+    UnreadState(&'a str, io::Error),
+    /// The system gave no random bytes.
+    NoRandomBytes(io::Error),
+    /// A metadata file could not be written while the images were served, or at the end.
+    BrokenMetadata,
 }
 
 impl ServeFault<'_> {
@@ -50,6 +65,7 @@ impl ServeFault<'_> {
     {
         match self {
             ServeFault::Refused(refusal) => SessionStatus::of(*refusal),
+            ServeFault::WrongWayRound(..) => SessionStatus::Refused,
             _ => SessionStatus::Failed,
         }
     }
@@ -90,6 +106,30 @@ impl fmt::Display for ServeFault<'_> {
                 "{file} could not be put on stable storage, and may lack what was written to it: {error}"
             ),
             ServeFault::Unwritten(error) => write!(f, "the output could not be written: {error}"),
+            ServeFault::Metadata(image, fault) => write!(f, "{image}: {fault}"),
+            ServeFault::UnnamedMetadata(image) => write!(
+                f,
+                "{image} is a block device: name a file for its metadata by --local-metadata or --peer-metadata"
+            ),
+            ServeFault::UnmadeMetadata(image, fault) => {
+                write!(
+                    f,
+                    "{image}: the metadata could not be read or made: {fault}"
+                )
+            }
+            ServeFault::WrongWayRound(local, peer) => write!(
+                f,
+                "{peer} was the local image, and {local} the peer's: give --local {peer} --peer {local}, or remove both metadata files to begin anew"
+            ),
+            ServeFault::UnreadState(image, error) => {
+                write!(f, "{image} could not be looked at: {error}")
+            }
+            ServeFault::NoRandomBytes(error) => {
+                write!(f, "the system gives no random bytes: {error}")
+            }
+            ServeFault::BrokenMetadata => f.write_str(
+                "a metadata file could not be written: the next start copies what it still has, or all of the local image",
+            ),
         }
     }
 }

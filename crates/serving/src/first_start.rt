@@ -1,31 +1,160 @@
-//! The start of a server's first session, over two disks about which nothing is known.
-ghost use Rattle.std.specs.Prelude.{ℕ, ◌≡◌, false, true, IfOk, IsTrue};
+//! The start of a server's first session.
+ghost use Rattle.std.specs.Prelude.{ℕ, ◌≡◌, false, true, replicate, IfOk, IsTrue};
 ghost use Rattle.bitmap.specs.Marks.{marked};
 ghost use Rattle.blocks.specs.SettingsRange.{standard};
 ghost use Rattle.options.specs.declared.serve.FirstStart.TheVariants.{AssumeEqual, Compare, Copy};
 ghost use Rattle.serving.specs.Disks.{AreFaithful, WereRead};
-ghost use Rattle.serving.specs.Sessions.{IsFirst};
+ghost use Rattle.serving.specs.Sessions.{IsFirst, IsKeptStart, IsStart};
 
-use crate::compare::are_alike;
+use crate::beginning::{Beginning, FreshNumbers, ImagesMetadata, Known, UNKNOWN, local_header};
+use crate::compare::{are_alike, mark_differing};
 use crate::disks::Disks;
 use crate::session_end::SessionEnd;
 use crate::totals::Totals;
 use bitmap::Bitmap;
-use blocks::{ConnectionWords, Refusal, Settings, Store, Tuple};
+use blocks::{ConnectionWords, MAX_DEVICE_BLOCKS, Refusal, Settings, Store, Tuple};
 use client_threads::Service;
+use image_metadata::{Header, MetadataFault, OpeningBytes, create_anew, serving_identifiers};
+use kept_nodes::record_marks;
 use options::FirstStart;
+use std::fs::File;
 use std::io::Write;
-use volume::SessionStart;
+use volume::{PairMetadata, SessionStart};
 
-/// Returns what the first session over these disks starts from. No block is marked. The peer's disk has the identifiers of an
-/// unknown one (0,0,0,0), so that all is copied, if a copy is asked for or a comparison finds a difference, which a line on `err`
-/// says. `ReadFault` (14) if a disk fails a read of the comparison.
-pub(crate) fn first_start<D: Store + Drop, E: Write>(
+/// Returns what the first session over these disks starts from: what the metadata of both images says, or where there is none, what
+/// `how` says. `ReadFault` (14) if a disk fails a read of a comparison, `LocalFault` (8) if metadata cannot be made.
+pub(crate) fn first_start<D: Store + Drop, M: OpeningBytes, N: OpeningBytes, E: Write>(
+    service: &Service,
+    how: FirstStart,
+    beginning: Beginning<M, N>,
+    numbers: FreshNumbers,
+    disks: Disks<D>,
+    err: &mut E,
+) -> Result<SessionEnd<D, M, N>, Refusal>
+    ensures { IfOk result (IsStart (record standard { protocol = service.now.protocol; blocks = service.now.blocks }) how disks) }
+{
+    match beginning {
+        Beginning::Unkept => start_unkept(service, how, disks, err),
+        Beginning::First { local, peer } => {
+            start_kept(service, how, local, peer, numbers, disks, err)
+        }
+        Beginning::Known(known) => start_known(service, known, disks),
+    }
+}
+
+// Returns what a session starts from over images of which the metadata says this.
+fn start_known<D: Store + Drop, M: OpeningBytes, N: OpeningBytes>(
+    service: &Service,
+    known: Known<M, N>,
+    disks: Disks<D>,
+) -> Result<SessionEnd<D, M, N>, Refusal>
+    ensures { IfOk result (IsKeptStart (record standard { protocol = service.now.protocol; blocks = service.now.blocks }) disks) }
+{
+    let Known {
+        metadata,
+        own,
+        peer,
+        marks,
+    } = known;
+    Ok(SessionEnd {
+        disks,
+        parts: parts_of(service, own, peer, marks)?,
+        totals: Totals::NOTHING,
+        metadata,
+    })
+}
+
+// Returns what a session starts from over images that get metadata now: the blocks that differ are marked, or all is copied, or they
+// are taken as alike.
+fn start_kept<D: Store + Drop, M: OpeningBytes, N: OpeningBytes, E: Write>(
+    service: &Service,
+    how: FirstStart,
+    local: File,
+    peer: File,
+    numbers: FreshNumbers,
+    disks: Disks<D>,
+    err: &mut E,
+) -> Result<SessionEnd<D, M, N>, Refusal>
+    ensures { IfOk result (IsKeptStart (record standard { protocol = service.now.protocol; blocks = service.now.blocks }) disks) }
+{
+    let mut disks = disks;
+    let mut marks = unmarked_bitmap(service)?;
+    let _ = writeln!(err, "both images get metadata, since neither has any");
+    if how == FirstStart::Compare {
+        mark_differing(&mut disks, &mut marks, service.blocks, err)?;
+        let _ = writeln!(
+            err,
+            "{} blocks differ, and are copied from the local image over the peer's",
+            marks.count()
+        );
+    }
+    let before = Tuple::new(numbers.identifier, 0, 0, 0);
+    let own = if marks.count() > 0 {
+        Tuple::new(service.words().loss, numbers.identifier, 0, 0)
+    } else {
+        before
+    };
+    let peer_tuple = if how == FirstStart::Copy {
+        UNKNOWN
+    } else {
+        before
+    };
+    let made = make_metadata::<M, N>(service, local, peer, numbers, own, peer_tuple, &marks);
+    let Ok(metadata) = made else {
+        return Err(Refusal::LocalFault);
+    };
+    Ok(SessionEnd {
+        disks,
+        parts: parts_of(service, own, peer_tuple, marks)?,
+        totals: Totals::NOTHING,
+        metadata,
+    })
+}
+
+// Makes the metadata of both images.
+fn make_metadata<M: OpeningBytes, N: OpeningBytes>(
+    service: &Service,
+    local: File,
+    peer: File,
+    numbers: FreshNumbers,
+    own: Tuple,
+    peer_tuple: Tuple,
+    marks: &Bitmap,
+) -> Result<ImagesMetadata<M, N>, MetadataFault> {
+    let header = local_header(service.blocks, &numbers);
+    // The peer's comes first: alone it says nothing.
+    let secondary = create_anew(
+        service.alloc,
+        peer,
+        Header {
+            node: numbers.peer_node,
+            ..header
+        },
+        &serving_identifiers(peer_tuple, peer_tuple != UNKNOWN, numbers.boot, header.node),
+    )?;
+    let mut primary = create_anew(
+        service.alloc,
+        local,
+        header,
+        &serving_identifiers(own, true, numbers.boot, 0),
+    )?;
+    record_marks(&mut primary, marks)?;
+    Ok(PairMetadata {
+        primary: Some(primary),
+        secondary: Some(secondary),
+        is_peer_doubted: false,
+    })
+}
+
+// Returns what a session starts from over disks of which nothing is known, and nothing is kept: no block is marked, and the peer's disk has
+// the identifiers of an unknown one (0,0,0,0), so that all is copied, if a copy is asked for or a comparison finds a difference, which a
+// line on `err` says.
+fn start_unkept<D: Store + Drop, M: OpeningBytes, N: OpeningBytes, E: Write>(
     service: &Service,
     how: FirstStart,
     disks: Disks<D>,
     err: &mut E,
-) -> Result<SessionEnd<D>, Refusal>
+) -> Result<SessionEnd<D, M, N>, Refusal>
     ensures { IfOk result (IsFirst (record standard { protocol = service.now.protocol; blocks = service.now.blocks }) how disks) }
 {
     let mut disks = disks;
@@ -38,6 +167,11 @@ pub(crate) fn first_start<D: Store + Drop, E: Write>(
             disks,
             parts,
             totals: Totals::NOTHING,
+            metadata: PairMetadata {
+                primary: None,
+                secondary: None,
+                is_peer_doubted: false,
+            },
         }),
         Err(refusal) => Err(refusal),
     }
@@ -73,11 +207,36 @@ fn is_peer_known<D: Store, E: Write>(
     }
 }
 
-// Returns the parts of the first session, over disks with these identifiers.
+// Returns the parts of the first session, over disks with these identifiers, with no block marked.
 fn first_parts(service: &Service, own: Tuple, peer: Tuple) -> Result<SessionStart, Refusal>
     ensures settings { IfOk result (λ parts. parts.settings ≡ record standard { protocol = service.now.protocol; blocks = service.now.blocks }) }
     ensures identifiers { IfOk result (λ parts. (parts.own ≡ own) × (parts.peer ≡ peer)) }
     ensures marks { IfOk result (λ parts. (block : ℕ) → marked parts.marks block ≡ false) }
+{
+    let marks = unmarked_bitmap(service)?;
+    parts_of(service, own, peer, marks)
+}
+
+// Returns the bitmap of the device, with no block marked. `BadSetting` (15) if no device is so large, `NoMemory` (7) if there is none.
+fn unmarked_bitmap(service: &Service) -> Result<Bitmap, Refusal>
+    ensures made { IfOk result (λ marks. marks ≡ replicate service.now.blocks false) }
+{
+    if service.blocks > MAX_DEVICE_BLOCKS {
+        return Err(Refusal::BadSetting);
+    }
+    Bitmap::unmarked(service.alloc, u64::from(service.blocks))
+}
+
+// Returns the parts of a session, over disks with these identifiers and marks.
+fn parts_of(
+    service: &Service,
+    own: Tuple,
+    peer: Tuple,
+    marks: Bitmap,
+) -> Result<SessionStart, Refusal>
+    ensures settings { IfOk result (λ parts. parts.settings ≡ record standard { protocol = service.now.protocol; blocks = service.now.blocks }) }
+    ensures identifiers { IfOk result (λ parts. (parts.own ≡ own) × (parts.peer ≡ peer)) }
+    ensures marks { IfOk result (λ parts. parts.marks ≡ marks) }
 {
     let settings = Settings {
         protocol: service.protocol,
@@ -85,7 +244,6 @@ fn first_parts(service: &Service, own: Tuple, peer: Tuple) -> Result<SessionStar
         ..Settings::STANDARD
     };
     settings.check()?;
-    let marks = Bitmap::unmarked(service.alloc, u64::from(service.blocks))?;
     let ConnectionWords { sync, loss } = service.words();
     Ok(SessionStart {
         settings,

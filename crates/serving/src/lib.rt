@@ -2,11 +2,13 @@
 //! number of clients at a time read and write one export, while the session mirrors it.
 #![tactic(auto)]
 
+mod beginning;
 mod compare;
 mod disks;
 mod end;
 mod fault;
 mod first_start;
+mod image_files;
 mod images;
 mod server;
 mod session;
@@ -15,6 +17,7 @@ mod sessions;
 mod totals;
 
 pub use file_store::{AnyContents, OpeningContents};
-pub use options::{FirstStart, ServeOptions};
+pub use image_metadata::{AnyBytes, OpeningBytes};
+pub use options::{FirstStart, MetadataFiles, ServeOptions};
 pub use server::serve;
 pub use volume::Host;

@@ -6,10 +6,12 @@ ghost use Rattle.numbers.specs.declared.status.SessionStatus.TheVariants as stat
 ghost use Rattle.serving.specs.Served.{AreInRange, CameTo, HasEnded, HasServed};
 ghost use Rattle.serving.specs.declared.fault.ServeFault.TheVariants.{Refused};
 
+use crate::beginning::{Beginning, FreshNumbers, begin, fresh_numbers};
 use crate::compare::compare_at_end;
 use crate::disks::Disks;
 use crate::end::End;
 use crate::fault::ServeFault;
+use crate::image_files::{close_metadata, find_files};
 use crate::images::{
     blocks_of, changed_images, check_size, images_of, lock_both, open_both, torn_images,
 };
@@ -18,9 +20,10 @@ use crate::sessions::run_sessions;
 use blocks::Refusal;
 use client_threads::{Listeners, Service, start_threads};
 use file_store::{FileStore, OpeningContents};
+use image_metadata::OpeningBytes;
 use image_store::{ImageLock, PerDisk, SyncHandle};
 use numbers::SessionStatus;
-use options::ServeOptions;
+use options::{MetadataFiles, ServeOptions};
 use requests::Requests;
 use std::alloc::Global;
 use std::fs::File;
@@ -30,6 +33,9 @@ use std::random::RandomSource;
 use std::rt::Files;
 use std::sync::Arc;
 use volume::{Host, Runtime};
+
+/// The first word of a server that keeps no metadata: no disk has it as an identifier at the start.
+const FIRST_WORD: u64 = 2;
 
 /// Serves both images to block clients until `input` has a line `quit`, and prints `completed X`, `settled X` and
 /// `unmarked 0`, X being the number of ranges that clients wrote; `unmarked not compared` if the images have more than 262,144
@@ -45,6 +51,8 @@ use volume::{Host, Runtime};
 /// - `Refused`, with a line on `err`: any other refusal. A size that no device has (15) is refused before anything else.
 pub fn serve<
     X: OpeningContents + Send + 'static,
+    M: OpeningBytes + Send + 'static,
+    N: OpeningBytes + Send + 'static,
     H: Host + Files<File = File> + Net<Listener = TcpListener, Stream = TcpStream> + RandomSource,
     I: Read + Drop + Send + 'static,
     W: Write,
@@ -53,7 +61,7 @@ pub fn serve<
     ensures done { result ≡ status.Done → HasServed options.now X.OpeningContents.local X.OpeningContents.peer (W.contents out.old) (W.contents out.new) }
     ensures refused { (AreInRange options.now → ⊥) → result ≡ status.Refused }
 {
-    match serve_images::<X, H, I, W, E>(rt, options, input, out, err) {
+    match serve_images::<X, M, N, H, I, W, E>(rt, options, input, out, err) {
         Ok(()) => SessionStatus::Done,
         Err(fault) => {
             let _ = writeln!(err, "{fault}");
@@ -66,6 +74,8 @@ pub fn serve<
 fn serve_images<
     'a,
     X: OpeningContents + Send + 'static,
+    M: OpeningBytes + Send + 'static,
+    N: OpeningBytes + Send + 'static,
     H: Host + Files<File = File> + Net<Listener = TcpListener, Stream = TcpStream> + RandomSource,
     I: Read + Drop + Send + 'static,
     W: Write,
@@ -81,7 +91,7 @@ fn serve_images<
     ensures refused { (AreInRange options.now → ⊥) → result ≡ Err (Refused BadSetting) }
 {
     match check_size(options) {
-        Ok(()) => serve_sized::<X, H, I, W, E>(rt, options, input, out, err),
+        Ok(()) => serve_sized::<X, M, N, H, I, W, E>(rt, options, input, out, err),
         Err(refusal) => Err(ServeFault::Refused(refusal)),
     }
 }
@@ -90,6 +100,8 @@ fn serve_images<
 fn serve_sized<
     'a,
     X: OpeningContents + Send + 'static,
+    M: OpeningBytes + Send + 'static,
+    N: OpeningBytes + Send + 'static,
     H: Host + Files<File = File> + Net<Listener = TcpListener, Stream = TcpStream> + RandomSource,
     I: Read + Drop + Send + 'static,
     W: Write,
@@ -105,7 +117,7 @@ fn serve_sized<
     ensures { OnOk result (HasServed options.now X.OpeningContents.local X.OpeningContents.peer (W.contents out.old) (W.contents out.new)) }
 {
     let locks = lock_both(rt, options)?;
-    let served = serve_locked::<X, H, I, E>(rt, options, &locks, input, err);
+    let served = serve_locked::<X, M, N, H, I, E>(rt, options, &locks, input, err);
     drop(locks);
     served?.print(out, err)
 }
@@ -114,6 +126,8 @@ fn serve_sized<
 fn serve_locked<
     'a,
     X: OpeningContents + Send + 'static,
+    M: OpeningBytes + Send + 'static,
+    N: OpeningBytes + Send + 'static,
     H: Host + Files<File = File> + Net<Listener = TcpListener, Stream = TcpStream> + RandomSource,
     I: Read + Drop + Send + 'static,
     E: Write,
@@ -130,13 +144,29 @@ fn serve_locked<
     let blocks = blocks_of(options, &locks.local)?;
     let listeners = Listeners::open(rt, options.listen, options.page_port)?;
     match open_both::<H, X>(rt, options, blocks) {
-        Ok((disks, syncs)) => match start_service(
-            rt, options, blocks, syncs, listeners, input, err,
-        ) {
-            Ok(service) => serve_sessions(rt, &service, options, disks, locks, err),
-            Err(fault) => Err(fault),
-        },
+        Ok((disks, syncs)) => {
+            let numbers = fresh_numbers(rt)?;
+            let first_word = first_word_of(options, &numbers);
+            let files = find_files::<M, N, H>(rt, options, locks, blocks)?;
+            let beginning = begin(rt.alloc(), options, blocks, files, numbers, err)?;
+            match start_service(
+                rt, options, blocks, first_word, syncs, listeners, input, err,
+            ) {
+                Ok(service) => serve_sessions(
+                    rt, &service, options, beginning, numbers, disks, locks, err,
+                ),
+                Err(fault) => Err(fault),
+            }
+        }
         Err(fault) => Err(fault),
+    }
+}
+
+// Returns the first word of the server's connections: a random one where identifiers outlast the server.
+fn first_word_of(options: &ServeOptions<'_>, numbers: &FreshNumbers) -> u64 {
+    match options.metadata {
+        MetadataFiles::Unkept => FIRST_WORD,
+        MetadataFiles::Kept { .. } => numbers.first_word,
     }
 }
 
@@ -150,6 +180,7 @@ fn start_service<
     rt: &H,
     options: &ServeOptions<'a>,
     blocks: u32,
+    first_word: u64,
     syncs: PerDisk<SyncHandle<File>>,
     listeners: Listeners,
     input: I,
@@ -158,7 +189,13 @@ fn start_service<
     ensures { IfOk result (λ service. (service.value.protocol ≡ options.now.protocol) × (service.value.blocks ≡ blocks)) }
 {
     let requests = Requests::new(rt.alloc(), options.protocol, syncs);
-    let service = shared(Service::new(rt.alloc(), blocks, options.protocol, requests)?)?;
+    let service = shared(Service::new(
+        rt.alloc(),
+        blocks,
+        options.protocol,
+        requests,
+        first_word,
+    )?)?;
     let (clients, page) = (listeners.client_address(), listeners.page_address());
     start_threads(rt, &service, listeners, input)?;
     let _ = writeln!(err, "{clients} is an export of {blocks} blocks");
@@ -174,11 +211,15 @@ fn serve_sessions<
     'a,
     H: Runtime + Files<File = File>,
     X: OpeningContents + Send + 'static,
+    M: OpeningBytes + Send + 'static,
+    N: OpeningBytes + Send + 'static,
     E: Write,
 >(
     rt: &H,
     service: &Service,
     options: &ServeOptions<'a>,
+    beginning: Beginning<M, N>,
+    numbers: FreshNumbers,
     disks: Disks<FileStore<File, X>>,
     locks: &PerDisk<ImageLock>,
     err: &mut E,
@@ -186,7 +227,16 @@ fn serve_sessions<
     ensures came { IfOk result (CameTo (record standard { protocol = service.now.protocol; blocks = service.now.blocks }) options.now.first disks) }
     ensures compares { IfOk result (λ end. end.found.is_unread ≡ false → is_some end.found.unmarked ≡ (options.now.compare || nat_le service.now.blocks 262144)) }
 {
-    let ran = run_sessions(*rt, service, options.cut_every, options.first, disks, err);
+    let ran = run_sessions(
+        *rt,
+        service,
+        options.cut_every,
+        options.first,
+        beginning,
+        numbers,
+        disks,
+        err,
+    );
     let unsynced = service.requests.sync_images(rt);
     let last = match ran {
         Ok(last) => last,
@@ -196,6 +246,7 @@ fn serve_sessions<
         disks,
         parts,
         totals,
+        metadata,
     } = last;
     let mut disks = disks;
     let found = compare_at_end(
@@ -205,13 +256,23 @@ fn serve_sessions<
         service.blocks,
         err,
     );
+    let changed = changed_images(rt, locks, options, service.blocks);
+    let torn = torn_images(&disks);
+    let is_whole = !changed.local
+        && !changed.peer
+        && !torn.local
+        && !torn.peer
+        && unsynced.local.is_none()
+        && unsynced.peer.is_none();
+    let is_metadata_broken = !close_metadata(metadata, &parts.marks, locks, is_whole);
     Ok(End {
         totals,
         found,
         files: images_of(options),
-        changed: changed_images(rt, locks, options, service.blocks),
-        torn: torn_images(&disks),
+        changed,
+        torn,
         unsynced,
+        is_metadata_broken,
     })
 }
 

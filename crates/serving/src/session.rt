@@ -2,20 +2,29 @@
 ghost use Rattle.thread_link.specs.Names as names;
 ghost use Rattle.serving.specs.Links.{IsNewDirection};
 ghost use Rattle.serving.specs.Sessions.{IsSession, opening};
-ghost use Rattle.std.specs.Prelude.{◌≡◌, slice_get, IfOk};
+ghost use Rattle.model.specs.Headline.{IsJoined};
+ghost use Rattle.model.specs.Primary.{PrimaryHistory};
+ghost use Rattle.model.specs.Secondary.{SecondaryHistory};
+ghost use Rattle.session_nodes.specs.Primaries.{PrimaryHas, PrimaryIsHad};
+ghost use Rattle.session_nodes.specs.Secondaries.{SecondaryHas, SecondaryIsHad};
+ghost use Rattle.std.specs.Prelude.{◌≡◌, ◌≤◌, Some, slice_get, IfOk};
 ghost use Rattle.volume.specs.Links.{AreEndsOf};
 ghost use Rattle.volume.specs.Opening.{opening_of};
 
+use crate::beginning::ImagesMetadata;
 use crate::disks::Disks;
 use crate::session_end::{SessionEnd, settle_session};
 use crate::totals::Totals;
 use blocks::{Refusal, Settings, Store};
 use client_threads::{Service, work};
+use image_metadata::{ImageFile, OpeningBytes};
+use metadata::StableFile;
+use primary::Receipt;
 use std::alloc::Global;
 use std::marker::Brand;
 use std::sync::Wait;
 use thread_link::{RuledIn, RuledOut, ruled};
-use volume::{Linked, Runtime, Session, SessionStart};
+use volume::{Finished, KeptSession, Linked, PairMetadata, Runtime, SessionStart};
 
 /// Both ends of a direction of a link.
 type Direction<R> = (RuledOut<R>, RuledIn<R>);
@@ -23,18 +32,24 @@ type Direction<R> = (RuledOut<R>, RuledIn<R>);
 /// Runs a session over these disks, does the requests of clients over it, and returns what it leaves. The refusals are
 /// `BadSetting` (15), `NoMemory` (7), and those of `Session::start`, `client_threads::work`, `Session::finish`, `confirm` and
 /// `parts_after`. If a sync of the peer's image has failed, nothing is sent to it: the link is cut after the hello.
-pub(crate) fn run_session<R: Runtime, D: Store + Drop + Send + 'static>(
+pub(crate) fn run_session<
+    R: Runtime,
+    D: Store + Drop + Send + 'static,
+    M: OpeningBytes + Send + 'static,
+    N: OpeningBytes + Send + 'static,
+>(
     rt: R,
     service: &Service,
     cut_every: Option<u32>,
-    start: SessionEnd<D>,
-) -> Result<SessionEnd<D>, Refusal>
+    start: SessionEnd<D, M, N>,
+) -> Result<SessionEnd<D, M, N>, Refusal>
     ensures session { IfOk result (λ next. IsSession (opening start) start.totals next) }
 {
     let SessionEnd {
         disks,
         parts,
         totals,
+        metadata,
     } = start;
     let parts = SessionStart {
         is_cut: service.requests.is_peer_failed(),
@@ -42,7 +57,9 @@ pub(crate) fn run_session<R: Runtime, D: Store + Drop + Send + 'static>(
     };
     match link(rt, service.alloc, parts.settings) {
         Ok((there, back)) => {
-            run_named::<Brand, R, D>(rt, service, cut_every, there, back, disks, parts, totals)
+            run_named::<Brand, R, D, M, N>(
+                rt, service, cut_every, there, back, disks, parts, totals, metadata,
+            )
         }
         Err(refusal) => Err(refusal),
     }
@@ -65,7 +82,13 @@ fn link<R: Wait + Copy>(
 }
 
 // Uses the session, from its start to its end, in one function over its name, which the caller picks.
-fn run_named<L: Linked + Send + Sync + 'static, R: Runtime, D: Store + Drop + Send + 'static>(
+fn run_named<
+    L: Linked + Send + Sync + 'static,
+    R: Runtime,
+    D: Store + Drop + Send + 'static,
+    M: OpeningBytes + Send + 'static,
+    N: OpeningBytes + Send + 'static,
+>(
     rt: R,
     service: &Service,
     cut_every: Option<u32>,
@@ -74,20 +97,68 @@ fn run_named<L: Linked + Send + Sync + 'static, R: Runtime, D: Store + Drop + Se
     disks: Disks<D>,
     parts: SessionStart,
     totals: Totals,
-) -> Result<SessionEnd<D>, Refusal>
+    metadata: ImagesMetadata<M, N>,
+) -> Result<SessionEnd<D, M, N>, Refusal>
     requires there { AreEndsOf L.link names.There there }
     requires back { AreEndsOf L.link names.Back back }
     requires opening { L.opening ≡ opening_of parts (slice_get disks.local) (slice_get disks.peer) }
     ensures session { IfOk result (λ next. IsSession L.opening totals next) }
 {
+    match run_filed::<L, R, D, ImageFile<M>, ImageFile<N>>(
+        rt, service, cut_every, there, back, disks, parts, metadata,
+    ) {
+        Ok((left, worked)) => {
+            let Finished {
+                primary,
+                secondary,
+                metadata,
+            } = left;
+            settle_session(service, totals, metadata, primary, secondary, worked)
+        }
+        Err(refusal) => Err(refusal),
+    }
+}
+
+// Starts the session, does the requests of clients over it, and ends it, whatever the type of its metadata's files. Returns what it
+// leaves, and what came of the requests.
+fn run_filed<
+    L: Linked + Send + Sync + 'static,
+    R: Runtime,
+    D: Store + Drop + Send + 'static,
+    F: StableFile + Send + 'static,
+    G: StableFile + Send + 'static,
+>(
+    rt: R,
+    service: &Service,
+    cut_every: Option<u32>,
+    there: Direction<R>,
+    back: Direction<R>,
+    disks: Disks<D>,
+    parts: SessionStart,
+    metadata: PairMetadata<F, G>,
+) -> Result<(Finished<R, L, D, D, F, G>, Result<Vec<Receipt>, Refusal>), Refusal>
+    requires there { AreEndsOf L.link names.There there }
+    requires back { AreEndsOf L.link names.Back back }
+    requires opening { L.opening ≡ opening_of parts (slice_get disks.local) (slice_get disks.peer) }
+    ensures had { IfOk result (λ ran. PrimaryIsHad (Some L.opening) ran.0.primary × SecondaryIsHad (Some L.opening) ran.0.secondary) }
+    ensures joined { IfOk result (λ ran. (p : PrimaryHistory) (s : SecondaryHistory) → PrimaryHas ran.0.primary p → SecondaryHas ran.0.secondary s → IsJoined p s) }
+    ensures numbered { IfOk result (λ ran. ran.0.secondary.core.number ≤ ran.0.primary.core.connections) }
+{
     let Disks { local, peer } = disks;
-    match Session::<R, L, D, D>::start(rt, service.alloc, there, back, local, peer, parts) {
+    match KeptSession::<R, L, D, D, F, G>::start(
+        rt,
+        service.alloc,
+        there,
+        back,
+        local,
+        peer,
+        parts,
+        metadata,
+    ) {
         Ok(session) => {
             let worked = work(&rt, service, session.mirror(), cut_every);
             match session.finish() {
-                Ok((primary, secondary)) => {
-                    settle_session(service, totals, primary, secondary, worked)
-                }
+                Ok(left) => Ok((left, worked)),
                 Err(refusal) => Err(refusal),
             }
         }

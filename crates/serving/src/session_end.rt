@@ -2,11 +2,13 @@
 ghost use Rattle.std.specs.Prelude.{◌≡◌, IfOk, IsOk};
 ghost use Rattle.serving.specs.Sessions.{NodesComeTo};
 
+use crate::beginning::ImagesMetadata;
 use crate::disks::Disks;
 use crate::totals::Totals;
 use blocks::{Refusal, Store};
 use client_threads::Service;
 use handover::parts_after;
+use image_metadata::OpeningBytes;
 use link::{FrameIn, FrameOut};
 use primary::{Primary, Receipt};
 use secondary::Secondary;
@@ -16,13 +18,14 @@ use volume::SessionStart;
 
 /// What a session leaves for the next one.
 #[derive(Drop)]
-pub(crate) struct SessionEnd<D: Store> {
+pub(crate) struct SessionEnd<D: Store, M: OpeningBytes, N: OpeningBytes> {
     pub(crate) disks: Disks<D>,
     pub(crate) parts: SessionStart,
     pub(crate) totals: Totals,
+    pub(crate) metadata: ImagesMetadata<M, N>,
 }
 
-impl<D: Store> Model for SessionEnd<D> {
+impl<D: Store, M: OpeningBytes, N: OpeningBytes> Model for SessionEnd<D, M, N> {
     ghost use Rattle.serving.specs.Sessions.{Rest};
 
     ghost Value = { Rest };
@@ -33,13 +36,14 @@ impl<D: Store> Model for SessionEnd<D> {
 /// Settles two nodes at rest with the receipts that their session gave, if its work was done, and returns what the next session
 /// starts from, over the same disks. It reads no block. The refusals are that of the work, and those of `confirm` and
 /// `parts_after`.
-pub(crate) fn settle_session<D: Store + Drop>(
+pub(crate) fn settle_session<D: Store + Drop, M: OpeningBytes, N: OpeningBytes>(
     service: &Service,
     totals: Totals,
+    metadata: ImagesMetadata<M, N>,
     primary: Primary<impl FrameOut + Drop, impl FrameIn + Drop, D>,
     secondary: Secondary<impl FrameOut + Drop, impl FrameIn + Drop, D>,
     worked: Result<Vec<Receipt>, Refusal>,
-) -> Result<SessionEnd<D>, Refusal>
+) -> Result<SessionEnd<D, M, N>, Refusal>
     ensures disks { IfOk result (λ rest. (rest.disks.local ≡ primary.disk) × (rest.disks.peer ≡ secondary.disk)) }
     ensures faithful { IfOk result (λ rest. rest.disks.local_faithful ≡ primary.faithful) }
     ensures done { IfOk result (λ _. IsOk worked) }
@@ -56,6 +60,7 @@ pub(crate) fn settle_session<D: Store + Drop>(
             disks,
             parts,
             totals,
+            metadata,
         }),
         Err(refusal) => Err(refusal),
     }

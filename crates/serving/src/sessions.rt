@@ -3,29 +3,39 @@ ghost use Rattle.std.specs.Prelude.{◌≡◌, IfOk};
 ghost use Rattle.blocks.specs.SettingsRange.{standard};
 ghost use Rattle.serving.specs.Sessions.{IsServed};
 
+use crate::beginning::{Beginning, FreshNumbers};
 use crate::disks::Disks;
 use crate::first_start::first_start;
 use crate::session::run_session;
 use crate::session_end::SessionEnd;
 use blocks::{Refusal, Store};
 use client_threads::Service;
+use image_metadata::OpeningBytes;
 use options::FirstStart;
 use std::io::Write;
 use volume::Runtime;
 
 /// Runs sessions over these disks until the server ends, and returns what the last one leaves. The first one begins as `how`
 /// says; a comparison shows its progress on `err`.
-pub(crate) fn run_sessions<R: Runtime, D: Store + Drop + Send + 'static, E: Write>(
+pub(crate) fn run_sessions<
+    R: Runtime,
+    D: Store + Drop + Send + 'static,
+    M: OpeningBytes + Send + 'static,
+    N: OpeningBytes + Send + 'static,
+    E: Write,
+>(
     rt: R,
     service: &Service,
     cut_every: Option<u32>,
     how: FirstStart,
+    beginning: Beginning<M, N>,
+    numbers: FreshNumbers,
     disks: Disks<D>,
     err: &mut E,
-) -> Result<SessionEnd<D>, Refusal>
+) -> Result<SessionEnd<D, M, N>, Refusal>
     ensures served { IfOk result (IsServed (record standard { protocol = service.now.protocol; blocks = service.now.blocks }) how disks) }
 {
-    let mut last = first_start(service, how, disks, err)?;
+    let mut last = first_start(service, how, beginning, numbers, disks, err)?;
     for _ in rt.forever() {
         service.requests.forget_writes();
         last = run_session(rt, service, cut_every, last)?;

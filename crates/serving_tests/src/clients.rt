@@ -1,6 +1,6 @@
 //! Tests of a client over a socket. Its bytes and the server's are written out by hand from the protocol document.
 use blocks::Protocol;
-use serving::{AnyContents, FirstStart, Host, ServeOptions, serve};
+use serving::{AnyBytes, AnyContents, FirstStart, Host, MetadataFiles, ServeOptions, serve};
 use std::alloc::{AllocError, Global};
 use std::fs::File;
 use std::io::{Read, Write};
@@ -269,6 +269,7 @@ pub(crate) fn options_of(
         local: "serving_local",
         peer: "serving_peer",
         blocks: None,
+        metadata: MetadataFiles::Unkept,
         protocol,
         listen,
         page_port: Some(page.port()),
@@ -292,7 +293,7 @@ pub(crate) fn serve_until<
         is_given: false,
     };
     let mut err = Vec::new(rt.alloc());
-    serve::<AnyContents, _, _, _, _>(&rt, options, order, out, &mut err).code()
+    serve::<AnyContents, AnyBytes, AnyBytes, _, _, _, _>(&rt, options, order, out, &mut err).code()
 }
 
 /// Writes an image of zeros for a client of the tests.

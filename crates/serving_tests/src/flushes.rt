@@ -126,6 +126,18 @@ impl Device for LateDevice {
     fn applied(&self) -> u32 {
         0
     }
+
+    fn prepare_leaving(&self, _most: u64) -> u64 {
+        0
+    }
+
+    fn leave_prepared(&self) -> u64 {
+        0
+    }
+
+    fn is_metadata_broken(&self) -> bool {
+        false
+    }
 }
 
 /// Creates requests under this protocol, which sync a file. The file is made by this name, and then removed.

@@ -89,7 +89,7 @@ fn serve_device<
         .ok()
         .expect(&rt, "a listener");
     let requests = requests_under(&rt, Protocol::A, "flushed_held");
-    let service = Service::new(alloc, BLOCKS, Protocol::A, requests).expect(&rt, "memory");
+    let service = Service::new(alloc, BLOCKS, Protocol::A, requests, 2).expect(&rt, "memory");
     let service = Arc::new(alloc, service).expect(&rt, "memory");
     let is_done = Arc::new(alloc, AtomicBool::new(false)).expect(&rt, "memory");
     let order = Order {

@@ -1,10 +1,7 @@
-//! The two nodes of a session, each kept under a lock: a node whose connections all used one link, and what its threads
-//! do in a turn.
+//! The two nodes of a session, each kept under a lock: a node whose connections all used one link.
 #![tactic(auto)]
 
 mod beginning;
-mod primary_turn;
-mod secondary_turn;
 mod session_primary;
 mod session_secondary;
 

@@ -1,5 +1,5 @@
 //! The primary under its lock.
-ghost use Rattle.std.specs.Prelude.{◌≡◌, ◌<◌, ◌≤◌, ◌*◌, ◌⊎◌, true, false, IsTrue, None, Some, Err, if◌then◌else◌, slice_get, unwrap_or, vec_len, IfOk, IfErr, IfSome, OnOk, OnErr};
+ghost use Rattle.std.specs.Prelude.{◌≡◌, ◌<◌, ◌≤◌, ◌*◌, ◌⊎◌, true, false, is_some, IsTrue, None, Some, Err, if◌then◌else◌, slice_get, unwrap_or, vec_len, IfOk, IfErr, IfSome, OnOk, OnErr};
 ghost use Rattle.blocks.specs.declared.outcome.Reply.{Reply};
 ghost use Rattle.blocks.specs.declared.outcome.Reply.TheVariants as reply;
 ghost use Rattle.blocks.specs.declared.outcome.What.TheVariants as what;
@@ -228,6 +228,13 @@ impl<B: Beginning, O: FrameOut + Drop, I: FrameIn + Drop, S: Store + Drop> Sessi
                 && node.marks() == 0
                 && node.open_epochs() == 0
                 && node.unsent() == 0)
+    }
+
+    /// Returns whether the disk has a write to do.
+    pub fn has_unfinished(&self) -> bool
+        ensures { (h : PrimaryHistory) → PrimaryHas self.now h → result ≡ is_some (next_local h) }
+    {
+        self.node.next_local().is_some()
     }
 
     /// Returns the number up to which each write is released.

@@ -1,5 +1,5 @@
 //! The secondary under its lock.
-ghost use Rattle.std.specs.Prelude.{◌≡◌, ◌≢◌, ◌-◌, ◌+◌, ◌<◌, ◌≤◌, ◌&&◌, true, false, None, Err, slice_get, IfErr, IfOk, IfSome, OnErr, OnOk};
+ghost use Rattle.std.specs.Prelude.{◌≡◌, ◌≢◌, ◌-◌, ◌+◌, ◌<◌, ◌≤◌, ◌&&◌, not, true, false, None, Err, slice_get, IfErr, IfOk, IfSome, OnErr, OnOk};
 ghost use Rattle.blocks.specs.declared.outcome.Reply.{Reply};
 ghost use Rattle.blocks.specs.declared.refusal.Refusal.TheVariants.{NoMemory, NotConnected, NotDrained, NothingThere};
 ghost use Rattle.endpoint.specs.Calls.{IsNewIn, IsNewOut, Sends, has_room, is_out_of_memory};
@@ -183,6 +183,13 @@ impl<B: Beginning, O: FrameOut + Drop, I: FrameIn + Drop, S: Store + Drop> Sessi
     {
         let node = &self.node;
         !node.is_open() || (node.number() == sent.connection && node.items_taken() >= sent.items)
+    }
+
+    /// Returns whether the disk has an item to do.
+    pub fn has_unfinished(&self) -> bool
+        ensures { (h : SecondaryHistory) → SecondaryHas self.now h → result ≡ not (is_drained h) }
+    {
+        !self.node.is_drained()
     }
 
     /// Returns the node for reading.

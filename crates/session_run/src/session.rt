@@ -1,5 +1,7 @@
 //! A session over a link in this process, from its start to its settlement.
-ghost use Rattle.std.specs.Prelude.{◌≡◌, ◌*◌, ◌<◌, slice_get, IfOk};
+ghost use Rattle.run_threads.specs.Plan.{AreOfPlan};
+ghost use Rattle.session_nodes.specs.Primaries.{HasAccepted};
+ghost use Rattle.std.specs.Prelude.{◌≡◌, ◌*◌, ◌<◌, Some, slice_get, vec_len, IfOk};
 ghost use Rattle.thread_link.specs.Names as names;
 ghost use Rattle.session_run.specs.Outcome.{IsLinked, IsRun};
 ghost use Rattle.settle.specs.Settled.{WasHonest};
@@ -10,13 +12,15 @@ use crate::parts::{Disks, parts};
 use crate::report::{RunReport, conclude};
 use blocks::{MemStore, Refusal};
 use image_store::PerDisk;
+use metadata::StableFile;
 use options::RunOptions;
+use primary::Receipt;
 use run_threads::work;
 use std::alloc::Global;
 use std::io::Write;
 use std::marker::Brand;
 use thread_link::{RuledIn, RuledOut, ruled};
-use volume::{Linked, Runtime, Session, SessionStart};
+use volume::{Linked, Runtime, Session, SessionStart, SharedLinkSession};
 
 /// Runs a session over the images of two disks: starts it, makes all writes while the link is cut, ends it, and
 /// settles. Reports on `err` what the options ask for.
@@ -62,9 +66,30 @@ fn run_named<L: Linked + Send + Sync + 'static, R: Runtime, E: Write + Send>(
     let PerDisk { local, peer } = disks;
     match Session::<R, L, MemStore, MemStore>::start(rt, alloc, there, back, local, peer, parts) {
         Ok(session) => {
-            let worked = work(&rt, alloc, session.mirror(), options, err);
+            let worked = work_over(&rt, alloc, session.mirror(), options, err);
             conclude(options, worked, session.finish())
         }
         Err(refusal) => Err(refusal),
     }
+}
+
+// Has the writers write to the mirror, whatever the type of its metadata's files.
+fn work_over<
+    L: Linked + Send + Sync + 'static,
+    R: Runtime,
+    F: StableFile + Send + 'static,
+    G: StableFile + Send + 'static,
+    E: Write + Send,
+>(
+    rt: &R,
+    alloc: Global,
+    mirror: &SharedLinkSession<R, L, MemStore, MemStore, F, G>,
+    options: &RunOptions,
+    err: &mut E,
+) -> Result<Vec<Receipt>, Refusal>
+    requires { 0 < options.now.blocks }
+    ensures count { IfOk result (λ receipts. vec_len receipts ≡ options.now.writers * options.now.writes) }
+    ensures plan { IfOk result (λ receipts. AreOfPlan (HasAccepted (Some L.opening)) options.now receipts.items) }
+{
+    work(rt, alloc, mirror, options, err)
 }

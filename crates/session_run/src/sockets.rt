@@ -1,5 +1,7 @@
 //! A session over two sockets of this machine, from its start to its settlement.
-ghost use Rattle.std.specs.Prelude.{◌≡◌, ◌*◌, ◌<◌, Some, slice_get, IfOk};
+ghost use Rattle.run_threads.specs.Plan.{AreOfPlan};
+ghost use Rattle.session_nodes.specs.Primaries.{HasAccepted};
+ghost use Rattle.std.specs.Prelude.{◌≡◌, ◌*◌, ◌<◌, Some, slice_get, vec_len, IfOk};
 ghost use Rattle.options.specs.declared.run.Path.TheVariants as path;
 ghost use Rattle.session_run.specs.Outcome.{IsOutcome, IsRun};
 ghost use Rattle.settle.specs.Settled.{WasHonest};
@@ -9,12 +11,17 @@ use crate::parts::{Disks, parts};
 use crate::report::{RunReport, conclude};
 use blocks::{MemStore, Refusal};
 use image_store::PerDisk;
+use locked_halves::{LockedPrimary, LockedSecondary};
+use metadata::StableFile;
 use options::RunOptions;
+use primary::Receipt;
 use run_threads::work;
+use session_threads::SharedSession;
 use std::alloc::Global;
 use std::io::Write;
 use std::marker::Brand;
 use stream_session::{Beginning, Socket, StreamSession, Ways};
+use thread_link::{RuledIn, RuledOut};
 use volume::{Runtime, SessionStart};
 
 /// Runs a session over the images of two disks and these sockets: starts it, makes all writes, ends it, and settles.
@@ -60,9 +67,37 @@ fn run_begun<B: Beginning + Send + Sync + 'static, R: Runtime, E: Write + Send>(
         rt, alloc, local, peer, parts, ways,
     ) {
         Ok(session) => {
-            let worked = work(&rt, alloc, session.mirror(), options, err);
+            let worked = work_over(&rt, alloc, session.mirror(), options, err);
             conclude(options, worked, session.finish())
         }
         Err(refusal) => Err(refusal),
     }
+}
+
+// The mirror of a session over streams with metadata files of these types.
+type FiledSession<R, B, F, G> = SharedSession<
+    R,
+    LockedPrimary<R, B, RuledOut<R>, RuledIn<R>, MemStore, F>,
+    LockedSecondary<R, B, RuledOut<R>, RuledIn<R>, MemStore, G>,
+>;
+
+// Has the writers write to the mirror, whatever the type of its metadata's files.
+fn work_over<
+    B: Beginning + Send + Sync + 'static,
+    R: Runtime,
+    F: StableFile + Send + 'static,
+    G: StableFile + Send + 'static,
+    E: Write + Send,
+>(
+    rt: &R,
+    alloc: Global,
+    mirror: &FiledSession<R, B, F, G>,
+    options: &RunOptions,
+    err: &mut E,
+) -> Result<Vec<Receipt>, Refusal>
+    requires { 0 < options.now.blocks }
+    ensures count { IfOk result (λ receipts. vec_len receipts ≡ options.now.writers * options.now.writes) }
+    ensures plan { IfOk result (λ receipts. AreOfPlan (HasAccepted B.opening) options.now receipts.items) }
+{
+    work(rt, alloc, mirror, options, err)
 }

@@ -6,16 +6,17 @@ ghost use Rattle.volume.specs.Opening.{opening_of};
 
 use crate::callers::{Work, carry_out};
 use crate::disks::Signals;
-use crate::outcome::{Outcome, bring_together};
+use crate::outcome::{Answers, Outcome, bring_together};
 use crate::own_calls::own_calls;
 use bitmap::Bitmap;
 use blocks::{ConnectionWords, Protocol, Refusal, Settings, Store, Tuple};
+use metadata::StableFile;
 use std::alloc::Global;
 use std::marker::Brand;
 use std::process::Abort;
 use std::sync::Arc;
 use thread_link::{RuledIn, RuledOut, ruled};
-use volume::{Linked, Runtime, Session, SessionStart};
+use volume::{Linked, Runtime, Session, SessionStart, SharedLinkSession};
 
 /// The identifiers of disks that are equal.
 pub(crate) const ALIKE: Tuple = Tuple {
@@ -142,11 +143,29 @@ fn run_named<
             let answers = if work == Work::OwnCalls {
                 own_calls(&rt, alloc, &session)
             } else {
-                carry_out(&rt, alloc, session.mirror(), signals, work)
+                carry_out_over(&rt, alloc, session.mirror(), signals, work)
             };
             let nodes = session.finish().expect(&rt, "both nodes");
             Ok(bring_together(&rt, nodes, &answers))
         }
         Err(refusal) => Err(refusal),
     }
+}
+
+// Carries the work out over the mirror, whatever the type of its metadata's files.
+fn carry_out_over<
+    L: Linked + Send + Sync + 'static,
+    R: Abort + Runtime,
+    S: Store + Drop + Send + 'static,
+    T: Store + Drop + Send + 'static,
+    F: StableFile + Send + 'static,
+    G: StableFile + Send + 'static,
+>(
+    rt: &R,
+    alloc: Global,
+    mirror: &SharedLinkSession<R, L, S, T, F, G>,
+    signals: &Signals,
+    work: Work,
+) -> Answers {
+    carry_out(rt, alloc, mirror, signals, work)
 }

@@ -1,16 +1,18 @@
 //! Tests of sessions over streams.
 use crate::callers::{Work, carry_out};
 use crate::disks::{Signals, memory};
-use crate::outcome::{Outcome, bring_together};
+use crate::outcome::{Answers, Outcome, bring_together};
 use crate::pipes::{Foreign, PipeReader, PipeWriter, pipe};
 use crate::session::Case;
 use blocks::{MemStore, Protocol, Refusal};
+use metadata::StableFile;
 use std::alloc::Global;
 use std::ops::Range;
 use std::process::Abort;
 use std::thread;
 use stream_session::{Sink, Source, StreamSession, Unknown, Way, Ways};
-use volume::Runtime;
+use thread_link::{RuledIn, RuledOut};
+use volume::{LockedPrimary, LockedSecondary, Runtime, SharedSession};
 
 /// The number of bytes after which a stream that never fails would fail.
 const NEVER: u64 = u64::MAX;
@@ -85,12 +87,28 @@ fn over_ways<R: Abort + Runtime, W: Sink, D: Source, V: Sink, E: Source>(
     ) {
         Ok(session) => {
             let signals = Signals::new();
-            let answers = carry_out(&rt, alloc, session.mirror(), &signals, case.work);
+            let answers = carry_out_over(&rt, alloc, session.mirror(), &signals, case.work);
             let nodes = session.finish().expect(&rt, "both nodes");
             Ok(bring_together(&rt, nodes, &answers))
         }
         Err(refusal) => Err(refusal),
     }
+}
+
+// The mirror of a session over streams with metadata files of these types.
+type FiledSession<R, F, G> = SharedSession<
+    R,
+    LockedPrimary<R, Unknown, RuledOut<R>, RuledIn<R>, MemStore, F>,
+    LockedSecondary<R, Unknown, RuledOut<R>, RuledIn<R>, MemStore, G>,
+>;
+
+// Carries the work out over the mirror, whatever the type of its metadata's files.
+fn carry_out_over<
+    R: Abort + Runtime,
+    F: StableFile + Send + 'static,
+    G: StableFile + Send + 'static,
+>(rt: &R, alloc: Global, mirror: &FiledSession<R, F, G>, signals: &Signals, work: Work) -> Answers {
+    carry_out(rt, alloc, mirror, signals, work)
 }
 
 #[test]

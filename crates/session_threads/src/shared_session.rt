@@ -1,5 +1,6 @@
 //! A running session as a device.
-ghost use Rattle.std.specs.Prelude.{◌≡◌, true, IfErr, IfOk};
+ghost use Rattle.std.specs.Prelude.{◌≡◌, ◌⊎◌, true, IfErr, IfOk};
+ghost use Rattle.blocks.specs.declared.refusal.Refusal.TheVariants.{LocalFault};
 ghost use Rattle.model.specs.CallRefusals.{begin_refuses, complete_refuses, reopen_refuses};
 
 use crate::shared::{Shared, Transport};
@@ -90,6 +91,18 @@ impl<R: Wait + Clock, A: PrimaryHalf, B: SecondaryHalf> Device for SharedSession
     fn applied(&self) -> u32 {
         self.shared.secondary.applied()
     }
+
+    fn prepare_leaving(&self, most: u64) -> u64 {
+        self.shared.primary.prepare_leaving(most)
+    }
+
+    fn leave_prepared(&self) -> u64 {
+        self.shared.primary.leave_prepared()
+    }
+
+    fn is_metadata_broken(&self) -> bool {
+        self.shared.primary.is_metadata_broken() || self.shared.secondary.is_metadata_broken()
+    }
 }
 
 impl<R: Wait, A: PrimaryHalf, B: SecondaryHalf> SharedSession<R, A, B> {
@@ -116,7 +129,7 @@ impl<R: Wait + Clock, A: PrimaryHalf, B: SecondaryHalf> SharedSession<R, A, B> {
     // again.
     fn submit(&self, first: u64, bytes: &Bytes) -> Result<u64, Refusal>
         ensures accepted { IfOk result (λ number. A.accepts number first bytes.now) }
-        ensures refused { IfErr result (λ e. begin_refuses e ≡ true) }
+        ensures refused { IfErr result (λ e. (begin_refuses e ≡ true) ⊎ (e ≡ LocalFault)) }
     {
         let shared = &self.shared;
         let mut looks = 0u32;

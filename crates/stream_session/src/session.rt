@@ -2,7 +2,7 @@
 ghost use Rattle.std.specs.Prelude.{◌≡◌, ◌<◌, ◌≤◌, ◌⊎◌, ◌*◌, true, false, Err, length, slice_get, unwrap_or, vec_len, IfErr, IfOk, IfSome, IsTrue};
 ghost use Rattle.blocks.specs.declared.refusal.Refusal.TheVariants.{BadRange, NoMemory, NotConnected, NotDrained, ReadFault};
 ghost use Rattle.halves.specs.Opening.{opening_of};
-ghost use Rattle.model.specs.CallRefusals.{local_open_refuses, peer_open_refuses, start_over_refuses, write_refuses};
+ghost use Rattle.model.specs.CallRefusals.{local_open_refuses, peer_open_refuses, start_over_refuses, streams_hello_refuses, write_refuses};
 ghost use Rattle.model.specs.Primary.{primary_opening};
 ghost use Rattle.model.specs.Secondary.{secondary_opening};
 ghost use Rattle.model.specs.Theorems.{primary_at, secondary_at};
@@ -13,7 +13,9 @@ use bitmap::Bitmap;
 use blocks::{ConnectionWords, Refusal, Settings, Store, Tuple};
 use bytes::Bytes;
 use halves::{Device, SessionStart};
+use kept_nodes::NoFile;
 use locked_halves::{LockedPrimary, LockedSecondary};
+use metadata::StableFile;
 use primary::{Primary, Receipt};
 use secondary::Secondary;
 use session_link::check_numbers;
@@ -25,11 +27,17 @@ use std::thread::Threads;
 use std::time::Clock;
 use thread_link::{RuledIn, RuledOut};
 
+// The primary's half of a session over streams, with a metadata file of type `F`.
+type FiledPrimary<R, B, S, F> = LockedPrimary<R, B, RuledOut<R>, RuledIn<R>, S, F>;
+
+// The secondary's half of a session over streams, with a metadata file of type `G`.
+type FiledSecondary<R, B, T, G> = LockedSecondary<R, B, RuledOut<R>, RuledIn<R>, T, G>;
+
 /// The primary's half of a session over streams.
-pub type LockedStreamPrimary<R, B, S> = LockedPrimary<R, B, RuledOut<R>, RuledIn<R>, S>;
+pub type LockedStreamPrimary<R, B, S> = LockedPrimary<R, B, RuledOut<R>, RuledIn<R>, S, NoFile>;
 
 /// The secondary's half of a session over streams.
-pub type LockedStreamSecondary<R, B, T> = LockedSecondary<R, B, RuledOut<R>, RuledIn<R>, T>;
+pub type LockedStreamSecondary<R, B, T> = LockedSecondary<R, B, RuledOut<R>, RuledIn<R>, T, NoFile>;
 
 /// The mirror of a session over streams, which any number of threads may share.
 pub type SharedStreamSession<R, B, S, T> = SharedSession<
@@ -95,17 +103,43 @@ impl<
                     primary: primary_rows,
                     secondary: secondary_rows,
                 };
-                match Running::start_over(rt, alloc, primary, secondary, rows, ways, parts.is_cut) {
+                match run_over(rt, alloc, primary, secondary, rows, ways, parts.is_cut) {
                     Ok(running) => Ok(StreamSession { running }),
                     Err(refusal) => Err(refusal),
                 }
             }
             Err(refusal) => {
-                drop(primary.into_node().into_store());
+                drop(primary.into_parts().0.into_store());
                 Err(refusal)
             }
         }
     }
+}
+
+// Starts the threads of a session over both halves, whatever the type of their metadata's files.
+fn run_over<
+    R: Threads + Wait + Clock + Copy + Drop + Send + Sync + 'static,
+    B: Beginning + Send + Sync + 'static,
+    S: Store + Drop + Send + 'static,
+    T: Store + Drop + Send + 'static,
+    F: StableFile + Send + 'static,
+    G: StableFile + Send + 'static,
+    W: Sink,
+    D: Source,
+    V: Sink,
+    E: Source,
+>(
+    rt: R,
+    alloc: Global,
+    primary: FiledPrimary<R, B, S, F>,
+    secondary: FiledSecondary<R, B, T, G>,
+    rows: Rows<R>,
+    ways: Ways<Way<W, D>, Way<V, E>>,
+    is_cut: bool,
+) -> Result<Running<R, FiledPrimary<R, B, S, F>, FiledSecondary<R, B, T, G>>, Refusal>
+    ensures refused { IfErr result (λ e. streams_hello_refuses e ≡ true) }
+{
+    Running::start_over(rt, alloc, primary, secondary, rows, ways, is_cut)
 }
 
 // Creates the primary's half over rows of its own. Returns it with the pumps' ends of these.
@@ -124,7 +158,7 @@ fn open_primary<R: Wait + Copy + Drop, B: Beginning, S: Store + Drop>(
     ensures refused { IfErr result (λ e. local_open_refuses e ≡ true) }
 {
     let (ends, rows) = half_rows(rt, alloc, settings.link)?;
-    match LockedPrimary::open(rt, alloc, settings, store, tuple, marks, ends, words) {
+    match LockedPrimary::open(rt, alloc, settings, store, tuple, marks, ends, words, None) {
         Ok(half) => Ok((half, rows)),
         Err(refusal) => Err(refusal),
     }
@@ -143,7 +177,7 @@ fn open_secondary<R: Wait + Copy + Drop, B: Beginning, T: Store + Drop>(
     ensures refused { IfErr result (λ e. peer_open_refuses e ≡ true) }
 {
     let (ends, rows) = half_rows(rt, alloc, settings.link)?;
-    match LockedSecondary::open(rt, alloc, settings, store, tuple, ends) {
+    match LockedSecondary::open(rt, alloc, settings, store, tuple, ends, None, false) {
         Ok(half) => Ok((half, rows)),
         Err(refusal) => Err(refusal),
     }
@@ -208,7 +242,10 @@ impl<
     {
         let StreamSession { running } = self;
         let (locked_primary, locked_secondary) = running.finish()?;
-        let (primary, secondary) = (locked_primary.into_node(), locked_secondary.into_node());
+        let (primary, secondary) = (
+            locked_primary.into_parts().0,
+            locked_secondary.into_parts().0,
+        );
         match check_numbers(&primary, &secondary) {
             Ok(()) => Ok((primary, secondary)),
             Err(refusal) => {

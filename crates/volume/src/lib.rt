@@ -2,10 +2,14 @@
 //! reconnected while writers go on, and its end joins both nodes.
 #![tactic(auto)]
 
+mod kept_session;
 mod session;
 
 pub use halves::{Begun, Device, Host, Runtime, SessionStart};
+pub use kept_session::{
+    Finished, KeptSession, LockedLinkPrimary, LockedLinkSecondary, PairMetadata, SharedLinkSession,
+};
 pub use locked_halves::{LockedPrimary, LockedSecondary};
-pub use session::{LockedLinkPrimary, LockedLinkSecondary, Session, SharedLinkSession};
+pub use session::Session;
 pub use session_link::{Back, Began, Linked, NamedPrimary, NamedSecondary, There};
 pub use session_threads::SharedSession;

@@ -11,49 +11,22 @@ ghost use Rattle.session_nodes.specs.Primaries.{HasAccepted, HasHeld, PrimaryHas
 ghost use Rattle.session_nodes.specs.Secondaries.{SecondaryHas, SecondaryIsHad};
 ghost use Rattle.volume.specs.Links.{AreEndsOf};
 
-use blocks::{ConnectionWords, Refusal, Store};
+use crate::kept_session::{Finished, KeptSession, PairMetadata, SharedLinkSession};
+use blocks::{Refusal, Store};
 use bytes::Bytes;
 use halves::{Device, SessionStart};
-use locked_halves::{LockedPrimary, LockedSecondary};
+use kept_nodes::NoFile;
 use primary::Receipt;
-use session_link::{
-    Back, Began, Linked, NamedPrimary, NamedSecondary, There, check_numbers, join_nodes, named_ends,
-};
-use session_threads::{Running, SharedSession};
+use session_link::{Linked, NamedPrimary, NamedSecondary};
 use std::alloc::Global;
 use std::sync::Wait;
 use std::thread::Threads;
 use std::time::Clock;
-use thread_link::{NamedIn, NamedOut, RuledIn, RuledOut};
-
-/// The primary's half over a session's link.
-pub type LockedLinkPrimary<R, L, S> = LockedPrimary<
-    R,
-    Began<L>,
-    NamedOut<R, There<L>>,
-    NamedIn<R, Back<L>>,
-    S,
->;
-
-/// The secondary's half over a session's link.
-pub type LockedLinkSecondary<R, L, T> = LockedSecondary<
-    R,
-    Began<L>,
-    NamedOut<R, Back<L>>,
-    NamedIn<R, There<L>>,
-    T,
->;
-
-/// The mirror of a session over a link, which any number of threads may share.
-pub type SharedLinkSession<R, L, S, T> = SharedSession<
-    R,
-    LockedLinkPrimary<R, L, S>,
-    LockedLinkSecondary<R, L, T>,
->;
+use thread_link::{RuledIn, RuledOut};
 
 /// A running session over a link. It cannot be dropped: whoever starts it has to finish it.
 pub struct Session<R: Threads + Wait + Drop, L: Linked, S: Store + Drop, T: Store + Drop> {
-    running: Running<R, LockedLinkPrimary<R, L, S>, LockedLinkSecondary<R, L, T>>,
+    kept: KeptSession<R, L, S, T, NoFile, NoFile>,
 }
 
 impl<
@@ -83,29 +56,14 @@ impl<
         requires opening { L.opening ≡ opening_of parts (slice_get (S.contents local)) (slice_get (T.contents peer)) }
         ensures refused { IfErr result (λ e. start_refuses e ≡ true) }
     {
-        let (primary_ends, secondary_ends) = named_ends::<R, L>(there, back);
-        let primary = LockedPrimary::open(
-            rt,
-            alloc,
-            parts.settings,
-            local,
-            parts.own,
-            parts.marks,
-            primary_ends,
-            ConnectionWords {
-                sync: parts.sync,
-                loss: parts.loss,
-            },
-        )?;
-        match LockedSecondary::open(rt, alloc, parts.settings, peer, parts.peer, secondary_ends) {
-            Ok(secondary) => match Running::start(rt, alloc, primary, secondary, parts.is_cut) {
-                Ok(running) => Ok(Session { running }),
-                Err(refusal) => Err(refusal),
-            },
-            Err(refusal) => {
-                drop(primary.into_node().into_store());
-                Err(refusal)
-            }
+        let none = PairMetadata {
+            primary: None,
+            secondary: None,
+            is_peer_doubted: false,
+        };
+        match KeptSession::start(rt, alloc, there, back, local, peer, parts, none) {
+            Ok(kept) => Ok(Session { kept }),
+            Err(refusal) => Err(refusal),
         }
     }
 }
@@ -117,8 +75,8 @@ impl<R: Threads + Wait + Clock + Drop, L: Linked, S: Store + Drop, T: Store + Dr
     T,
 > {
     /// Returns the mirror, which any number of threads may share.
-    pub fn mirror(&self) -> &SharedLinkSession<R, L, S, T> {
-        self.running.mirror()
+    pub fn mirror(&self) -> &SharedLinkSession<R, L, S, T, NoFile, NoFile> {
+        self.kept.mirror()
     }
 
     /// Writes whole blocks from `first` on, and returns the receipt once the write is completed as the protocol says:
@@ -129,7 +87,7 @@ impl<R: Threads + Wait + Clock + Drop, L: Linked, S: Store + Drop, T: Store + Dr
         ensures accepted { IfOk result (λ receipt. HasAccepted (Some L.opening) receipt.number first bytes.now) }
         ensures refused { IfErr result (λ e. write_refuses e ≡ true) }
     {
-        self.running.mirror().write(first, bytes)
+        self.kept.mirror().write(first, bytes)
     }
 
     /// Reads blocks of the local disk, 1 to 32 inside the device and inside one extent: `Device::read` of the mirror, with
@@ -140,12 +98,12 @@ impl<R: Threads + Wait + Clock + Drop, L: Linked, S: Store + Drop, T: Store + Dr
         ensures length { IfOk result (λ bytes. vec_len bytes ≡ count * 4096) }
         ensures refused { IfErr result (λ e. (e ≡ BadRange) ⊎ ((e ≡ NoMemory) ⊎ (e ≡ ReadFault))) }
     {
-        self.running.mirror().read(first, count)
+        self.kept.mirror().read(first, count)
     }
 
     /// Closes both ends of the link: `Device::cut` of the mirror.
     pub fn cut(&self) {
-        self.running.mirror().cut();
+        self.kept.mirror().cut();
     }
 
     /// Opens both ends again under fresh words, and returns the connection's number, as `Device::reconnect` of the mirror does.
@@ -153,7 +111,7 @@ impl<R: Threads + Wait + Clock + Drop, L: Linked, S: Store + Drop, T: Store + Dr
     pub fn reconnect(&self, sync: u64, loss: u64) -> Result<u32, Refusal>
         ensures refused { IfErr result (λ e. reopen_refuses e ≡ true) }
     {
-        self.running.mirror().reconnect_over_link(sync, loss)
+        self.kept.mirror().reconnect_over_link(sync, loss)
     }
 
     /// Ends the session: cuts the link, lets the disks finish all pending work, stops the threads, and returns both
@@ -169,26 +127,19 @@ impl<R: Threads + Wait + Clock + Drop, L: Linked, S: Store + Drop, T: Store + Dr
         ensures numbered { IfOk result (λ nodes. nodes.1.core.number ≤ nodes.0.core.connections) }
         ensures refused { IfErr result (λ e. e ≡ NotDrained) }
     {
-        let Session { running } = self;
-        let (locked_primary, locked_secondary) = running.finish()?;
-        let (primary, secondary) = into_nodes(locked_primary, locked_secondary);
-        match check_numbers(&primary, &secondary) {
-            Ok(()) => Ok((primary, secondary)),
-            Err(refusal) => {
-                drop((primary.into_store(), secondary.into_store()));
-                Err(refusal)
+        let Session { kept } = self;
+        match kept.finish() {
+            Ok(
+                Finished {
+                    primary,
+                    secondary,
+                    metadata,
+                },
+            ) => {
+                drop(metadata);
+                Ok((primary, secondary))
             }
+            Err(refusal) => Err(refusal),
         }
     }
-}
-
-// Takes both nodes of a session over a link out of their locks, and joins them.
-fn into_nodes<R: Wait + Drop, L: Linked, S: Store + Drop, T: Store + Drop>(
-    primary: LockedLinkPrimary<R, L, S>,
-    secondary: LockedLinkSecondary<R, L, T>,
-) -> (NamedPrimary<R, L, S>, NamedSecondary<R, L, T>)
-    ensures had { PrimaryIsHad (Some L.opening) result.0 × SecondaryIsHad (Some L.opening) result.1 }
-    ensures joined { (p : PrimaryHistory) (s : SecondaryHistory) → PrimaryHas result.0 p → SecondaryHas result.1 s → IsJoined p s }
-{
-    join_nodes(primary.into_node(), secondary.into_node())
 }

@@ -9,6 +9,7 @@ use crate::sessions::writers::write_all;
 use bitmap::Bitmap;
 use blocks::{MemStore, Protocol, Refusal, Settings, Tuple};
 use link::{FrameIn, FrameOut};
+use metadata::StableFile;
 use primary::Primary;
 use secondary::Secondary;
 use std::alloc::Global;
@@ -19,7 +20,10 @@ use std::time::{Duration, Instant};
 use std::{fmt, thread};
 use stream_session::{Socket, StreamSession, Unknown, Ways, loopback};
 use thread_link::{RuledIn, RuledOut, ruled};
-use volume::{Device, Linked, Runtime, Session, SessionStart};
+use volume::{
+    Device, Linked, LockedPrimary, LockedSecondary, Runtime, Session, SessionStart,
+    SharedLinkSession, SharedSession,
+};
 
 /// Blocks of the device of a session: 32 MiB.
 pub(crate) const BLOCKS: u32 = 8_192;
@@ -117,7 +121,7 @@ fn run_named<L: Linked + Send + Sync + 'static, R: Runtime>(
     let session = Session::<R, L, MemStore, MemStore>::start(
         rt, alloc, there, back, local, peer, parts,
     )?;
-    let report = measured(&rt, alloc, session.mirror(), plan);
+    let report = measured_linked(&rt, alloc, session.mirror(), plan);
     end(session.finish())?;
     report
 }
@@ -133,7 +137,7 @@ fn run_over<R: Runtime>(
     let session = StreamSession::<R, Unknown, MemStore, MemStore>::start_over(
         rt, alloc, local, peer, parts, ways,
     )?;
-    let report = measured(&rt, alloc, session.mirror(), plan);
+    let report = measured_over(&rt, alloc, session.mirror(), plan);
     end(session.finish())?;
     report
 }
@@ -145,6 +149,38 @@ fn end<O: FrameOut + Drop, I: FrameIn + Drop, P: FrameOut + Drop, J: FrameIn + D
     let (primary, secondary) = ended?;
     drop((primary.into_store(), secondary.into_store()));
     Ok(())
+}
+
+// The mirror of a session over sockets with metadata files of these types.
+type FiledSession<R, F, G> = SharedSession<
+    R,
+    LockedPrimary<R, Unknown, RuledOut<R>, RuledIn<R>, MemStore, F>,
+    LockedSecondary<R, Unknown, RuledOut<R>, RuledIn<R>, MemStore, G>,
+>;
+
+// Measures a session over a link, whatever the type of its metadata's files.
+fn measured_linked<
+    L: Linked + Send + Sync + 'static,
+    R: Runtime,
+    F: StableFile + Send + 'static,
+    G: StableFile + Send + 'static,
+>(
+    rt: &R,
+    alloc: Global,
+    mirror: &SharedLinkSession<R, L, MemStore, MemStore, F, G>,
+    plan: Plan,
+) -> Result<Report, Refusal> {
+    measured(rt, alloc, mirror, plan)
+}
+
+// Measures a session over sockets, whatever the type of its metadata's files.
+fn measured_over<R: Runtime, F: StableFile + Send + 'static, G: StableFile + Send + 'static>(
+    rt: &R,
+    alloc: Global,
+    mirror: &FiledSession<R, F, G>,
+    plan: Plan,
+) -> Result<Report, Refusal> {
+    measured(rt, alloc, mirror, plan)
 }
 
 // Makes all writes of a session that runs, and then leaves it alone.

@@ -10,7 +10,8 @@ returns g c =
       end = c.in_ok-served.field-0;
       ended = ended;
       unchanged = all.1.0;
-      synced = all.1.1;
+      synced = all.1.1.0;
+      kept = all.1.1.1;
       clean = all.0.0.1;
       read = all.0.1.0;
       none = all.0.0.0;
@@ -18,4 +19,4 @@ returns g c =
       printed = all.0.1.1.1;
     }) (both _ _ c.print.result (both _ _ c.print.result printed.alike (both _ _ c.print.result printed.read
     (both _ _ c.print.result printed.whole printed.printed)))
-    (both _ _ c.print.result printed.unchanged printed.synced))
+    (both _ _ c.print.result printed.unchanged (both _ _ c.print.result printed.synced printed.kept)))

@@ -1,10 +1,17 @@
+use Rattle.std.proofs.Common.{rules}
 use Rattle.serving.proofs.Ended.{session-of}
 use Rattle.serving.proofs.session.run_named.Goals as goal
 
-pub returns-in-Ok-finish : goal.returns-in-Ok-finish
-returns-in-Ok-finish g c = record {
-  session = session-of g.L.Linked.opening c.args.totals c.settle_session.result c.work-worked.result c.in-Ok-finish.primary c.in-Ok-finish.secondary
-      c.in-Ok-finish.ensures.had c.in-Ok-finish.ensures.joined c.in-Ok-finish.ensures.numbered
+pub returns-in-Ok : goal.returns-in-Ok
+returns-in-Ok g c = record {
+  session = session-of g.L.Linked.opening c.args.totals c.settle_session.result c.in-Ok.worked c.in-Ok.left.primary c.in-Ok.left.secondary
+      c.in-Ok.ensures.had c.in-Ok.ensures.joined c.in-Ok.ensures.numbered
       c.settle_session.ensures.faithful c.settle_session.ensures.done
       c.settle_session.ensures.disks c.settle_session.ensures.comes;
 }
+
+pub run_filed-requires-send-F : goal.run_filed-requires-send-F
+run_filed-requires-send-F g c κs within = search rules
+
+pub run_filed-requires-send-G : goal.run_filed-requires-send-G
+run_filed-requires-send-G g c κs within = search rules

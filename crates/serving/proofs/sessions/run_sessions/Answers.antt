@@ -1,12 +1,11 @@
-use Rattle.std.proofs.Common.{[], ◌∷◌, ap, refl}
-use Rattle.blocks.specs.declared.tuple.Tuple.{Tuple}
+use Rattle.std.proofs.Common.{[], ◌∷◌, refl}
 use Rattle.serving.proofs.sessions.run_sessions.Goals as goal
 
 pub loop-init : goal.loop-init
 loop-init g c = (
   c.in_ok-last.last,
   [],
-  (c.in_ok-last.ensures, refl, λ trusted stayed. (c.in_ok-last.ensures.honest trusted, λ same. ap (λ (t : Tuple). t.bitmap) c.in_ok-last.ensures.own)),
+  (c.in_ok-last.ensures, refl, λ honest stayed. (honest, λ unparted. unparted)),
 )
 
 pub loop-preserved : goal.loop-preserved
@@ -18,9 +17,9 @@ loop-preserved g c =
       (
         was.2.0,
         (session, was.2.1),
-        λ trusted stayed.
-            let before = was.2.2 trusted stayed.1 in
-            (session.honest before.0 (session.faithful stayed.0), session.unparted before.0 before.1),
+        λ honest stayed.
+            let before = was.2.2 honest stayed.1 in
+            (session.honest before.0 (session.faithful stayed.0), λ unparted. session.unparted before.0 (before.1 unparted)),
       ),
     )
 
@@ -35,7 +34,7 @@ returns-then-clients-eq0 g c =
         last = c.loop.last;
         session = c.in_ok-last-2.ensures.session;
         come = was.2.1;
-        honest = λ trusted stayed. (was.2.2 trusted stayed).0;
-        unparted = λ trusted stayed. (was.2.2 trusted stayed).1;
+        honest = λ honest stayed. (was.2.2 honest stayed).0;
+        unparted = λ honest unparted stayed. (was.2.2 honest stayed).1 unparted;
       };
     }

@@ -9,3 +9,9 @@ returns-clause-stands g c = rw (← c.self.view_is) λ whole faithful.
       left = λ f may. (kept.left f may).opens;
       entered = λ f may. (kept.left f may).entered;
     }
+
+pub returns-clause-sized : goal.returns-clause-sized
+returns-clause-sized g c = rw (← c.self.view_is) c.self.invariant.sized
+
+pub returns-clause-few : goal.returns-clause-few
+returns-clause-few g c = rw (← c.self.view_is) c.self.invariant.few

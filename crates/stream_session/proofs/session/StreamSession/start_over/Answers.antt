@@ -1,4 +1,4 @@
-use Rattle.std.proofs.Common.{◌≡◌, ◌||◌, Bool, true, false, refl, sym, ap}
+use Rattle.std.proofs.Common.{◌≡◌, ◌||◌, Bool, true, false, refl, rules, sym, ap}
 use Rattle.std.proofs.lemmas.Option.{IfSome_then}
 use Rattle.model.specs.Theorems.{primary_at, secondary_at}
 use Rattle.blocks.specs.declared.refusal.Refusal.{Refusal}
@@ -19,5 +19,11 @@ of-hello e = go (local_open_refuses e) (streams_hello_refuses e)
     go true b is = refl
     go false b is = is
 
-pub returns-in-Err-start_over : goal.returns-in-Err-start_over
-returns-in-Err-start_over g c = record { refused = of-hello c.in-Err-start_over.refusal c.in-Err-start_over.ensures.refused }
+pub returns-in-Err-run_over : goal.returns-in-Err-run_over
+returns-in-Err-run_over g c = record { refused = of-hello c.in-Err-run_over.refusal c.in-Err-run_over.ensures.refused }
+
+pub run_over-requires-send-F : goal.run_over-requires-send-F
+run_over-requires-send-F g c κs within = search rules
+
+pub run_over-requires-send-G : goal.run_over-requires-send-G
+run_over-requires-send-G g c κs within = search rules

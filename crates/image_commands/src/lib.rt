@@ -1,0 +1,12 @@
+//! Commands over images that no server uses: making metadata, showing it, and comparing both images of a mirror.
+#![tactic(auto)]
+
+mod command_fault;
+mod comparison;
+mod create;
+mod dump;
+mod held_image;
+
+pub use comparison::verify;
+pub use create::create_md;
+pub use dump::dump_md;

@@ -1,0 +1,2 @@
+-- How a server begins over the metadata that it finds.
+pub mod Starts

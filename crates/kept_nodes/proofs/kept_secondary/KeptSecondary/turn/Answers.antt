@@ -1,0 +1,29 @@
+use Rattle.std.proofs.Common.{sym, subst, ◌∙◌, ◌≡◌, false, true}
+use Rattle.kept_nodes.specs.Kept.{KeptSecondaryState, is_broken}
+use Rattle.kept_nodes.proofs.Turning.{runs-whole-too}
+use Rattle.session_nodes.specs.Secondaries.{SecondaryRuns}
+use Rattle.kept_nodes.proofs.kept_secondary.KeptSecondary.turn.Goals.{else-loop-test, then-loop-test+then-not-advance}
+use Rattle.kept_nodes.proofs.kept_secondary.KeptSecondary.turn.Goals as goal
+
+pub loop-preserved : goal.loop-preserved
+loop-preserved g c = record {
+  runs = runs-whole-too c.args.self.now.node c.loop.self.node c.advance.new.self.node (is_broken c.loop.self.metadata) (is_broken c.advance.new.self.metadata)
+      c.loop.invariant.runs c.advance.ensures.stays c.advance.ensures.runs;
+  stays = λ was. c.advance.ensures.stays (c.loop.invariant.stays was);
+  closed = c.advance.ensures.closed ∙ c.loop.invariant.closed;
+}
+
+pub returns-clause-runs : goal.returns-clause-runs
+returns-clause-runs g c = elim c.loop-test.branch [
+  | else-loop-test w ↦ subst (λ (k : _). is_broken k.metadata ≡ false → SecondaryRuns c.args.self.now.node k.node) (sym w.self-is) c.loop.invariant.runs
+  | then-loop-test+then-not-advance w ↦ subst (λ (k : _). is_broken k.metadata ≡ false → SecondaryRuns c.args.self.now.node k.node) (sym w.self-is)
+      (runs-whole-too c.args.self.now.node c.loop.self.node w.advance.new.self.node (is_broken c.loop.self.metadata) (is_broken w.advance.new.self.metadata)
+      c.loop.invariant.runs w.advance.ensures.stays w.advance.ensures.runs)
+]
+
+pub returns-clause-stays : goal.returns-clause-stays
+returns-clause-stays g c = elim c.loop-test.branch [
+  | else-loop-test w ↦ subst (λ (k : _). is_broken c.args.self.now.metadata ≡ true → is_broken k.metadata ≡ true) (sym w.self-is) c.loop.invariant.stays
+  | then-loop-test+then-not-advance w ↦ subst (λ (k : _). is_broken c.args.self.now.metadata ≡ true → is_broken k.metadata ≡ true) (sym w.self-is)
+      (λ was. w.advance.ensures.stays (c.loop.invariant.stays was))
+]

@@ -1,0 +1,5 @@
+use Rattle.std.specs.Prelude.{◌≡◌, length}
+use Rattle.kept_nodes.proofs.known.add_bytes.Given as goal
+
+abbrev pub invariant-loop-offset : goal.invariant-loop-offset
+invariant-loop-offset l = record { size : length l.known ≡ length l.fn.known }

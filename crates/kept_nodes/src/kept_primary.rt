@@ -1,0 +1,356 @@
+//! The primary with its metadata.
+ghost use Rattle.std.specs.Prelude.{◌≡◌, ◌⊎◌, ◌<◌, ◌≤◌, ◌*◌, ◌/◌, [], true, false, None, Some, Err, slice_get, slice_index, unwrap_or, is_some, length, vec_len, IsTrue, IfOk, IfErr, IfSome, OnOk, OnErr};
+ghost use Rattle.blocks.specs.declared.outcome.Reply.{Reply};
+ghost use Rattle.blocks.specs.declared.outcome.Reply.TheVariants as reply;
+ghost use Rattle.blocks.specs.declared.outcome.What.TheVariants as what;
+ghost use Rattle.blocks.specs.declared.refusal.Refusal.TheVariants.{BadRange, LocalFault, NoMemory, NotConnected, NotDrained, NothingThere, ReadFault};
+ghost use Rattle.endpoint.specs.Calls as link;
+ghost use Rattle.endpoint.specs.Calls.{IsNewIn, IsNewOut, has_room, is_out_of_memory};
+ghost use Rattle.kept_nodes.specs.Kept.{PrimaryIsKept, is_broken};
+ghost use Rattle.metadata.specs.State.{is_entered};
+ghost use Rattle.model.specs.CallRefusals.{ack_in_refuses, local_open_refuses, reopen_refuses, resync_next_refuses, send_refuses, submit_refuses, take_completed_refuses};
+ghost use Rattle.model.specs.Contents.{IsRead, extent_of, is_range};
+ghost use Rattle.model.specs.LocalRuns.{Closes, Opens, Sends, Submits, primary_after};
+ghost use Rattle.model.specs.Primary.{PrimaryHistory, local_map, next_local, primary_opening};
+ghost use Rattle.model.specs.Theorems.{primary_at};
+ghost use Rattle.primary.specs.Calls.{CopiesOne, WritesOne};
+ghost use Rattle.primary_core.specs.Send.{owes_blocks};
+ghost use Rattle.primary_protocol.specs.Node.{take_receipt};
+ghost use Rattle.primary_protocol.specs.Steps.{plainly, replied};
+ghost use Rattle.primary_protocol.specs.Transitions.{whole_blocks};
+ghost use Rattle.session_nodes.specs.Primaries.{HasAccepted, HasHeld, IsPrimaryStep, PrimaryHas, PrimaryIsHad, PrimaryRuns, PrimarySteps, PrimaryTakes};
+
+use crate::keeping::{enter_device, enter_extent, enter_marked, is_broken, save_turned};
+use bitmap::Bitmap;
+use blocks::{
+    ConnectionWords, Decision, Done, EXTENT_BLOCKS, Extent, Refusal, Settings, Store, Tuple, What,
+};
+use bytes::Bytes;
+use link::{FrameIn, FrameOut};
+use metadata::{Metadata, StableFile};
+use primary::{Primary, Receipt};
+use session_nodes::{Beginning, SessionPrimary};
+use std::alloc::Global;
+use std::marker::Model;
+
+/// The primary of a session, kept under a lock, with the metadata of its disk, if it has some. Invariant: whatever a stop leaves of
+/// the metadata's file now has each block that is marked or under an unreleased write; and as long as no call of the file has
+/// failed, the identifiers that a close would leave (`PrimaryIsKept`).
+///
+/// A call of the file that fails breaks the metadata for good. Then a write to an extent that is not entered is refused, the end
+/// closes at the next turn of its sender, and stays closed; reads, and writes to extents that are entered, go on.
+#[derive(Drop)]
+pub struct KeptPrimary<
+    B: Beginning,
+    O: FrameOut + Drop,
+    I: FrameIn + Drop,
+    S: Store + Drop,
+    F: StableFile,
+> {
+    pub(crate) node: SessionPrimary<B, O, I, S>,
+    pub(crate) metadata: Option<Metadata<F>>,
+    // For each extent, not 0 if its marks were written since a write was last accepted there, so that it may leave.
+    pub(crate) prepared: Vec<u8>,
+}
+
+impl<B: Beginning, O: FrameOut + Drop, I: FrameIn + Drop, S: Store + Drop, F: StableFile> Model
+    for KeptPrimary<B, O, I, S, F> {
+    ghost use Rattle.kept_nodes.specs.Kept.{KeptPrimaryState, PrimaryIsKept};
+
+    ghost Value = { KeptPrimaryState F };
+
+    ghost view = { λ k. record { node = k.node; metadata = k.metadata; prepared = k.prepared.items } };
+
+    ghost invariant = { λ k. PrimaryIsKept B.opening k.node k.metadata };
+}
+
+impl<
+    B: Beginning,
+    O: FrameOut + Drop,
+    I: FrameIn + Drop,
+    S: Store + Drop,
+    F: StableFile,
+> KeptPrimary<B, O, I, S, F> {
+    /// Creates a primary over its disk, opens it over unused ends of a link, and has the metadata say what a stop leaves of it: each
+    /// marked block that the file does not have is entered by its extent, and the identifiers are saved.
+    ///
+    /// `BadSetting` (15), `NoMemory` (7) and `UsedIdentifier` (33) come as for `SessionPrimary::open`. `BadSetting` comes too if the
+    /// metadata is of a device of another size, and `LocalFault` (8) if its file cannot be read or written.
+    pub fn open(
+        alloc: Global,
+        settings: Settings,
+        store: S,
+        tuple: Tuple,
+        marks: Bitmap,
+        link: (O, I),
+        words: ConnectionWords,
+        metadata: Option<Metadata<F>>,
+    ) -> Result<KeptPrimary<B, O, I, S, F>, Refusal>
+        requires outward { IsNewOut (O.state link.0) }
+        requires inward { IsNewIn (I.state link.1) }
+        requires began { IfSome B.opening (λ opening. primary_opening settings (slice_get (S.contents store)) tuple (λ block. unwrap_or (slice_get marks block) false)
+            ≡ primary_at opening) }
+        ensures opened { IfOk result (λ k. PrimaryHas k.node (primary_after (Opens words.sync words.loss false)
+            (primary_opening settings (slice_get (S.contents store)) tuple (λ block. unwrap_or (slice_get marks block) false)))) }
+        ensures metadata { IfOk result (λ k. is_some k.metadata ≡ is_some metadata) }
+        ensures whole { IfOk result (λ k. is_broken k.metadata ≡ false) }
+        ensures refused { IfErr result (λ e. (local_open_refuses e ≡ true) ⊎ ((e ≡ LocalFault) × (is_some metadata ≡ true))) }
+    {
+        let node = SessionPrimary::open(alloc, settings, store, tuple, marks, link, words)?;
+        match with_file(alloc, &node, metadata) {
+            Ok((metadata, prepared)) => Ok(KeptPrimary {
+                node,
+                metadata,
+                prepared,
+            }),
+            Err(refusal) => {
+                drop(node.into_node().into_store());
+                Err(refusal)
+            }
+        }
+    }
+
+    /// Accepts a write and returns its number. Its extent is entered before. The refusals are those of `SessionPrimary::submit`, 1
+    /// to 7 and 12, and `LocalFault` (8): the extent is not entered, and cannot be, since a call of the metadata's file failed now or
+    /// earlier. Then the node is as it was.
+    pub fn submit(&mut self, first: u64, bytes: &Bytes) -> Result<(u64, Done), Refusal>
+        ensures step { (result ≡ Err LocalFault → ⊥) → PrimarySteps (Submits first (whole_blocks bytes.now) (is_out_of_memory result)) self.old.node (replied (λ accepted. reply.Ok accepted.1) result) self.new.node }
+        ensures number { IfOk result (λ accepted. accepted.1.what ≡ what.Write accepted.0) }
+        ensures accepted { IfOk result (λ accepted. HasAccepted B.opening accepted.0 first bytes.now) }
+        ensures fault { result ≡ Err LocalFault → (self.new.node ≡ self.old.node) × (is_broken self.new.metadata ≡ true) }
+        ensures goes_on { IfSome self.old.metadata (λ m. is_entered m.entries (extent_of first) ≡ true → result ≡ Err LocalFault → ⊥) }
+        ensures touched { OnOk result (slice_index self.new.prepared (extent_of first) ≡ 0) }
+        ensures refused { IfErr result (λ e. (submit_refuses e ≡ true) ⊎ (e ≡ LocalFault)) }
+    {
+        let extent = Extent(first / EXTENT_BLOCKS);
+        if let Some(prepared) = self.prepared.get_mut(extent.0 as usize) {
+            *prepared = 0;
+        }
+        if let Err(refusal) = enter_extent(&mut self.metadata, extent) {
+            save_identifiers(&self.node, &mut self.metadata);
+            return Err(refusal);
+        }
+        let accepted = self.node.submit(first, bytes);
+        save_identifiers(&self.node, &mut self.metadata);
+        accepted
+    }
+
+    /// Returns the receipt of a write, once. The refusals are those of `Primary::take_completed`: 8, 9 and 16.
+    pub fn take_completed(&mut self, number: u64) -> Result<Receipt, Refusal>
+        ensures step { IsPrimaryStep (take_receipt number) self.old.node result self.new.node }
+        ensures number { IfOk result (λ receipt. receipt.number ≡ number) }
+        ensures refused { IfErr result (λ e. take_completed_refuses e ≡ true) }
+    {
+        let receipt = self.node.take_completed(number);
+        save_identifiers(&self.node, &mut self.metadata);
+        receipt
+    }
+
+    /// Reads blocks of the local disk. The refusals are those of `Primary::read`.
+    pub fn read(&mut self, first: u64, count: u64) -> Result<Vec<u8>, Refusal>
+        ensures read { IfOk result (λ bytes. IsTrue self.new.node.faithful → (h : PrimaryHistory) → PrimaryHas self.old.node h → IsRead (local_map h) first count bytes.items) }
+        ensures held { IfOk result (λ bytes. IsTrue self.new.node.faithful → HasHeld B.opening first count bytes.items) }
+        ensures falls { IsTrue self.new.node.faithful → IsTrue self.old.node.faithful }
+        ensures known { ((store : S) → IsTrue (S.faithful store)) → IsTrue self.new.node.faithful }
+        ensures within { OnOk result (is_range self.old.node.core.settings first count ≡ true) }
+        ensures length { IfOk result (λ bytes. vec_len bytes ≡ count * 4096) }
+        ensures refused { IfErr result (λ e. ((e ≡ BadRange) × (is_range self.old.node.core.settings first count ≡ false))
+            ⊎ (((e ≡ NoMemory) × (is_range self.old.node.core.settings first count ≡ true))
+            ⊎ ((e ≡ ReadFault) × (is_range self.old.node.core.settings first count ≡ true) × (self.old.node.faults < self.new.node.faults)))) }
+        ensures kept { (h : PrimaryHistory) → PrimaryHas self.old.node h → PrimaryHas self.new.node h }
+    {
+        let read = self.node.read(first, count);
+        save_identifiers(&self.node, &mut self.metadata);
+        read
+    }
+
+    /// Sends the next frame. The refusals are those of `Primary::send`: 7, 11, 12 and 13. If the metadata is broken, nothing is sent:
+    /// the end closes, and the refusal is `NotConnected` (12).
+    pub fn send(&mut self) -> Result<Done, Refusal>
+        ensures step { is_broken self.old.metadata ≡ false → PrimarySteps (Sends (has_room result) (is_out_of_memory result)) self.old.node (replied reply.Ok result) self.new.node }
+        ensures runs { is_broken self.old.metadata ≡ false → PrimaryRuns self.old.node self.new.node }
+        ensures link { is_broken self.old.metadata ≡ false → link.Sends result self.old.node.outgoing self.new.node.outgoing }
+        ensures memory { IfErr result (λ e. e ≡ NoMemory → owes_blocks self.old.node.core ≡ true) }
+        ensures closes { is_broken self.old.metadata ≡ true → (result ≡ Err NotConnected) × ((reply : Reply) × PrimarySteps Closes self.old.node reply self.new.node) }
+        ensures refused { IfErr result (λ e. send_refuses e ≡ true) }
+        ensures stays { is_broken self.old.metadata ≡ true → is_broken self.new.metadata ≡ true }
+    {
+        if self.is_broken() {
+            let _ = self.close();
+            return Err(Refusal::NotConnected);
+        }
+        let sent = self.node.send();
+        save_identifiers(&self.node, &mut self.metadata);
+        sent
+    }
+
+    /// Takes the next frame. The refusals are those of `Primary::ack_in`: 7, 12, 13, and of a frame that was taken 20 to 25 and
+    /// 30 to 35. If a full copy begins, all extents are entered, and identifiers that have turned are saved, before the call ends.
+    pub fn ack_in(&mut self) -> Result<Done, Refusal>
+        ensures step { PrimaryTakes result self.old.node self.new.node }
+        ensures runs { PrimaryRuns self.old.node self.new.node }
+        ensures refused { IfErr result (λ e. ack_in_refuses e ≡ true) }
+        ensures stays { is_broken self.old.metadata ≡ true → is_broken self.new.metadata ≡ true }
+    {
+        let taken = self.node.ack_in();
+        if begins_full_copy(&taken) {
+            enter_device(&mut self.metadata);
+        }
+        save_identifiers(&self.node, &mut self.metadata);
+        taken
+    }
+
+    /// Performs the next write on the disk. `NothingThere` (13) if there is none, and no other refusal; then nothing changes.
+    pub fn write_next(&mut self) -> Result<Done, Refusal>
+        ensures runs { PrimaryRuns self.old.node self.new.node }
+        ensures writes { (h : PrimaryHistory) → PrimaryHas self.old.node h → IfSome (next_local h) (λ number. WritesOne number result self.old.node self.new.node) }
+        ensures nothing { (h : PrimaryHistory) → PrimaryHas self.old.node h → next_local h ≡ None → (result ≡ Err NothingThere) × (self.new.node ≡ self.old.node) }
+        ensures refused { IfErr result (λ e. e ≡ NothingThere) }
+        ensures stays { is_broken self.old.metadata ≡ true → is_broken self.new.metadata ≡ true }
+    {
+        let written = self.node.write_next();
+        save_identifiers(&self.node, &mut self.metadata);
+        written
+    }
+
+    /// Reads the next block of a resync and appends it to the stream. The refusals are those of
+    /// `Primary::resync_next`: 6, 7, 10, 12 and 14.
+    pub fn resync_next(&mut self) -> Result<Done, Refusal>
+        ensures runs { PrimaryRuns self.old.node self.new.node }
+        ensures copies { CopiesOne result self.old.node self.new.node }
+        ensures refused { IfErr result (λ e. resync_next_refuses e ≡ true) }
+        ensures stays { is_broken self.old.metadata ≡ true → is_broken self.new.metadata ≡ true }
+    {
+        let copied = self.node.resync_next();
+        save_identifiers(&self.node, &mut self.metadata);
+        copied
+    }
+
+    /// Closes the end. `NotConnected` (12) if it is closed, and no other refusal.
+    pub fn close(&mut self) -> Result<u32, Refusal>
+        ensures step { PrimarySteps Closes self.old.node (replied reply.Closed result) self.new.node }
+        ensures refused { IfErr result (λ e. e ≡ NotConnected) }
+        ensures stays { is_broken self.old.metadata ≡ true → is_broken self.new.metadata ≡ true }
+    {
+        let closed = self.node.close();
+        save_identifiers(&self.node, &mut self.metadata);
+        closed
+    }
+
+    /// Closes the end, if it is open and its connection is `connection` or an earlier one.
+    pub fn close_lost(&mut self, connection: u32)
+        ensures closes { self.old.node.core.connections ≤ connection → (reply : Reply) × PrimarySteps Closes self.old.node reply self.new.node }
+        ensures later { connection < self.old.node.core.connections → self.new.node ≡ self.old.node }
+    {
+        self.node.close_lost(connection);
+        save_identifiers(&self.node, &mut self.metadata);
+    }
+
+    /// Opens the end again and returns the connection's number. The refusals are those of `Primary::reopen`: 6, 7, 33 and 36. If the
+    /// metadata is broken, the end stays closed: `NotDrained` (36).
+    pub fn reopen(&mut self, sync: u64, loss: u64) -> Result<u32, Refusal>
+        ensures step { is_broken self.old.metadata ≡ false → PrimarySteps (Opens sync loss (is_out_of_memory result)) self.old.node (replied (λ number. plainly tt) result) self.new.node }
+        ensures number { IfOk result (λ number. number ≡ self.new.node.core.connections) }
+        ensures broken { is_broken self.old.metadata ≡ true → (result ≡ Err NotDrained) × (self.new ≡ self.old) }
+        ensures refused { IfErr result (λ e. reopen_refuses e ≡ true) }
+    {
+        if self.is_broken() {
+            return Err(Refusal::NotDrained);
+        }
+        let opened = self.node.reopen(sync, loss);
+        save_identifiers(&self.node, &mut self.metadata);
+        opened
+    }
+
+    /// Returns whether a call of the metadata's file has failed.
+    pub fn is_broken(&self) -> bool
+        ensures { result ≡ is_broken self.now.metadata }
+    {
+        is_broken(&self.metadata)
+    }
+
+    /// Returns the locked node for reading.
+    pub fn node(&self) -> &SessionPrimary<B, O, I, S>
+        ensures { result.now ≡ self.now.node }
+    {
+        &self.node
+    }
+
+    /// Returns the metadata for reading.
+    pub fn metadata(&self) -> Option<&Metadata<F>>
+        ensures kept { PrimaryIsKept B.opening self.now.node self.now.metadata }
+    {
+        self.metadata.as_ref()
+    }
+
+    /// Returns the node alone, and its metadata, which says what a stop of it has to leave.
+    pub fn into_parts(self) -> (Primary<O, I, S>, Option<Metadata<F>>)
+        ensures node { result.0 ≡ self.node }
+        ensures metadata { result.1 ≡ self.metadata }
+        ensures had { PrimaryIsHad B.opening result.0 }
+        ensures kept { PrimaryIsKept B.opening result.0 result.1 }
+    {
+        let KeptPrimary {
+            node,
+            metadata,
+            prepared: _,
+        } = self;
+        (node.into_node(), metadata)
+    }
+}
+
+// Returns whether a frame was taken by which a full copy begins.
+fn begins_full_copy(taken: &Result<Done, Refusal>) -> bool {
+    match taken {
+        Ok(done) => matches!(done.what, What::Decided(Decision::FullSync)),
+        Err(_) => false,
+    }
+}
+
+/// Saves the identifiers that a close of the node would leave now, if they are not those that were saved last. After it the metadata has
+/// those that a stop of the node has to leave.
+pub(crate) fn save_identifiers<
+    B: Beginning,
+    O: FrameOut + Drop,
+    I: FrameIn + Drop,
+    S: Store + Drop,
+    F: StableFile,
+>(node: &SessionPrimary<B, O, I, S>, metadata: &mut Option<Metadata<F>>)
+    ensures kept { PrimaryIsKept B.opening node.now metadata.new }
+    ensures there { is_some metadata.new ≡ is_some metadata.old }
+    ensures stays { is_broken metadata.old ≡ true → is_broken metadata.new ≡ true }
+{
+    save_turned(metadata, node.node().tuple_if_stopped(), true);
+}
+
+// Has the metadata say what a stop of this node leaves, which has no write yet: each marked block, and the identifiers. Returns it, and
+// a byte for each extent. `BadSetting` (15) if it is of a device of another size, `NoMemory` (7), and `LocalFault` (8) if a call of the
+// file fails.
+fn with_file<B: Beginning, O: FrameOut + Drop, I: FrameIn + Drop, S: Store + Drop, F: StableFile>(
+    alloc: Global,
+    node: &SessionPrimary<B, O, I, S>,
+    metadata: Option<Metadata<F>>,
+) -> Result<(Option<Metadata<F>>, Vec<u8>), Refusal>
+    ensures kept { IfOk result (λ filed. PrimaryIsKept B.opening node.now filed.0) }
+    ensures metadata { IfOk result (λ filed. is_some filed.0 ≡ is_some metadata) }
+    ensures whole { IfOk result (λ filed. is_broken filed.0 ≡ false) }
+    ensures refused { IfErr result (λ e. (local_open_refuses e ≡ true) ⊎ ((e ≡ LocalFault) × (is_some metadata ≡ true))) }
+{
+    let primary = node.node();
+    let Some(mut metadata) = metadata else {
+        return Ok((None, Vec::new(alloc)));
+    };
+    if metadata.header().blocks != u64::from(primary.settings().blocks) {
+        return Err(Refusal::BadSetting);
+    }
+    let prepared = vec![in alloc; 0u8; metadata.extents() as usize]?;
+    if enter_marked(&mut metadata, primary.bitmap()).is_err() || metadata.is_broken() {
+        return Err(Refusal::LocalFault);
+    }
+    let mut filed = Some(metadata);
+    save_identifiers(node, &mut filed);
+    if is_broken(&filed) {
+        return Err(Refusal::LocalFault);
+    }
+    Ok((filed, prepared))
+}

@@ -1,0 +1,245 @@
+//! What a server begins with, as far as it is known before it listens.
+use crate::fault::ServeFault;
+use crate::image_files::FoundFiles;
+use bitmap::Bitmap;
+use blocks::{BLOCK_BYTES, Tuple};
+use generations::decide;
+use image_metadata::{
+    BootId, Found, FoundFile, Header, ImageFile, Metadata, MetadataFault, OpeningBytes, Start,
+    boot_id, create_anew, judge, serving_identifiers,
+};
+use image_store::PerDisk;
+use kept_nodes::known_marks;
+use options::ServeOptions;
+use std::alloc::Global;
+use std::fs::File;
+use std::io::Write;
+use std::random::RandomSource;
+use std::rt::Files;
+use volume::PairMetadata;
+
+/// The identifiers of a disk about which nothing is known.
+pub(crate) const UNKNOWN: Tuple = Tuple {
+    current: 0,
+    bitmap: 0,
+    first_historical: 0,
+    second_historical: 0,
+};
+
+/// The metadata of both images.
+pub(crate) type ImagesMetadata<M, N> = PairMetadata<ImageFile<M>, ImageFile<N>>;
+
+/// Numbers that no other mirror has, from the system's random ones.
+#[derive(Clone, Copy, Debug, PartialEq, Eq)]
+pub(crate) struct FreshNumbers {
+    /// The id of a pair that is made.
+    pub(crate) pair: u64,
+    /// The ids of its two nodes.
+    pub(crate) local_node: u64,
+    pub(crate) peer_node: u64,
+    /// An identifier of data, and the first word of the server's connections.
+    pub(crate) identifier: u64,
+    pub(crate) first_word: u64,
+    /// The id of the system, or a number that no system has.
+    pub(crate) boot: BootId,
+}
+
+/// What a server begins with.
+#[derive(Drop)]
+pub(crate) enum Beginning<M: OpeningBytes, N: OpeningBytes> {
+    /// It keeps no metadata.
+    Unkept,
+    /// Neither image has metadata yet: these are the files for it.
+    First { local: File, peer: File },
+    /// What the metadata of both images says.
+    Known(Known<M, N>),
+}
+
+/// What the metadata of both images says.
+#[derive(Drop)]
+pub(crate) struct Known<M: OpeningBytes, N: OpeningBytes> {
+    pub(crate) metadata: ImagesMetadata<M, N>,
+    pub(crate) own: Tuple,
+    pub(crate) peer: Tuple,
+    pub(crate) marks: Bitmap,
+}
+
+/// Returns numbers that no other mirror has. An error if the system gives no random bytes.
+pub(crate) fn fresh_numbers<'a, H: Files + AllocGlobal + RandomSource>(
+    rt: &H,
+) -> Result<FreshNumbers, ServeFault<'a>> {
+    let mut bytes = [0u8; 56];
+    if let Err(error) = rt.fill_bytes(&mut bytes) {
+        return Err(ServeFault::NoRandomBytes(error));
+    }
+    let boot = match boot_id(rt) {
+        Some(boot) => boot,
+        None => BootId {
+            high: word(&bytes, 40),
+            low: word(&bytes, 48),
+        },
+    };
+    Ok(FreshNumbers {
+        pair: word(&bytes, 0) | 1,
+        local_node: word(&bytes, 8) | 1,
+        peer_node: word(&bytes, 16) | 1,
+        identifier: word(&bytes, 24) | 1,
+        // Far from the end, so that a server has words for as long as it lives.
+        first_word: (word(&bytes, 32) >> 1) | 2,
+        boot,
+    })
+}
+
+// Returns the word that begins at this byte.
+fn word(bytes: &[u8; 56], first: usize) -> u64 {
+    let mut word = 0u64;
+    for byte in bytes.iter().skip(first).take(8) {
+        word = word << 8 | u64::from(*byte);
+    }
+    word
+}
+
+/// Returns what a server begins with over these metadata files, and says on `err` what it will copy.
+pub(crate) fn begin<'a, M: OpeningBytes, N: OpeningBytes, E: Write>(
+    alloc: Global,
+    options: &ServeOptions<'a>,
+    blocks: u32,
+    files: Option<FoundFiles<M, N>>,
+    numbers: FreshNumbers,
+    err: &mut E,
+) -> Result<Beginning<M, N>, ServeFault<'a>> {
+    let Some(files) = files else {
+        return Ok(Beginning::Unkept);
+    };
+    let FoundFiles { found, local, peer } = files;
+    let start = judge(&found.local, &found.peer, numbers.boot);
+    match (start, local, peer) {
+        (Start::First, FoundFile::Empty(local), FoundFile::Empty(peer)) => {
+            Ok(Beginning::First { local, peer })
+        }
+        (Start::WrongWayRound, _, _) => {
+            Err(ServeFault::WrongWayRound(options.local, options.peer))
+        }
+        (start, local, peer) => match take_up(alloc, blocks, start, local, peer, numbers) {
+            Ok(known) => {
+                tell(options, start, &known, err);
+                Ok(Beginning::Known(known))
+            }
+            Err(fault) => Err(ServeFault::UnmadeMetadata(options.local, fault)),
+        },
+    }
+}
+
+// Returns the file of the peer's metadata, which has to be made anew if it is of another pair.
+fn of_pair<N: OpeningBytes>(file: FoundFile<N>, pair: u64) -> FoundFile<N> {
+    match file {
+        FoundFile::Whole(metadata) => {
+            if metadata.header().pair == pair {
+                return FoundFile::Whole(metadata);
+            }
+            FoundFile::Empty(metadata.into_file().into_raw())
+        }
+        FoundFile::Empty(file) => FoundFile::Empty(file),
+    }
+}
+
+// Takes up what the metadata of both images says, and makes anew what cannot be used.
+fn take_up<M: OpeningBytes, N: OpeningBytes>(
+    alloc: Global,
+    blocks: u32,
+    start: Start,
+    local: FoundFile<M>,
+    peer: FoundFile<N>,
+    numbers: FreshNumbers,
+) -> Result<Known<M, N>, MetadataFault> {
+    let mut local = whole(alloc, local, local_header(blocks, &numbers), &numbers)?;
+    let own = local.identifiers().tuple;
+    let marks = known_marks(alloc, &mut local)?;
+    let header = Header {
+        pair: local.header().pair,
+        node: numbers.peer_node,
+        blocks: u64::from(blocks),
+    };
+    let peer = of_pair(peer, header.pair);
+    let mut peer = whole(alloc, peer, header, &numbers)?;
+    let (tuple, is_doubted) = match start {
+        Start::Marked {
+            is_peer_doubted,
+            ..
+        } if decide(&own, &peer.identifiers().tuple).is_ok() => {
+            (peer.identifiers().tuple, is_peer_doubted)
+        }
+        _ => (UNKNOWN, true),
+    };
+    let secondary_of = local.header().node;
+    local.save(&serving_identifiers(own, true, numbers.boot, 0))?;
+    peer.save(&serving_identifiers(tuple, !is_doubted, numbers.boot, secondary_of))?;
+    Ok(Known {
+        metadata: PairMetadata {
+            primary: Some(local),
+            secondary: Some(peer),
+            is_peer_doubted: is_doubted,
+        },
+        own,
+        peer: tuple,
+        marks,
+    })
+}
+
+// Returns the metadata of a file, made anew if it cannot be used.
+fn whole<X: OpeningBytes>(
+    alloc: Global,
+    file: FoundFile<X>,
+    header: Header,
+    numbers: &FreshNumbers,
+) -> Result<Metadata<ImageFile<X>>, MetadataFault> {
+    match file {
+        FoundFile::Whole(metadata) => Ok(metadata),
+        FoundFile::Empty(file) => {
+            let tuple = Tuple::new(numbers.identifier, 0, 0, 0);
+            create_anew(
+                alloc,
+                file,
+                header,
+                &serving_identifiers(tuple, true, numbers.boot, 0),
+            )
+        }
+    }
+}
+
+/// Returns the header of the local image's metadata, in a pair that is made.
+pub(crate) fn local_header(blocks: u32, numbers: &FreshNumbers) -> Header {
+    Header {
+        blocks: u64::from(blocks),
+        pair: numbers.pair,
+        node: numbers.local_node,
+    }
+}
+
+// Says what is copied.
+fn tell<M: OpeningBytes, N: OpeningBytes, E: Write>(
+    options: &ServeOptions<'_>,
+    start: Start,
+    known: &Known<M, N>,
+    err: &mut E,
+) {
+    let (local, peer) = (options.local, options.peer);
+    let count = known.marks.count();
+    let _ = match start {
+        Start::Marked { last, .. } if known.peer != UNKNOWN => writeln!(
+            err,
+            "the last server {last}: {count} blocks ({} MiB) of {local} are copied over {peer}",
+            mebibytes(count)
+        ),
+        Start::Whole(reason) => writeln!(err, "all of {local} is copied over {peer}: {reason}"),
+        _ => writeln!(
+            err,
+            "all of {local} is copied over {peer}: it has no identifier by which its blocks are known"
+        ),
+    };
+}
+
+// Returns how many MiB so many blocks are, rounded up.
+fn mebibytes(blocks: u32) -> u64 {
+    (u64::from(blocks) * BLOCK_BYTES as u64).div_ceil(1_048_576)
+}

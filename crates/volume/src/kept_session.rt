@@ -1,0 +1,237 @@
+//! A session over a link in this process, whose nodes have their metadata on stable storage.
+ghost use Rattle.std.specs.Prelude.{◌≡◌, ◌≤◌, ◌⊎◌, true, Some, is_some, slice_get, IfErr, IfOk};
+ghost use Rattle.blocks.specs.declared.refusal.Refusal.TheVariants.{LocalFault, NotDrained};
+ghost use Rattle.halves.specs.Opening.{opening_of};
+ghost use Rattle.kept_nodes.specs.Kept.{PrimaryIsKept, SecondaryIsKept};
+ghost use Rattle.model.specs.CallRefusals.{start_refuses};
+ghost use Rattle.model.specs.Headline.{IsJoined};
+ghost use Rattle.model.specs.Primary.{PrimaryHistory};
+ghost use Rattle.model.specs.Secondary.{SecondaryHistory};
+ghost use Rattle.session_nodes.specs.Primaries.{PrimaryHas, PrimaryIsHad};
+ghost use Rattle.session_nodes.specs.Secondaries.{SecondaryHas, SecondaryIsHad};
+ghost use Rattle.thread_link.specs.Names as names;
+ghost use Rattle.volume.specs.Links.{AreEndsOf};
+
+use blocks::{ConnectionWords, Refusal, Store};
+use halves::SessionStart;
+use locked_halves::{LockedPrimary, LockedSecondary};
+use metadata::{Metadata, StableFile};
+use session_link::{
+    Back, Began, Linked, NamedPrimary, NamedSecondary, There, check_numbers, join_nodes, named_ends,
+};
+use session_threads::{Running, SharedSession};
+use std::alloc::Global;
+use std::sync::Wait;
+use std::thread::Threads;
+use std::time::Clock;
+use thread_link::{NamedIn, NamedOut, RuledIn, RuledOut};
+
+/// The primary's half over a session's link.
+pub type LockedLinkPrimary<R, L, S, F> = LockedPrimary<
+    R,
+    Began<L>,
+    NamedOut<R, There<L>>,
+    NamedIn<R, Back<L>>,
+    S,
+    F,
+>;
+
+/// The secondary's half over a session's link.
+pub type LockedLinkSecondary<R, L, T, G> = LockedSecondary<
+    R,
+    Began<L>,
+    NamedOut<R, Back<L>>,
+    NamedIn<R, There<L>>,
+    T,
+    G,
+>;
+
+/// A session over a link, which any number of threads may share.
+pub type SharedLinkSession<R, L, S, T, F, G> = SharedSession<
+    R,
+    LockedLinkPrimary<R, L, S, F>,
+    LockedLinkSecondary<R, L, T, G>,
+>;
+
+/// The metadata of both disks of a session, as far as they have some.
+#[derive(Drop)]
+pub struct PairMetadata<F: StableFile, G: StableFile> {
+    pub primary: Option<Metadata<F>>,
+    pub secondary: Option<Metadata<G>>,
+    /// Whether the peer's disk was not consistent when it was last used, or may have lost writes since.
+    pub is_peer_doubted: bool,
+}
+
+/// What a session leaves: both nodes, and the metadata of their disks.
+pub struct Finished<
+    R: Wait + Drop,
+    L: Linked,
+    S: Store + Drop,
+    T: Store + Drop,
+    F: StableFile,
+    G: StableFile,
+> {
+    pub primary: NamedPrimary<R, L, S>,
+    pub secondary: NamedSecondary<R, L, T>,
+    pub metadata: PairMetadata<F, G>,
+}
+
+/// A running session over a link, whose nodes have their metadata on stable storage. It cannot be dropped: whoever starts it has to
+/// finish it.
+pub struct KeptSession<
+    R: Threads + Wait + Drop,
+    L: Linked,
+    S: Store + Drop,
+    T: Store + Drop,
+    F: StableFile,
+    G: StableFile,
+> {
+    running: Running<R, LockedLinkPrimary<R, L, S, F>, LockedLinkSecondary<R, L, T, G>>,
+}
+
+impl<
+    R: Threads + Wait + Clock + Copy + Drop + Send + Sync + 'static,
+    L: Linked + Send + Sync + 'static,
+    S: Store + Drop + Send + 'static,
+    T: Store + Drop + Send + 'static,
+    F: StableFile + Send + 'static,
+    G: StableFile + Send + 'static,
+> KeptSession<R, L, S, T, F, G> {
+    /// Starts a session over two disks with their metadata, and the two directions of a link, whose rows are the session's, as the
+    /// parts are its opening: exchanges the hellos, cuts the link if the parts say so, and starts the threads.
+    ///
+    /// The refusals are those of `Session::start`, and `LocalFault` (8) if a metadata file cannot be read or written. Then nothing runs,
+    /// and all that was handed over is dropped.
+    pub fn start(
+        rt: R,
+        alloc: Global,
+        there: (RuledOut<R>, RuledIn<R>),
+        back: (RuledOut<R>, RuledIn<R>),
+        local: S,
+        peer: T,
+        parts: SessionStart,
+        metadata: PairMetadata<F, G>,
+    ) -> Result<KeptSession<R, L, S, T, F, G>, Refusal>
+        requires there { AreEndsOf L.link names.There there }
+        requires back { AreEndsOf L.link names.Back back }
+        requires opening { L.opening ≡ opening_of parts (slice_get (S.contents local)) (slice_get (T.contents peer)) }
+        ensures refused { IfErr result (λ e. (start_refuses e ≡ true) ⊎ ((e ≡ LocalFault) × ((is_some metadata.primary ≡ true) ⊎ (is_some metadata.secondary ≡ true)))) }
+    {
+        let (primary_ends, secondary_ends) = named_ends::<R, L>(there, back);
+        let words = ConnectionWords {
+            sync: parts.sync,
+            loss: parts.loss,
+        };
+        let primary = LockedPrimary::open(
+            rt,
+            alloc,
+            parts.settings,
+            local,
+            parts.own,
+            parts.marks,
+            primary_ends,
+            words,
+            metadata.primary,
+        )?;
+        match LockedSecondary::open(
+            rt,
+            alloc,
+            parts.settings,
+            peer,
+            parts.peer,
+            secondary_ends,
+            metadata.secondary,
+            metadata.is_peer_doubted,
+        ) {
+            Ok(secondary) => match Running::start(rt, alloc, primary, secondary, parts.is_cut) {
+                Ok(running) => Ok(KeptSession { running }),
+                Err(refusal) => Err(refusal),
+            },
+            Err(refusal) => {
+                drop(primary.into_parts().0.into_store());
+                Err(refusal)
+            }
+        }
+    }
+}
+
+impl<
+    R: Threads + Wait + Clock + Drop,
+    L: Linked,
+    S: Store + Drop,
+    T: Store + Drop,
+    F: StableFile,
+    G: StableFile,
+> KeptSession<R, L, S, T, F, G> {
+    /// Returns the session as any number of threads may share it.
+    pub fn mirror(&self) -> &SharedLinkSession<R, L, S, T, F, G> {
+        self.running.mirror()
+    }
+
+    /// Ends the session: cuts the link, lets the disks finish all pending work, stops the threads, and returns both nodes with their
+    /// metadata. `NotDrained` (36) if a thread still shares a node.
+    ///
+    /// Each node has a history that began with the session's opening, and whose connections all used its link. All such
+    /// histories are joined: on each
+    /// connection, what one end took begins what the other pushed, both ways. No connection of the secondary has a
+    /// number above the primary's last one; else 36 is returned, which no session brings about. The metadata has the identifiers that a stop of
+    /// the nodes has to leave (`kept`, `kept_too`).
+    pub fn finish(self) -> Result<Finished<R, L, S, T, F, G>, Refusal>
+        ensures had { IfOk result (λ left. PrimaryIsHad (Some L.opening) left.primary × SecondaryIsHad (Some L.opening) left.secondary) }
+        ensures joined { IfOk result (λ left. (p : PrimaryHistory) (s : SecondaryHistory) → PrimaryHas left.primary p → SecondaryHas left.secondary s → IsJoined p s) }
+        ensures numbered { IfOk result (λ left. left.secondary.core.number ≤ left.primary.core.connections) }
+        ensures kept { IfOk result (λ left. PrimaryIsKept (Some L.opening) left.primary left.metadata.primary) }
+        ensures kept_too { IfOk result (λ left. SecondaryIsKept (Some L.opening) left.secondary left.metadata.secondary left.metadata.is_peer_doubted) }
+        ensures refused { IfErr result (λ e. e ≡ NotDrained) }
+    {
+        let KeptSession { running } = self;
+        let (locked_primary, locked_secondary) = running.finish()?;
+        let Finished {
+            primary,
+            secondary,
+            metadata,
+        } = into_nodes(locked_primary, locked_secondary);
+        match check_numbers(&primary, &secondary) {
+            Ok(()) => Ok(Finished {
+                primary,
+                secondary,
+                metadata,
+            }),
+            Err(refusal) => {
+                drop((primary.into_store(), secondary.into_store()));
+                Err(refusal)
+            }
+        }
+    }
+}
+
+// Takes both nodes of a session over a link out of their locks, and joins them.
+fn into_nodes<
+    R: Wait + Drop,
+    L: Linked,
+    S: Store + Drop,
+    T: Store + Drop,
+    F: StableFile,
+    G: StableFile,
+>(
+    primary: LockedLinkPrimary<R, L, S, F>,
+    secondary: LockedLinkSecondary<R, L, T, G>,
+) -> Finished<R, L, S, T, F, G>
+    ensures had { PrimaryIsHad (Some L.opening) result.primary × SecondaryIsHad (Some L.opening) result.secondary }
+    ensures joined { (p : PrimaryHistory) (s : SecondaryHistory) → PrimaryHas result.primary p → SecondaryHas result.secondary s → IsJoined p s }
+    ensures kept { PrimaryIsKept (Some L.opening) result.primary result.metadata.primary }
+    ensures kept_too { SecondaryIsKept (Some L.opening) result.secondary result.metadata.secondary result.metadata.is_peer_doubted }
+{
+    let (primary, primary_metadata) = primary.into_parts();
+    let (secondary, secondary_metadata, is_peer_doubted) = secondary.into_parts();
+    let (primary, secondary) = join_nodes(primary, secondary);
+    Finished {
+        primary,
+        secondary,
+        metadata: PairMetadata {
+            primary: primary_metadata,
+            secondary: secondary_metadata,
+            is_peer_doubted,
+        },
+    }
+}
