@@ -399,9 +399,9 @@ impl fmt::Display for VerifyHelp {
     fn fmt<W: fmt::Write>(&self, f: &mut fmt::Formatter<W>) -> fmt::Result {
         f.write_str(
             "\
-Compares both images of a mirror, of which it only reads, while no server uses
-them. It prints how many blocks differ, and how many of these the local image's
-metadata does not cover, so that a server would not copy them.
+Compares both images of a mirror while no server uses them, and writes to
+neither. It prints how many blocks differ, and how many of these the local
+image's metadata does not cover, so that a server would not copy them.
 
 Exit statuses: 0 each block that differs is covered; 1 one is not, an image is
 in use or could not be read, or memory failed; 2 wrong usage.

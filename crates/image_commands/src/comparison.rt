@@ -22,7 +22,7 @@ struct Difference {
     uncovered: u64,
 }
 
-/// Compares both images of a mirror, of which it only reads, and says on `out` how many blocks differ, and how many of these the local
+/// Compares both images of a mirror, writes to neither, and says on `out` how many blocks differ, and how many of these the local
 /// image's metadata does not cover, so that a server would not copy them. Both images are locked meanwhile. A line on `err` after each GiB
 /// says how far it is. Returns `Done` if each difference is covered, or `Failed` with a line on `err` that says why.
 pub fn verify<H: Files<File = File> + AllocGlobal, W: Write, E: Write>(

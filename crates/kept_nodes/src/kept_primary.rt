@@ -283,7 +283,7 @@ impl<
         self.metadata.as_ref()
     }
 
-    /// Returns the node alone, and its metadata, which says what a stop of it has to leave.
+    /// Returns the node alone, and its metadata, which has the identifiers that a stop of it has to leave.
     pub fn into_parts(self) -> (Primary<O, I, S>, Option<Metadata<F>>)
         ensures node { result.0 ≡ self.node }
         ensures metadata { result.1 ≡ self.metadata }

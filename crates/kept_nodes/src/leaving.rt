@@ -104,7 +104,7 @@ fn prepare_one<O: FrameOut + Drop, I: FrameIn + Drop, S: Store + Drop, F: Stable
     Ok(true)
 }
 
-// Takes out the extents that are prepared, of which none is after it.
+// Takes out the extents that are prepared. None is prepared after it.
 fn leave<O: FrameOut + Drop, I: FrameIn + Drop, S: Store + Drop, F: StableFile>(
     metadata: &mut Metadata<F>,
     node: &Primary<O, I, S>,

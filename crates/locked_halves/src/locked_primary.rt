@@ -82,7 +82,7 @@ impl<
     }
 
     /// Takes the node out of its lock, with its metadata. It has a history that began as the half did, and whose connections all used
-    /// its ends, and of which the metadata says what a stop has to leave.
+    /// its ends. The metadata has the identifiers that a stop has to leave.
     pub fn into_parts(self) -> (Primary<O, I, S>, Option<Metadata<F>>)
         ensures had { PrimaryIsHad B.opening result.0 }
         ensures kept { PrimaryIsKept B.opening result.0 result.1 }

@@ -76,8 +76,8 @@ impl<
         }
     }
 
-    /// Takes the node out of its lock, with its metadata, and whether its disk is still doubted. It has a history that began as the half did, and whose connections all used
-    /// its ends, and of which the metadata says what a stop has to leave.
+    /// Takes the node out of its lock, with its metadata, and whether its disk is still doubted. It has a history that began as the
+    /// half did, and whose connections all used its ends. The metadata has the identifiers that a stop has to leave.
     pub fn into_parts(self) -> (Secondary<O, I, S>, Option<Metadata<F>>, bool)
         ensures had { SecondaryIsHad B.opening result.0 }
         ensures kept { SecondaryIsKept B.opening result.0 result.1 result.2 }

@@ -42,7 +42,7 @@ pub(crate) fn first_start<D: Store + Drop, M: OpeningBytes, N: OpeningBytes, E: 
     }
 }
 
-// Returns what a session starts from over images of which the metadata says this.
+// Returns what a session starts from over images whose metadata says this.
 fn start_known<D: Store + Drop, M: OpeningBytes, N: OpeningBytes>(
     service: &Service,
     known: Known<M, N>,
