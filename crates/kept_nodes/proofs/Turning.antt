@@ -13,7 +13,7 @@ pub whole-before : (was is : Bool) → (was ≡ true → is ≡ true) → is ≡
 whole-before true is stays whole = absurd (both_ways is whole (stays refl))
 whole-before false is stays whole = refl
 
--- two runs, of which the second leaves broken what was broken
+-- two runs; the second leaves broken what was broken
 pub runs-whole : (u v w : PrimaryView) (was is : Bool) → (was ≡ false → PrimaryRuns u v) → (was ≡ true → is ≡ true) → (is ≡ false → PrimaryRuns v w) → is ≡ false
     → PrimaryRuns u w
 runs-whole u v w was is one stays two whole = runs-on u v w (one (whole-before was is stays whole)) (two whole)

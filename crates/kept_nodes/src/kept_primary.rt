@@ -1,17 +1,21 @@
 //! The primary with its metadata.
-ghost use Rattle.std.specs.Prelude.{◌≡◌, ◌⊎◌, ◌<◌, ◌≤◌, ◌*◌, ◌/◌, [], true, false, None, Some, Err, slice_get, slice_index, unwrap_or, is_some, length, vec_len, IsTrue, IfOk, IfErr, IfSome, OnOk, OnErr};
+ghost use Rattle.std.specs.Prelude.{◌≡◌, ◌⊎◌, ◌<◌, ◌≤◌, ◌*◌, ◌/◌, ℕ, [], true, false, None, Some, Err, slice_get, slice_index, unwrap_or, is_some, length, vec_len, IsTrue, IfOk, IfErr, IfSome, OnOk};
 ghost use Rattle.blocks.specs.declared.outcome.Reply.{Reply};
 ghost use Rattle.blocks.specs.declared.outcome.Reply.TheVariants as reply;
 ghost use Rattle.blocks.specs.declared.outcome.What.TheVariants as what;
 ghost use Rattle.blocks.specs.declared.refusal.Refusal.TheVariants.{BadRange, LocalFault, NoMemory, NotConnected, NotDrained, NothingThere, ReadFault};
 ghost use Rattle.endpoint.specs.Calls as link;
 ghost use Rattle.endpoint.specs.Calls.{IsNewIn, IsNewOut, has_room, is_out_of_memory};
-ghost use Rattle.kept_nodes.specs.Kept.{PrimaryIsKept, is_broken};
+ghost use Rattle.kept_nodes.specs.Asked.{begins_full_copy, is_full_copy};
+ghost use Rattle.kept_nodes.specs.Kept.{PrimaryIsKept, SaysPrimary, is_broken};
+ghost use Rattle.kept_nodes.specs.Left.{Across, LosesNothing, Outcomes};
+ghost use Rattle.metadata.specs.Says.{extents_of};
 ghost use Rattle.metadata.specs.State.{is_entered};
 ghost use Rattle.model.specs.CallRefusals.{ack_in_refuses, local_open_refuses, reopen_refuses, resync_next_refuses, send_refuses, submit_refuses, take_completed_refuses};
 ghost use Rattle.model.specs.Contents.{IsRead, extent_of, is_range};
 ghost use Rattle.model.specs.LocalRuns.{Closes, Opens, Sends, Submits, primary_after};
 ghost use Rattle.model.specs.Primary.{PrimaryHistory, local_map, next_local, primary_opening};
+ghost use Rattle.model.specs.Stopped.{stopped_tuple};
 ghost use Rattle.model.specs.Theorems.{primary_at};
 ghost use Rattle.primary.specs.Calls.{CopiesOne, WritesOne};
 ghost use Rattle.primary_core.specs.Send.{owes_blocks};
@@ -51,6 +55,8 @@ pub struct KeptPrimary<
     pub(crate) metadata: Option<Metadata<F>>,
     // For each extent, not 0 if its marks were written since a write was last accepted there, so that it may leave.
     pub(crate) prepared: Vec<u8>,
+    // Whether a full copy was decided, and its extents could not be entered.
+    pub(crate) owes_all: bool,
 }
 
 impl<B: Beginning, O: FrameOut + Drop, I: FrameIn + Drop, S: Store + Drop, F: StableFile> Model
@@ -59,9 +65,9 @@ impl<B: Beginning, O: FrameOut + Drop, I: FrameIn + Drop, S: Store + Drop, F: St
 
     ghost Value = { KeptPrimaryState F };
 
-    ghost view = { λ k. record { node = k.node; metadata = k.metadata; prepared = k.prepared.items } };
+    ghost view = { λ k. record { node = k.node; metadata = k.metadata; prepared = k.prepared.items; owes_all = k.owes_all } };
 
-    ghost invariant = { λ k. PrimaryIsKept B.opening k.node k.metadata };
+    ghost invariant = { λ k. PrimaryIsKept F.StableFile.seen F.StableFile.may_leave F.StableFile.faithful B.opening k.node k.metadata k.owes_all };
 }
 
 impl<
@@ -102,6 +108,7 @@ impl<
                 node,
                 metadata,
                 prepared,
+                owes_all: false,
             }),
             Err(refusal) => {
                 drop(node.into_node().into_store());
@@ -123,13 +130,8 @@ impl<
         ensures refused { IfErr result (λ e. (submit_refuses e ≡ true) ⊎ (e ≡ LocalFault)) }
     {
         let extent = Extent(first / EXTENT_BLOCKS);
-        if let Some(prepared) = self.prepared.get_mut(extent.0 as usize) {
-            *prepared = 0;
-        }
-        if let Err(refusal) = enter_extent(&mut self.metadata, extent) {
-            save_identifiers(&self.node, &mut self.metadata);
-            return Err(refusal);
-        }
+        touch(&mut self.prepared, extent);
+        enter_extent(&mut self.metadata, extent)?;
         let accepted = self.node.submit(first, bytes);
         save_identifiers(&self.node, &mut self.metadata);
         accepted
@@ -141,9 +143,7 @@ impl<
         ensures number { IfOk result (λ receipt. receipt.number ≡ number) }
         ensures refused { IfErr result (λ e. take_completed_refuses e ≡ true) }
     {
-        let receipt = self.node.take_completed(number);
-        save_identifiers(&self.node, &mut self.metadata);
-        receipt
+        self.node.take_completed(number)
     }
 
     /// Reads blocks of the local disk. The refusals are those of `Primary::read`.
@@ -159,9 +159,7 @@ impl<
             ⊎ ((e ≡ ReadFault) × (is_range self.old.node.core.settings first count ≡ true) × (self.old.node.faults < self.new.node.faults)))) }
         ensures kept { (h : PrimaryHistory) → PrimaryHas self.old.node h → PrimaryHas self.new.node h }
     {
-        let read = self.node.read(first, count);
-        save_identifiers(&self.node, &mut self.metadata);
-        read
+        self.node.read(first, count)
     }
 
     /// Sends the next frame. The refusals are those of `Primary::send`: 7, 11, 12 and 13. If the metadata is broken, nothing is sent:
@@ -193,9 +191,7 @@ impl<
         ensures stays { is_broken self.old.metadata ≡ true → is_broken self.new.metadata ≡ true }
     {
         let taken = self.node.ack_in();
-        if begins_full_copy(&taken) {
-            enter_device(&mut self.metadata);
-        }
+        self.owes_all = enter_full_copy(&mut self.metadata, &taken, self.owes_all);
         save_identifiers(&self.node, &mut self.metadata);
         taken
     }
@@ -278,47 +274,84 @@ impl<
 
     /// Returns the metadata for reading.
     pub fn metadata(&self) -> Option<&Metadata<F>>
-        ensures kept { PrimaryIsKept B.opening self.now.node self.now.metadata }
+        ensures kept { PrimaryIsKept F.seen F.may_leave F.faithful B.opening self.now.node self.now.metadata self.now.owes_all }
     {
         self.metadata.as_ref()
     }
 
-    /// Returns the node alone, and its metadata, which has the identifiers that a stop of it has to leave.
+    /// Returns the node alone, and its metadata, which says what a stop of it has to leave.
     pub fn into_parts(self) -> (Primary<O, I, S>, Option<Metadata<F>>)
         ensures node { result.0 ≡ self.node }
         ensures metadata { result.1 ≡ self.metadata }
         ensures had { PrimaryIsHad B.opening result.0 }
-        ensures kept { PrimaryIsKept B.opening result.0 result.1 }
+        ensures kept { PrimaryIsKept F.seen F.may_leave F.faithful B.opening result.0 result.1 self.owes_all }
     {
         let KeptPrimary {
             node,
             metadata,
             prepared: _,
+            owes_all: _,
         } = self;
         (node.into_node(), metadata)
     }
 }
 
+// Notes that a write may come to the extent, so that it is not prepared to leave.
+fn touch(prepared: &mut [u8], extent: Extent)
+    ensures { slice_index prepared.new extent.0 ≡ 0 }
+{
+    if extent.0 < prepared.len() as u64 {
+        prepared[extent.0 as usize] = 0;
+    }
+}
+
+// Enters every extent, if a full copy begins by the frame that was taken. Returns whether a full copy is decided and not entered now.
+fn enter_full_copy<F: StableFile>(
+    metadata: &mut Option<Metadata<F>>,
+    taken: &Result<Done, Refusal>,
+    owes_all: bool,
+) -> bool
+    ensures keeps { Across (LosesNothing F.seen F.may_leave F.faithful) metadata.old metadata.new }
+    ensures entered { begins_full_copy taken.now ≡ true → result ≡ false → IfSome metadata.new (λ m. (x : ℕ) → x < length m.entries → is_entered m.entries x ≡ true) }
+    ensures sized { begins_full_copy taken.now ≡ true → IfSome metadata.new (λ m. length m.entries ≡ extents_of m.header.blocks) }
+    ensures fault { begins_full_copy taken.now ≡ true → result ≡ true → is_broken metadata.new ≡ true }
+    ensures other { begins_full_copy taken.now ≡ false → result ≡ owes_all }
+    ensures stays { is_broken metadata.old ≡ true → is_broken metadata.new ≡ true }
+{
+    if begins_full_copy(taken) {
+        return !enter_device(metadata);
+    }
+    owes_all
+}
+
 // Returns whether a frame was taken by which a full copy begins.
-fn begins_full_copy(taken: &Result<Done, Refusal>) -> bool {
+fn begins_full_copy(taken: &Result<Done, Refusal>) -> bool
+    ensures { result ≡ begins_full_copy taken.now }
+{
     match taken {
-        Ok(done) => matches!(done.what, What::Decided(Decision::FullSync)),
+        Ok(done) => is_full_copy(done.what),
         Err(_) => false,
     }
 }
 
-/// Saves the identifiers that a close of the node would leave now, if they are not those that were saved last. After it the metadata has
-/// those that a stop of the node has to leave.
-pub(crate) fn save_identifiers<
+fn is_full_copy(what: What) -> bool
+    ensures { result ≡ is_full_copy what }
+{
+    matches!(what, What::Decided(Decision::FullSync))
+}
+
+// Saves the identifiers that a close of the node would leave now, if they are not those that were saved last.
+fn save_identifiers<
     B: Beginning,
     O: FrameOut + Drop,
     I: FrameIn + Drop,
     S: Store + Drop,
     F: StableFile,
 >(node: &SessionPrimary<B, O, I, S>, metadata: &mut Option<Metadata<F>>)
-    ensures kept { PrimaryIsKept B.opening node.now metadata.new }
-    ensures there { is_some metadata.new ≡ is_some metadata.old }
-    ensures stays { is_broken metadata.old ≡ true → is_broken metadata.new ≡ true }
+    ensures keeps { Across (LosesNothing F.seen F.may_leave F.faithful) metadata.old metadata.new }
+    ensures entries { Across (λ old new. new.entries ≡ old.entries) metadata.old metadata.new }
+    ensures saved { (h : PrimaryHistory) → PrimaryHas node.now h → IfSome metadata.new (λ m. m.is_broken ≡ false → m.identifiers.tuple ≡ stopped_tuple h) }
+    ensures broken { is_broken metadata.old ≡ true → metadata.new ≡ metadata.old }
 {
     save_turned(metadata, node.node().tuple_if_stopped(), true);
 }
@@ -331,20 +364,21 @@ fn with_file<B: Beginning, O: FrameOut + Drop, I: FrameIn + Drop, S: Store + Dro
     node: &SessionPrimary<B, O, I, S>,
     metadata: Option<Metadata<F>>,
 ) -> Result<(Option<Metadata<F>>, Vec<u8>), Refusal>
-    ensures kept { IfOk result (λ filed. PrimaryIsKept B.opening node.now filed.0) }
+    ensures says { IfOk result (λ filed. (h : PrimaryHistory) → PrimaryHas node.now h → h.writes ≡ []
+        → IfSome filed.0 (λ m. SaysPrimary (F.faithful m.file) (Outcomes F.seen F.may_leave m) m false h)) }
     ensures metadata { IfOk result (λ filed. is_some filed.0 ≡ is_some metadata) }
     ensures whole { IfOk result (λ filed. is_broken filed.0 ≡ false) }
     ensures refused { IfErr result (λ e. (local_open_refuses e ≡ true) ⊎ ((e ≡ LocalFault) × (is_some metadata ≡ true))) }
 {
-    let primary = node.node();
     let Some(mut metadata) = metadata else {
         return Ok((None, Vec::new(alloc)));
     };
+    let primary = node.node();
     if metadata.header().blocks != u64::from(primary.settings().blocks) {
         return Err(Refusal::BadSetting);
     }
     let prepared = vec![in alloc; 0u8; metadata.extents() as usize]?;
-    if enter_marked(&mut metadata, primary.bitmap()).is_err() || metadata.is_broken() {
+    if enter_marked(&mut metadata, primary.bitmap()).is_err() {
         return Err(Refusal::LocalFault);
     }
     let mut filed = Some(metadata);

@@ -283,6 +283,7 @@ fn save_identifiers<
     S: Store + Drop,
     F: StableFile,
 >(node: &SessionSecondary<B, O, I, S>, metadata: &mut Option<Metadata<F>>, is_doubted: bool)
+    requires { IfSome metadata.old (λ m. m.header.blocks ≡ node.now.core.settings.blocks) }
     ensures kept { SecondaryIsKept B.opening node.now metadata.new is_doubted }
     ensures there { is_some metadata.new ≡ is_some metadata.old }
     ensures stays { is_broken metadata.old ≡ true → is_broken metadata.new ≡ true }

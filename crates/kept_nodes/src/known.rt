@@ -1,9 +1,13 @@
 //! What the metadata of a primary has the next session take as marked.
-ghost use Rattle.std.specs.Prelude.{◌≡◌, length, IfOk};
+ghost use Rattle.std.specs.Prelude.{◌≡◌, ◌+◌, ◌*◌, ◌/◌, ◌<◌, ◌≤◌, ◌==◌, ℕ, ◌||◌, length, IsTrue, IfOk, OnOk};
+ghost use Rattle.bitmap.specs.Marks.{marked};
+ghost use Rattle.kept_nodes.specs.Filed.{is_filed};
+ghost use Rattle.kept_nodes.specs.Left.{known_in};
+ghost use Rattle.metadata.specs.Says.{marked_in};
 
 use bitmap::Bitmap;
-use blocks::{Block, EXTENT_BLOCKS, Extent, Range};
-use metadata::{MAX_MARKS, Metadata, MetadataFault, StableFile};
+use blocks::{Block, EXTENT_BLOCKS, Extent, MAX_RANGE, Range};
+use metadata::{MAX_EXTENTS, MAX_MARKS, Metadata, MetadataFault, StableFile};
 use std::alloc::Global;
 
 /// Returns the blocks that the next session takes as marked: those that are marked, and all of an extent that is entered. It reads the
@@ -14,80 +18,105 @@ pub fn known_marks<F: StableFile>(
     metadata: &mut Metadata<F>,
 ) -> Result<Bitmap, MetadataFault>
     ensures size { IfOk result (λ marks. length marks ≡ metadata.old.header.blocks) }
+    ensures known { IfOk result (λ marks. IsTrue (F.faithful metadata.new.file) → (block : ℕ) → block < metadata.old.header.blocks
+        → marked marks block ≡ known_in (F.seen metadata.old.file) block) }
+    ensures memory { OnOk result (metadata.new ≡ record metadata.old { file = metadata.new.file }) }
+    ensures seen { F.seen metadata.new.file ≡ F.seen metadata.old.file }
+    ensures falls { IsTrue (F.faithful metadata.new.file) → IsTrue (F.faithful metadata.old.file) }
 {
     if metadata.is_broken() {
         return Err(MetadataFault::Broken);
     }
     let blocks = metadata.header().blocks;
+    let extents = metadata.extents();
     let Ok(mut known) = Bitmap::unmarked(alloc, blocks) else {
         return Err(MetadataFault::NoMemory);
     };
-    for number in 0..blocks.div_ceil(MAX_MARKS) {
-        add_portion(metadata, &mut known, number * MAX_MARKS)?;
-    }
-    for number in 0..metadata.extents() {
-        add_extent(metadata, &mut known, Extent(number));
+    add_marks(metadata, &mut known)?;
+    for number in 0..extents {
+        if metadata.is_entered(Extent(number)) {
+            add_extent(&mut known, number);
+        }
     }
     Ok(known)
 }
 
-const ZEROS: [u8; MAX_MARKS as usize] = [0; MAX_MARKS as usize];
+// Marks the blocks of an extent, as many as a range may have at a time.
+fn add_extent(known: &mut Bitmap, extent: u64)
+    requires few { extent < MAX_EXTENTS }
+    requires inside { extent * 1024 < length known.old }
+    ensures size { length known.new ≡ length known.old }
+    ensures marks { (block : ℕ) → block < length known.old → marked known.new block ≡ (marked known.old block || block / 1024 == extent) }
+{
+    let end = known.len().min((extent + 1) * EXTENT_BLOCKS);
+    let mut first = extent * EXTENT_BLOCKS;
+    while first < end {
+        let count = MAX_RANGE.min(end - first);
+        known.mark(Range {
+            first: Block(first),
+            count,
+        });
+        first += count;
+    }
+}
 
-// Marks those of the blocks from `first` on, `MAX_MARKS` of them, that are marked in the file.
-fn add_portion<F: StableFile>(
+// Marks the blocks that are marked in the file. It reads the file in portions.
+fn add_marks<F: StableFile>(
     metadata: &mut Metadata<F>,
     known: &mut Bitmap,
-    first: u64,
 ) -> Result<(), MetadataFault>
-    ensures size { length known.new ≡ length known.old }
+    requires size { length known.old ≡ metadata.old.header.blocks }
+
+    ensures kept_size { length known.new ≡ length known.old }
+    ensures marks { OnOk result (IsTrue (F.faithful metadata.new.file) → (block : ℕ) → block < length known.old
+        → marked known.new block ≡ (marked known.old block || marked_in (F.seen metadata.old.file) block)) }
+    ensures memory { OnOk result (metadata.new ≡ record metadata.old { file = metadata.new.file }) }
+    ensures seen { F.seen metadata.new.file ≡ F.seen metadata.old.file }
+    ensures falls { IsTrue (F.faithful metadata.new.file) → IsTrue (F.faithful metadata.old.file) }
 {
-    let blocks = metadata.header().blocks.min(known.len());
-    if first >= blocks {
-        return Ok(());
-    }
-    let count = MAX_MARKS.min(blocks - first);
-    let mut room = [0u8; MAX_MARKS as usize];
-    let marks = &mut room[..count as usize];
-    metadata.marks(Block(first), marks)?;
-    // Most portions of a large device have no mark.
-    if &*marks != &ZEROS[..count as usize] {
-        add_bytes(known, first, marks);
+    let blocks = known.len();
+    let mut portion = [0u8; MAX_MARKS as usize];
+    let mut first = 0;
+    while first < blocks {
+        let count = MAX_MARKS.min(blocks - first);
+        let marks = &mut portion[..count as usize];
+        metadata.marks(Block(first), marks)?;
+        add_portion(known, first, marks);
+        first += count;
     }
     Ok(())
 }
 
+const ZEROS: [u8; MAX_MARKS as usize] = [0; MAX_MARKS as usize];
+
 // Marks the blocks from `first` on whose byte is not 0.
-fn add_bytes(known: &mut Bitmap, first: u64, marks: &[u8])
+fn add_portion(known: &mut Bitmap, first: u64, marks: &[u8])
+    requires inside { first + length marks.now ≤ length known.old }
+    requires fits { first + length marks.now ≤ u64.MAX }
+    requires few { length marks.now ≤ MAX_MARKS }
     ensures size { length known.new ≡ length known.old }
+    ensures marks { (block : ℕ) → block < length known.old → marked known.new block ≡ (marked known.old block || is_filed first (length marks.now) marks.now block) }
+{
+    // Most portions of a large device have no mark.
+    if marks == &ZEROS[..marks.len()] {
+        return;
+    }
+    add_bytes(known, first, marks);
+}
+
+// Marks the blocks from `first` on whose byte is not 0, byte by byte.
+fn add_bytes(known: &mut Bitmap, first: u64, marks: &[u8])
+    requires inside { first + length marks.now ≤ length known.old }
+    requires fits { first + length marks.now ≤ u64.MAX }
+    ensures size { length known.new ≡ length known.old }
+    ensures marks { (block : ℕ) → block < length known.old → marked known.new block ≡ (marked known.old block || is_filed first (length marks.now) marks.now block) }
 {
     for (offset, mark) in marks.iter().enumerate() {
         if *mark != 0 {
-            add_block(known, first.saturating_add(offset as u64));
+            known.mark(Range {
+                first: Block(first + offset as u64),
+                count: 1,
+            });
         }
-    }
-}
-
-// Marks all of an extent that is entered.
-fn add_extent<F: StableFile>(metadata: &Metadata<F>, known: &mut Bitmap, extent: Extent)
-    ensures size { length known.new ≡ length known.old }
-{
-    if extent.0 >= metadata.extents() || !metadata.is_entered(extent) {
-        return;
-    }
-    let first = extent.0.saturating_mul(EXTENT_BLOCKS);
-    for offset in 0..EXTENT_BLOCKS {
-        add_block(known, first.saturating_add(offset));
-    }
-}
-
-// Marks a block, if the device has it.
-fn add_block(known: &mut Bitmap, block: u64)
-    ensures size { length known.new ≡ length known.old }
-{
-    if block < known.len() {
-        known.mark(Range {
-            first: Block(block),
-            count: 1,
-        });
     }
 }

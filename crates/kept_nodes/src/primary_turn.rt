@@ -6,7 +6,7 @@ ghost use Rattle.session_nodes.specs.Primaries.{PrimaryHas, PrimaryRuns};
 ghost use Rattle.session_nodes.specs.Queries.{closed_since};
 
 use crate::KeptPrimary;
-use blocks::{Done, Refusal, Store};
+use blocks::{Refusal, Store};
 use link::{FrameIn, FrameOut};
 use metadata::StableFile;
 use session_nodes::Beginning;

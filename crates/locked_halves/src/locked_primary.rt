@@ -1,5 +1,5 @@
 //! The primary under its lock.
-ghost use Rattle.std.specs.Prelude.{◌≡◌, ◌⊎◌, true, false, is_some, slice_get, unwrap_or, IfErr, IfSome};
+ghost use Rattle.std.specs.Prelude.{◌≡◌, ◌⊎◌, Bool, true, false, is_some, slice_get, unwrap_or, IfErr, IfSome};
 ghost use Rattle.blocks.specs.declared.refusal.Refusal.TheVariants.{LocalFault};
 ghost use Rattle.endpoint.specs.Calls.{IsNewIn, IsNewOut};
 ghost use Rattle.kept_nodes.specs.Kept.{PrimaryIsKept};
@@ -82,10 +82,10 @@ impl<
     }
 
     /// Takes the node out of its lock, with its metadata. It has a history that began as the half did, and whose connections all used
-    /// its ends. The metadata has the identifiers that a stop has to leave.
+    /// its ends, and of which the metadata says what a stop has to leave.
     pub fn into_parts(self) -> (Primary<O, I, S>, Option<Metadata<F>>)
         ensures had { PrimaryIsHad B.opening result.0 }
-        ensures kept { PrimaryIsKept B.opening result.0 result.1 }
+        ensures kept { (owes_all : Bool) × PrimaryIsKept F.seen F.may_leave F.faithful B.opening result.0 result.1 owes_all }
     {
         self.node.into_inner().into_parts()
     }

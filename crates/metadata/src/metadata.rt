@@ -2,7 +2,7 @@
 ghost use Rattle.std.specs.Prelude.{◌≡◌, ◌⊎◌, ◌+◌, ◌<◌, ◌≤◌, ℕ, List, true, false, Ok, Err, length, slice_set, drop, take, IsTrue, IsOk, OnOk, OnErr};
 ghost use Rattle.blocks.specs.declared.block.TheConstants.{MAX_DEVICE_BLOCKS};
 ghost use Rattle.metadata.specs.declared.fault.MetadataFault.TheVariants.{Broken};
-ghost use Rattle.metadata.specs.declared.layout.TheConstants.{MARKS_AT};
+ghost use Rattle.metadata.specs.declared.layout.TheConstants.{MARKS_AT, MAX_EXTENTS};
 ghost use Rattle.metadata.specs.Calls.{Holds, Leaves, Only};
 ghost use Rattle.metadata.specs.Says.{entered_in, marked_in, opened_identifiers, extents_of};
 ghost use Rattle.metadata.specs.Steps.{OnlyEntry, OnlyMarks, OnlyIdentifiers, Unchanged, IsIn};
@@ -83,10 +83,11 @@ impl<F: StableFile> Metadata<F> {
         self.is_broken
     }
 
-    /// Returns how many extents the device has.
+    /// Returns how many extents the device has: at most `MAX_EXTENTS`.
     pub fn extents(&self) -> u64
         ensures count { result ≡ length self.now.entries }
         ensures of_blocks { result ≡ extents_of self.now.header.blocks }
+        ensures few { result ≤ MAX_EXTENTS }
     {
         self.entries.len() as u64
     }

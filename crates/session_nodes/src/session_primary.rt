@@ -151,6 +151,8 @@ impl<B: Beginning, O: FrameOut + Drop, I: FrameIn + Drop, S: Store + Drop> Sessi
         ensures runs { PrimaryRuns self.old self.new }
         ensures writes { (h : PrimaryHistory) → PrimaryHas self.old h → IfSome (next_local h) (λ number. WritesOne number result self.old self.new) }
         ensures nothing { (h : PrimaryHistory) → PrimaryHas self.old h → next_local h ≡ None → (result ≡ Err NothingThere) × (self.new ≡ self.old) }
+        ensures outward { self.new.outgoing ≡ self.old.outgoing }
+        ensures inward { self.new.incoming ≡ self.old.incoming }
         ensures refused { IfErr result (λ e. e ≡ NothingThere) }
     {
         match self.node.next_local() {
@@ -163,6 +165,8 @@ impl<B: Beginning, O: FrameOut + Drop, I: FrameIn + Drop, S: Store + Drop> Sessi
     fn write_at(&mut self, number: u64) -> Result<Done, Refusal>
         ensures runs { PrimaryRuns self.old self.new }
         ensures writes { WritesOne number result self.old self.new }
+        ensures outward { self.new.outgoing ≡ self.old.outgoing }
+        ensures inward { self.new.incoming ≡ self.old.incoming }
     {
         self.node.local(number)
     }
@@ -172,6 +176,8 @@ impl<B: Beginning, O: FrameOut + Drop, I: FrameIn + Drop, S: Store + Drop> Sessi
     pub fn resync_next(&mut self) -> Result<Done, Refusal>
         ensures runs { PrimaryRuns self.old self.new }
         ensures copies { CopiesOne result self.old self.new }
+        ensures outward { self.new.outgoing ≡ self.old.outgoing }
+        ensures inward { self.new.incoming ≡ self.old.incoming }
         ensures refused { IfErr result (λ e. resync_next_refuses e ≡ true) }
     {
         self.node.resync_next()

@@ -37,18 +37,18 @@ count-new c new [] = ap (λ b. begun_by b 0) new
 count-new c new (d ∷ cs) = ap (begun_by d.begun) (count-new c new cs)
 
 -- No more writes, and no more streams that began.
-record IsQuiet (n m : ℕ) (g : PrimaryHistory) : Type 0 where
-  writes : length g.writes ≤ n
-  streams : begun_count g.connections ≤ m
+pub record IsQuiet (n m : ℕ) (g : PrimaryHistory) : Type 0 where
+  pub writes : length g.writes ≤ n
+  pub streams : begun_count g.connections ≤ m
 
-quiet-change : (n m : ℕ) (h later : PrimaryHistory) (f : PrimaryConnection → PrimaryConnection) → later.connections ≡ change_last f h.connections
+pub quiet-change : (n m : ℕ) (h later : PrimaryHistory) (f : PrimaryConnection → PrimaryConnection) → later.connections ≡ change_last f h.connections
     → length later.writes ≡ length h.writes → ((c : PrimaryConnection) → (f c).begun ≡ c.begun) → IsQuiet n m h → IsQuiet n m later
 quiet-change n m h later f connections writes same q = record {
   writes = omega (arith, q.writes, writes);
   streams = omega (arith, q.streams, ap begun_count connections, count-same f same h.connections);
 }
 
-quiet-follows : (n m : ℕ) (h : PrimaryHistory) → IsQuiet n m h → IsQuiet n m (follows h).history
+pub quiet-follows : (n m : ℕ) (h : PrimaryHistory) → IsQuiet n m h → IsQuiet n m (follows h).history
 quiet-follows n m = following-from (IsQuiet n m) (IsQuiet n m) (IsQuiet n m) (λ h q. record { writes = q.writes; streams = q.streams })
     (λ g over q. quiet-change n m g _ _ refl refl (λ c. refl) q) (λ g on q. q) (λ g over q. quiet-change n m g _ _ refl refl (λ c. refl) q) (λ g q. q)
 

@@ -3,6 +3,7 @@ pub mod CurrentIdentifier
 pub mod Covering
 pub mod Growing
 pub mod Events
+pub mod Frames
 pub mod Closed
 pub mod InFlight
 pub mod Unparted

@@ -1,5 +1,5 @@
 //! A session over a link in this process, whose nodes have their metadata on stable storage.
-ghost use Rattle.std.specs.Prelude.{◌≡◌, ◌≤◌, ◌⊎◌, true, Some, is_some, slice_get, IfErr, IfOk};
+ghost use Rattle.std.specs.Prelude.{◌≡◌, ◌≤◌, ◌⊎◌, Bool, true, Some, is_some, slice_get, IfErr, IfOk};
 ghost use Rattle.blocks.specs.declared.refusal.Refusal.TheVariants.{LocalFault, NotDrained};
 ghost use Rattle.halves.specs.Opening.{opening_of};
 ghost use Rattle.kept_nodes.specs.Kept.{PrimaryIsKept, SecondaryIsKept};
@@ -174,13 +174,13 @@ impl<
     /// Each node has a history that began with the session's opening, and whose connections all used its link. All such
     /// histories are joined: on each
     /// connection, what one end took begins what the other pushed, both ways. No connection of the secondary has a
-    /// number above the primary's last one; else 36 is returned, which no session brings about. The metadata has the identifiers that a stop of
-    /// the nodes has to leave (`kept`, `kept_too`).
+    /// number above the primary's last one; else 36 is returned, which no session brings about. The metadata says what a stop of the
+    /// nodes has to leave (`kept`, `kept_too`).
     pub fn finish(self) -> Result<Finished<R, L, S, T, F, G>, Refusal>
         ensures had { IfOk result (λ left. PrimaryIsHad (Some L.opening) left.primary × SecondaryIsHad (Some L.opening) left.secondary) }
         ensures joined { IfOk result (λ left. (p : PrimaryHistory) (s : SecondaryHistory) → PrimaryHas left.primary p → SecondaryHas left.secondary s → IsJoined p s) }
         ensures numbered { IfOk result (λ left. left.secondary.core.number ≤ left.primary.core.connections) }
-        ensures kept { IfOk result (λ left. PrimaryIsKept (Some L.opening) left.primary left.metadata.primary) }
+        ensures kept { IfOk result (λ left. (owes_all : Bool) × PrimaryIsKept F.seen F.may_leave F.faithful (Some L.opening) left.primary left.metadata.primary owes_all) }
         ensures kept_too { IfOk result (λ left. SecondaryIsKept (Some L.opening) left.secondary left.metadata.secondary left.metadata.is_peer_doubted) }
         ensures refused { IfErr result (λ e. e ≡ NotDrained) }
     {
@@ -219,7 +219,7 @@ fn into_nodes<
 ) -> Finished<R, L, S, T, F, G>
     ensures had { PrimaryIsHad (Some L.opening) result.primary × SecondaryIsHad (Some L.opening) result.secondary }
     ensures joined { (p : PrimaryHistory) (s : SecondaryHistory) → PrimaryHas result.primary p → SecondaryHas result.secondary s → IsJoined p s }
-    ensures kept { PrimaryIsKept (Some L.opening) result.primary result.metadata.primary }
+    ensures kept { (owes_all : Bool) × PrimaryIsKept F.seen F.may_leave F.faithful (Some L.opening) result.primary result.metadata.primary owes_all }
     ensures kept_too { SecondaryIsKept (Some L.opening) result.secondary result.metadata.secondary result.metadata.is_peer_doubted }
 {
     let (primary, primary_metadata) = primary.into_parts();

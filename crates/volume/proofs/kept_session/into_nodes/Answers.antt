@@ -18,8 +18,11 @@ returns-clause-joined g c = λ p s had held.
     (subst (λ (v : SecondaryView). SecondaryHas v s) c.join_nodes-primary.ensures.secondary held)
 
 pub returns-clause-kept : goal.returns-clause-kept
-returns-clause-kept g c = subst (λ (v : PrimaryView). PrimaryIsKept (Some g.L.Linked.opening) v c.into_parts-primary.result.1)
-    (sym c.join_nodes-primary.ensures.primary) c.into_parts-primary.ensures.kept
+returns-clause-kept g c = (
+  c.into_parts-primary.ensures.kept.0,
+  subst (λ (v : PrimaryView). PrimaryIsKept g.F.StableFile.seen g.F.StableFile.may_leave g.F.StableFile.faithful (Some g.L.Linked.opening) v
+      c.into_parts-primary.result.1 c.into_parts-primary.ensures.kept.0) (sym c.join_nodes-primary.ensures.primary) c.into_parts-primary.ensures.kept.1,
+)
 
 pub returns-clause-kept_too : goal.returns-clause-kept_too
 returns-clause-kept_too g c = subst (λ (v : SecondaryView). SecondaryIsKept (Some g.L.Linked.opening) v c.into_parts-secondary.result.1 c.into_parts-secondary.result.2)

@@ -1,5 +1,5 @@
 use Rattle.std.proofs.Common.{sym, subst, ◌∙◌, ◌≡◌, false, true}
-use Rattle.kept_nodes.specs.Kept.{KeptPrimaryState, is_broken}
+use Rattle.kept_nodes.specs.Kept.{is_broken}
 use Rattle.kept_nodes.proofs.Turning.{runs-whole}
 use Rattle.session_nodes.specs.Primaries.{PrimaryRuns}
 use Rattle.kept_nodes.proofs.kept_primary.KeptPrimary.turn.Goals.{else-loop-test, then-loop-test+then-not-advance}

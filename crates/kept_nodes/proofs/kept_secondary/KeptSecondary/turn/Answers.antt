@@ -1,5 +1,5 @@
 use Rattle.std.proofs.Common.{sym, subst, ◌∙◌, ◌≡◌, false, true}
-use Rattle.kept_nodes.specs.Kept.{KeptSecondaryState, is_broken}
+use Rattle.kept_nodes.specs.Kept.{is_broken}
 use Rattle.kept_nodes.proofs.Turning.{runs-whole-too}
 use Rattle.session_nodes.specs.Secondaries.{SecondaryRuns}
 use Rattle.kept_nodes.proofs.kept_secondary.KeptSecondary.turn.Goals.{else-loop-test, then-loop-test+then-not-advance}

@@ -29,3 +29,9 @@ invariant_of-self g c = had-runs c.self.inside.node c.local.new.self c.self.inva
 
 pub returns-clause-runs : goal.returns-clause-runs
 returns-clause-runs g c = rw (← c.self.view_is) (ran g c)
+
+pub returns-clause-outward : goal.returns-clause-outward
+returns-clause-outward g c = rw (← c.self.view_is) (ap (λ (x : PrimaryView). x.outgoing) c.local.ensures.rest)
+
+pub returns-clause-inward : goal.returns-clause-inward
+returns-clause-inward g c = rw (← c.self.view_is) (ap (λ (x : PrimaryView). x.incoming) c.local.ensures.rest)
