@@ -1,4 +1,5 @@
 //! The thread that keeps the link up.
+use crate::copying::Copying;
 use crate::service::Service;
 use crate::standstill::Standstill;
 use blocks::ConnectionWords;
@@ -33,6 +34,7 @@ pub(crate) fn keep<R: Wait + Clock>(
         standstill: Standstill::new(),
         is_up: !service.requests.is_peer_failed(),
         looks: 0,
+        copying: None,
     };
     for _ in rt.forever() {
         if over.load(Ordering::SeqCst) {
@@ -40,9 +42,14 @@ pub(crate) fn keep<R: Wait + Clock>(
         }
         link.tend(service, device, cut_every);
         let marks = device.marks();
+        link.note_copying(rt, device, marks);
         link.cut_if_still(device, marks);
         let most = service.note_marks(marks);
-        give_report(rt, service, device, most);
+        if service.reports.is_asked(rt) {
+            service
+                .reports
+                .give(rt, link.report(rt, service, device, most));
+        }
         thread::sleep(rt, Duration::from_millis(LOOK_MS));
         link.looks = link.looks.saturating_add(1);
     }
@@ -58,6 +65,8 @@ struct KeptLink {
     is_up: bool,
     // Looks since a cut was last due.
     looks: u64,
+    // The resync that goes on.
+    copying: Option<Copying>,
 }
 
 impl KeptLink {
@@ -100,6 +109,43 @@ impl KeptLink {
         device.cut();
         self.is_up = false;
     }
+
+    // Takes the number of marked blocks while a resync goes on, and forgets it once none does.
+    fn note_copying<R: Clock>(&mut self, rt: &R, device: &impl Device, marks: u32) {
+        self.copying = match self.copying {
+            _ if marks == 0 || !is_resyncing(device) => None,
+            None => Copying::begin(rt, marks),
+            Some(copying) => Some(copying),
+        };
+    }
+
+    // Returns the session's report on its nodes.
+    fn report<R: Clock>(
+        &self,
+        rt: &R,
+        service: &Service,
+        device: &impl Device,
+        most: u32,
+    ) -> StatusReport {
+        let (primary, secondary) = device.status();
+        let marks = device.marks();
+        let resync = match primary.words.link {
+            LinkState::SyncSource => Some(Resync {
+                left: marks,
+                all: most,
+                copied: self.copying.map_or(0, |copying| copying.copied(marks)),
+                elapsed_ms: self.copying.map_or(0, |copying| copying.elapsed_ms(rt)),
+            }),
+            _ => None,
+        };
+        StatusReport {
+            primary,
+            secondary,
+            start: service.start(),
+            resync,
+            is_peer_failed: service.requests.is_peer_failed(),
+        }
+    }
 }
 
 // Returns whether marked blocks are being copied.
@@ -113,30 +159,5 @@ fn is_cut_due(cut_every: Option<u32>, looks: u64) -> bool {
     match cut_every {
         Some(seconds) => looks >= u64::from(seconds).saturating_mul(LOOKS_A_SECOND),
         None => false,
-    }
-}
-
-// Gives a report on the session if one is asked for.
-fn give_report<R: Wait>(rt: &R, service: &Service, device: &impl Device, most: u32) {
-    if service.reports.is_asked(rt) {
-        service.reports.give(rt, report(service, device, most));
-    }
-}
-
-// Returns the session's report on its nodes. While blocks are marked and the link is up, a resync goes on.
-fn report(service: &Service, device: &impl Device, most: u32) -> StatusReport {
-    let (primary, secondary) = device.status();
-    let resync = match primary.words.link {
-        LinkState::SyncSource => Some(Resync {
-            left: device.marks(),
-            all: most,
-        }),
-        _ => None,
-    };
-    StatusReport {
-        primary,
-        secondary,
-        resync,
-        is_peer_failed: service.requests.is_peer_failed(),
     }
 }

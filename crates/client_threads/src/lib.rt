@@ -5,6 +5,7 @@
 mod accept;
 mod answer;
 mod client;
+mod copying;
 mod housekeeper;
 mod job;
 mod keeper;
@@ -27,5 +28,6 @@ mod workers;
 
 pub use listeners::{ListenFault, Listeners};
 pub use service::Service;
+pub use status_page::StartedAfter;
 pub use threads::{StartFault, start_threads};
 pub use workers::work;

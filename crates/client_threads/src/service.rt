@@ -7,6 +7,7 @@ use crate::sync_queue::SyncQueue;
 use blocks::{ConnectionWords, Protocol, Refusal};
 use crossbeam_channel::{Receiver, Sender, bounded};
 use requests::Requests;
+use status_page::{ServerStart, StartedAfter};
 use std::alloc::Global;
 use std::sync::atomic::{AtomicBool, AtomicU32, AtomicU64, Ordering};
 
@@ -38,17 +39,22 @@ pub struct Service {
     next_word: AtomicU64,
     // The most blocks that were marked since none was.
     most_marks: AtomicU32,
+    after: StartedAfter,
+    // Blocks that the first session had to copy.
+    to_copy: AtomicU32,
 }
 
 impl Service {
     /// Creates the state of a server of a device of `blocks` blocks, which gives its connections the words from `first_word` on: none of
-    /// them may be an identifier of a disk at the start. `NoMemory` (7) if there is no memory.
+    /// them may be an identifier of a disk at the start; `after` says what the server found at its start. `NoMemory` (7) if there is no
+    /// memory.
     pub fn new(
         alloc: Global,
         blocks: u32,
         protocol: Protocol,
         requests: Requests,
         first_word: u64,
+        after: StartedAfter,
     ) -> Result<Service, Refusal>
         ensures { IfOk result (λ service. (service.protocol ≡ protocol) × (service.blocks ≡ blocks)) }
     {
@@ -67,6 +73,8 @@ impl Service {
             clients: AtomicU32::new(0),
             next_word: AtomicU64::new(first_word),
             most_marks: AtomicU32::new(0),
+            after,
+            to_copy: AtomicU32::new(0),
         })
     }
 
@@ -109,6 +117,19 @@ impl Service {
         self.most_marks
             .fetch_max(marks, Ordering::SeqCst)
             .max(marks)
+    }
+
+    /// Notes how many blocks the first session has to copy.
+    pub fn note_start(&self, to_copy: u32) {
+        self.to_copy.store(to_copy, Ordering::SeqCst);
+    }
+
+    /// Returns how the server began.
+    pub(crate) fn start(&self) -> ServerStart {
+        ServerStart {
+            after: self.after,
+            to_copy: self.to_copy.load(Ordering::SeqCst),
+        }
     }
 
     /// Returns two fresh words, for a connection.

@@ -29,12 +29,17 @@ pub fn serving_identifiers(
 }
 
 /// Has the metadata of the local image say that just these blocks are marked, and that its server ended cleanly, which left the image
-/// so. The image is on stable storage, and nobody writes to it any more.
+/// so. The image is on stable storage, and nobody writes to it any more. `OtherBlocks` if the marks are of a device of another size.
 pub fn close_local<F: StableFile>(
     metadata: &mut Metadata<F>,
     marks: &Bitmap,
     image: CleanEnd,
-) -> Result<(), MetadataFault> {
+) -> Result<(), MetadataFault>
+    ensures ended { OnOk result (metadata.new.identifiers ≡ record metadata.old.identifiers { clean_end = Some image }) }
+{
+    if marks.len() != metadata.header().blocks {
+        return Err(MetadataFault::OtherBlocks);
+    }
     record_marks(metadata, marks)?;
     close_peer(metadata, image)
 }

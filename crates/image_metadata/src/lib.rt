@@ -6,6 +6,7 @@ mod change;
 mod end;
 mod judging;
 mod metadata_lock;
+mod opening;
 mod search;
 
 pub use boot::boot_id;
@@ -16,4 +17,5 @@ pub use metadata::{
     AnyBytes, BootId, CleanEnd, Header, Identifiers, Metadata, MetadataFault, OpeningBytes,
 };
 pub use metadata_lock::{MetadataFileFault, open_locked};
+pub use opening::{OpeningIdentifiers, UNKNOWN, opening_identifiers};
 pub use search::{Found, FoundFile, ImageFile, Saved, create_anew, find};

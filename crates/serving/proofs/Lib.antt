@@ -3,3 +3,4 @@ pub mod Alike
 pub mod Comparing
 pub mod Ended
 pub mod Succeeding
+pub mod Marking

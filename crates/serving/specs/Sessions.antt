@@ -1,5 +1,5 @@
 -- What the sessions of a server leave, one after another.
-use Rattle.std.specs.Prelude.{ℕ, ◌≡◌, ◌⊎◌, ◌+◌, ◌≤◌, false, List, [], ◌∷◌, IsTrue, length, min, slice_get}
+use Rattle.std.specs.Prelude.{ℕ, ◌≡◌, ◌⊎◌, ◌+◌, ◌<◌, ◌≤◌, true, false, not, List, [], ◌∷◌, IsTrue, length, min, slice_get}
 use Rattle.std.specs.List.{list_any}
 use Rattle.bitmap.specs.Marks.{marked}
 use Rattle.blocks.specs.declared.settings.Settings.{Settings}
@@ -7,6 +7,7 @@ use Rattle.handover.specs.Left.{IsUnparted}
 use Rattle.handover.specs.Next.{IsLeft, unknown}
 use Rattle.model.specs.Headline.{IsJoined}
 use Rattle.model.specs.LocalRuns.{PrimaryEvent, SecondaryEvent, primary_run, secondary_run}
+use Rattle.model.specs.Pair.{same_block}
 use Rattle.model.specs.Primary.{PrimaryHistory, is_failed, local_map, marked_blocks}
 use Rattle.model.specs.Secondary.{SecondaryHistory, secondary_map}
 use Rattle.model.specs.Settlement.{Receipt, Settlement}
@@ -100,16 +101,31 @@ pub record IsFirst (chosen : Settings) (how : FirstStart) (disks : DisksState) (
   pub peer : first.disks.peer ≡ disks.peer
   pub honest : IsTrusted how first → WasHonest (opening first)
 
--- The start of a server's first session over images with metadata, with these settings: nothing was written yet.
+-- The start of a server's first session over images that get their metadata, with these settings: nothing was written yet. After a
+-- comparison just the blocks are marked on which the disks differ, and if there is one, the peer's disk is known by the primary's bitmap
+-- identifier, so that they are copied; else none is marked, and before a copy the peer's disk is unknown.
+pub record IsMarkedStart (chosen : Settings) (how : FirstStart) (disks : DisksState) (first : Rest) : Type 0 where
+  pub settings : first.parts.settings ≡ chosen
+  pub compared : how ≡ Compare → AreFaithful first.disks → (block : ℕ) → block < chosen.blocks
+      → marked first.parts.marks block ≡ not (same_block (slice_get disks.local block) (slice_get disks.peer block))
+  pub unmarked : (how ≡ Compare → ⊥) → (block : ℕ) → marked first.parts.marks block ≡ false
+  pub parted : how ≡ Compare → (block : ℕ) → marked first.parts.marks block ≡ true → first.parts.own.bitmap ≡ first.parts.peer.current
+  pub copied : how ≡ Copy → first.parts.peer ≡ unknown
+  pub totals : first.totals ≡ record { completed = 0; confirmed = 0; marked = 0 }
+  pub local : first.disks.local ≡ disks.local
+  pub peer : first.disks.peer ≡ disks.peer
+  pub honest : IsTrusted how first → WasHonest (opening first)
+
+-- The start of a server's first session over images that had metadata, with these settings: nothing was written yet.
 pub record IsKeptStart (chosen : Settings) (disks : DisksState) (first : Rest) : Type 0 where
   pub settings : first.parts.settings ≡ chosen
   pub totals : first.totals ≡ record { completed = 0; confirmed = 0; marked = 0 }
   pub local : first.disks.local ≡ disks.local
   pub peer : first.disks.peer ≡ disks.peer
 
--- The start of a server's first session, without metadata or with it.
+-- The start of a server's first session: without metadata, with new metadata, or with metadata that was there.
 abbrev pub IsStart : Settings → FirstStart → DisksState → Rest → Type 0
-IsStart chosen how disks first = IsFirst chosen how disks first ⊎ IsKeptStart chosen disks first
+IsStart chosen how disks first = IsFirst chosen how disks first ⊎ (IsMarkedStart chosen how disks first ⊎ IsKeptStart chosen disks first)
 
 -- Sessions led from the first start to this one; between them are the starts of those after the first, the latest first.
 abbrev pub HasCome : Rest → List Rest → Rest → Type 0

@@ -3,10 +3,10 @@ use crate::fault::ServeFault;
 use crate::image_files::FoundFiles;
 use bitmap::Bitmap;
 use blocks::{BLOCK_BYTES, Tuple};
-use generations::decide;
+use client_threads::StartedAfter;
 use image_metadata::{
-    BootId, Found, FoundFile, Header, ImageFile, Metadata, MetadataFault, OpeningBytes, Start,
-    boot_id, create_anew, judge, serving_identifiers,
+    BootId, Found, FoundFile, Header, ImageFile, LastEnd, Metadata, MetadataFault, OpeningBytes,
+    Start, UNKNOWN, boot_id, create_anew, judge, opening_identifiers, serving_identifiers,
 };
 use image_store::PerDisk;
 use kept_nodes::known_marks;
@@ -17,14 +17,6 @@ use std::io::Write;
 use std::random::RandomSource;
 use std::rt::Files;
 use volume::PairMetadata;
-
-/// The identifiers of a disk about which nothing is known.
-pub(crate) const UNKNOWN: Tuple = Tuple {
-    current: 0,
-    bitmap: 0,
-    first_historical: 0,
-    second_historical: 0,
-};
 
 /// The metadata of both images.
 pub(crate) type ImagesMetadata<M, N> = PairMetadata<ImageFile<M>, ImageFile<N>>;
@@ -37,8 +29,10 @@ pub(crate) struct FreshNumbers {
     /// The ids of its two nodes.
     pub(crate) local_node: u64,
     pub(crate) peer_node: u64,
-    /// An identifier of data, and the first word of the server's connections.
+    /// An identifier of data, the word under which a primary has lost its peer before this start, and the first word of the server's
+    /// connections.
     pub(crate) identifier: u64,
+    pub(crate) lost_word: u64,
     pub(crate) first_word: u64,
     /// The id of the system, or a number that no system has.
     pub(crate) boot: BootId,
@@ -62,13 +56,25 @@ pub(crate) struct Known<M: OpeningBytes, N: OpeningBytes> {
     pub(crate) own: Tuple,
     pub(crate) peer: Tuple,
     pub(crate) marks: Bitmap,
+    pub(crate) after: StartedAfter,
+}
+
+impl<M: OpeningBytes, N: OpeningBytes> Beginning<M, N> {
+    /// Returns what it follows.
+    pub(crate) fn after(&self) -> StartedAfter {
+        match self {
+            Beginning::Unkept => StartedAfter::NoMetadata,
+            Beginning::First { .. } => StartedAfter::Nothing,
+            Beginning::Known(known) => known.after,
+        }
+    }
 }
 
 /// Returns numbers that no other mirror has. An error if the system gives no random bytes.
 pub(crate) fn fresh_numbers<'a, H: Files + AllocGlobal + RandomSource>(
     rt: &H,
 ) -> Result<FreshNumbers, ServeFault<'a>> {
-    let mut bytes = [0u8; 56];
+    let mut bytes = [0u8; 64];
     if let Err(error) = rt.fill_bytes(&mut bytes) {
         return Err(ServeFault::NoRandomBytes(error));
     }
@@ -84,6 +90,7 @@ pub(crate) fn fresh_numbers<'a, H: Files + AllocGlobal + RandomSource>(
         local_node: word(&bytes, 8) | 1,
         peer_node: word(&bytes, 16) | 1,
         identifier: word(&bytes, 24) | 1,
+        lost_word: word(&bytes, 56) | 1,
         // Far from the end, so that a server has words for as long as it lives.
         first_word: (word(&bytes, 32) >> 1) | 2,
         boot,
@@ -91,7 +98,7 @@ pub(crate) fn fresh_numbers<'a, H: Files + AllocGlobal + RandomSource>(
 }
 
 // Returns the word that begins at this byte.
-fn word(bytes: &[u8; 56], first: usize) -> u64 {
+fn word(bytes: &[u8; 64], first: usize) -> u64 {
     let mut word = 0u64;
     for byte in bytes.iter().skip(first).take(8) {
         word = word << 8 | u64::from(*byte);
@@ -153,7 +160,6 @@ fn take_up<M: OpeningBytes, N: OpeningBytes>(
     numbers: FreshNumbers,
 ) -> Result<Known<M, N>, MetadataFault> {
     let mut local = whole(alloc, local, local_header(blocks, &numbers), &numbers)?;
-    let own = local.identifiers().tuple;
     let marks = known_marks(alloc, &mut local)?;
     let header = Header {
         pair: local.header().pair,
@@ -162,28 +168,44 @@ fn take_up<M: OpeningBytes, N: OpeningBytes>(
     };
     let peer = of_pair(peer, header.pair);
     let mut peer = whole(alloc, peer, header, &numbers)?;
-    let (tuple, is_doubted) = match start {
-        Start::Marked {
-            is_peer_doubted,
-            ..
-        } if decide(&own, &peer.identifiers().tuple).is_ok() => {
-            (peer.identifiers().tuple, is_peer_doubted)
-        }
-        _ => (UNKNOWN, true),
-    };
+    let opening = opening_identifiers(
+        start,
+        local.identifiers().tuple,
+        peer.identifiers().tuple,
+        marks.count() > 0,
+        numbers.lost_word,
+    );
     let secondary_of = local.header().node;
-    local.save(&serving_identifiers(own, true, numbers.boot, 0))?;
-    peer.save(&serving_identifiers(tuple, !is_doubted, numbers.boot, secondary_of))?;
+    local.save(&serving_identifiers(opening.own, true, numbers.boot, 0))?;
+    peer.save(&serving_identifiers(
+        opening.peer,
+        !opening.is_peer_doubted,
+        numbers.boot,
+        secondary_of,
+    ))?;
     Ok(Known {
         metadata: PairMetadata {
             primary: Some(local),
             secondary: Some(peer),
-            is_peer_doubted: is_doubted,
+            is_peer_doubted: opening.is_peer_doubted,
         },
-        own,
-        peer: tuple,
+        own: opening.own,
+        peer: opening.peer,
         marks,
+        after: started_after(start, opening.peer),
     })
+}
+
+// Returns what a server starts after, whose secondary begins with this tuple.
+fn started_after(start: Start, peer: Tuple) -> StartedAfter {
+    match start {
+        Start::Marked { last, .. } if peer != UNKNOWN => match last {
+            LastEnd::Clean => StartedAfter::CleanEnd,
+            LastEnd::Killed => StartedAfter::Kill,
+            LastEnd::PowerLost => StartedAfter::PowerLoss,
+        },
+        _ => StartedAfter::Unknown,
+    }
 }
 
 // Returns the metadata of a file, made anew if it cannot be used.

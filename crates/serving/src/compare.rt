@@ -1,5 +1,6 @@
 //! The comparison of two disks.
-ghost use Rattle.std.specs.Prelude.{ℕ, ◌≡◌, false, ◌&&◌, ◌||◌, not, nat_le, if◌then◌else◌, is_some, length, slice_get, IfErr, IfOk, IfSome, IsTrue, OnErr, OnOk};
+ghost use Rattle.std.specs.Prelude.{ℕ, ◌≡◌, ◌<◌, ◌≤◌, false, ◌&&◌, ◌||◌, not, nat_le, if◌then◌else◌, is_some, length, slice_get, IfErr, IfOk, IfSome, IsTrue, OnErr, OnOk};
+ghost use Rattle.bitmap.specs.Marks.{marked};
 ghost use Rattle.blocks.specs.declared.block.TheConstants.{BLOCK_BYTES};
 ghost use Rattle.blocks.specs.declared.refusal.Refusal.TheVariants.{ReadFault};
 ghost use Rattle.model.specs.Pair.{same_block};
@@ -40,15 +41,19 @@ pub(crate) fn are_alike<D: Store, E: Write>(
     Ok(true)
 }
 
-/// Marks each of the first `blocks` blocks on which the disks differ, in a bitmap of so many blocks without marks. Shows its progress on
-/// `err` if the disks are large. `ReadFault` (14) if a disk fails a read.
+/// Marks each of the first `blocks` blocks on which the disks differ, in a bitmap without marks. Shows its progress on `err` if the disks
+/// are large. `ReadFault` (14) if a disk fails a read.
 pub(crate) fn mark_differing<D: Store, E: Write>(
     disks: &mut Disks<D>,
     marks: &mut Bitmap,
     blocks: u32,
     err: &mut E,
 ) -> Result<(), Refusal>
+    requires fits { blocks ≤ length marks.old }
+    requires clear { (block : ℕ) → marked marks.old block ≡ false }
     ensures size { length marks.new ≡ length marks.old }
+    ensures marks { OnOk result (AreFaithful disks.new → (block : ℕ) → block < blocks
+        → marked marks.new block ≡ not (same_block (slice_get disks.old.local block) (slice_get disks.old.peer block))) }
     ensures read { WereRead disks.old disks.new }
     ensures refused { IfErr result (λ e. e ≡ ReadFault) }
 {
@@ -56,24 +61,15 @@ pub(crate) fn mark_differing<D: Store, E: Write>(
     let mut theirs = [0u8; BLOCK_BYTES];
     for number in 0..blocks {
         tell_progress(number, blocks, err);
-        let first = Block(u64::from(number));
-        if !is_alike(disks, first, &mut ours, &mut theirs)? {
-            mark_block(marks, first);
+        let block = Block(u64::from(number));
+        if !is_alike(disks, block, &mut ours, &mut theirs)? {
+            marks.mark(Range {
+                first: block,
+                count: 1,
+            });
         }
     }
     Ok(())
-}
-
-// Marks a block, if the device has it.
-fn mark_block(marks: &mut Bitmap, block: Block)
-    ensures size { length marks.new ≡ length marks.old }
-{
-    if block.0 < marks.len() {
-        marks.mark(Range {
-            first: block,
-            count: 1,
-        });
-    }
 }
 
 /// Returns on how many of the first `blocks` blocks the disks differ without a mark. Shows its progress on `err` if the disks

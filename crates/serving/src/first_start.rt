@@ -4,17 +4,20 @@ ghost use Rattle.bitmap.specs.Marks.{marked};
 ghost use Rattle.blocks.specs.SettingsRange.{standard};
 ghost use Rattle.options.specs.declared.serve.FirstStart.TheVariants.{AssumeEqual, Compare, Copy};
 ghost use Rattle.serving.specs.Disks.{AreFaithful, WereRead};
-ghost use Rattle.serving.specs.Sessions.{IsFirst, IsKeptStart, IsStart};
+ghost use Rattle.serving.specs.Sessions.{IsFirst, IsKeptStart, IsMarkedStart, IsStart};
 
-use crate::beginning::{Beginning, FreshNumbers, ImagesMetadata, Known, UNKNOWN, local_header};
-use crate::compare::{are_alike, mark_differing};
+use crate::beginning::{Beginning, FreshNumbers, ImagesMetadata, Known, local_header};
+use crate::compare::are_alike;
 use crate::disks::Disks;
+use crate::first_marks::{first_identifiers, first_marks};
 use crate::session_end::SessionEnd;
 use crate::totals::Totals;
 use bitmap::Bitmap;
 use blocks::{ConnectionWords, MAX_DEVICE_BLOCKS, Refusal, Settings, Store, Tuple};
 use client_threads::Service;
-use image_metadata::{Header, MetadataFault, OpeningBytes, create_anew, serving_identifiers};
+use image_metadata::{
+    Header, MetadataFault, OpeningBytes, UNKNOWN, create_anew, serving_identifiers,
+};
 use kept_nodes::record_marks;
 use options::FirstStart;
 use std::fs::File;
@@ -55,6 +58,7 @@ fn start_known<D: Store + Drop, M: OpeningBytes, N: OpeningBytes>(
         own,
         peer,
         marks,
+        after: _,
     } = known;
     Ok(SessionEnd {
         disks,
@@ -75,40 +79,37 @@ fn start_kept<D: Store + Drop, M: OpeningBytes, N: OpeningBytes, E: Write>(
     disks: Disks<D>,
     err: &mut E,
 ) -> Result<SessionEnd<D, M, N>, Refusal>
-    ensures { IfOk result (IsKeptStart (record standard { protocol = service.now.protocol; blocks = service.now.blocks }) disks) }
+    ensures { IfOk result (IsMarkedStart (record standard { protocol = service.now.protocol; blocks = service.now.blocks }) how disks) }
 {
     let mut disks = disks;
-    let mut marks = unmarked_bitmap(service)?;
     let _ = writeln!(err, "both images get metadata, since neither has any");
-    if how == FirstStart::Compare {
-        mark_differing(&mut disks, &mut marks, service.blocks, err)?;
-        let _ = writeln!(
-            err,
-            "{} blocks differ, and are copied from the local image over the peer's",
-            marks.count()
-        );
-    }
-    let before = Tuple::new(numbers.identifier, 0, 0, 0);
-    let own = if marks.count() > 0 {
-        Tuple::new(service.words().loss, numbers.identifier, 0, 0)
-    } else {
-        before
-    };
-    let peer_tuple = if how == FirstStart::Copy {
-        UNKNOWN
-    } else {
-        before
-    };
-    let made = make_metadata::<M, N>(service, local, peer, numbers, own, peer_tuple, &marks);
-    let Ok(metadata) = made else {
+    let marks = first_marks(service.alloc, service.blocks, how, &mut disks, err)?;
+    let count = marks.count();
+    tell_differing(how, count, err);
+    let (own, other) = first_identifiers(how, count > 0, numbers.identifier, service.words().loss);
+    let Ok(metadata) = make_metadata::<M, N>(service, local, peer, numbers, own, other, &marks)
+    else {
         return Err(Refusal::LocalFault);
     };
-    Ok(SessionEnd {
-        disks,
-        parts: parts_of(service, own, peer_tuple, marks)?,
-        totals: Totals::NOTHING,
-        metadata,
-    })
+    match parts_of(service, own, other, marks) {
+        Ok(parts) => Ok(SessionEnd {
+            disks,
+            parts,
+            totals: Totals::NOTHING,
+            metadata,
+        }),
+        Err(refusal) => Err(refusal),
+    }
+}
+
+// Says how many blocks a comparison found to differ.
+fn tell_differing<E: Write>(how: FirstStart, count: u32, err: &mut E) {
+    if how == FirstStart::Compare {
+        let _ = writeln!(
+            err,
+            "{count} blocks differ, and are copied from the local image over the peer's"
+        );
+    }
 }
 
 // Makes the metadata of both images.
@@ -138,6 +139,9 @@ fn make_metadata<M: OpeningBytes, N: OpeningBytes>(
         header,
         &serving_identifiers(own, true, numbers.boot, 0),
     )?;
+    if marks.len() != primary.header().blocks {
+        return Err(MetadataFault::OtherBlocks);
+    }
     record_marks(&mut primary, marks)?;
     Ok(PairMetadata {
         primary: Some(primary),

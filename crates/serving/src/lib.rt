@@ -7,6 +7,7 @@ mod compare;
 mod disks;
 mod end;
 mod fault;
+mod first_marks;
 mod first_start;
 mod image_files;
 mod images;

@@ -18,7 +18,7 @@ use crate::images::{
 use crate::session_end::SessionEnd;
 use crate::sessions::run_sessions;
 use blocks::Refusal;
-use client_threads::{Listeners, Service, start_threads};
+use client_threads::{Listeners, Service, StartedAfter, start_threads};
 use file_store::{FileStore, OpeningContents};
 use image_metadata::OpeningBytes;
 use image_store::{ImageLock, PerDisk, SyncHandle};
@@ -149,8 +149,9 @@ fn serve_locked<
             let first_word = first_word_of(options, &numbers);
             let files = find_files::<M, N, H>(rt, options, locks, blocks)?;
             let beginning = begin(rt.alloc(), options, blocks, files, numbers, err)?;
+            let after = beginning.after();
             match start_service(
-                rt, options, blocks, first_word, syncs, listeners, input, err,
+                rt, options, blocks, first_word, after, syncs, listeners, input, err,
             ) {
                 Ok(service) => serve_sessions(
                     rt, &service, options, beginning, numbers, disks, locks, err,
@@ -181,6 +182,7 @@ fn start_service<
     options: &ServeOptions<'a>,
     blocks: u32,
     first_word: u64,
+    after: StartedAfter,
     syncs: PerDisk<SyncHandle<File>>,
     listeners: Listeners,
     input: I,
@@ -195,6 +197,7 @@ fn start_service<
         options.protocol,
         requests,
         first_word,
+        after,
     )?)?;
     let (clients, page) = (listeners.client_address(), listeners.page_address());
     start_threads(rt, &service, listeners, input)?;

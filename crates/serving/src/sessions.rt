@@ -10,10 +10,10 @@ use crate::session::run_session;
 use crate::session_end::SessionEnd;
 use blocks::{Refusal, Store};
 use client_threads::Service;
-use image_metadata::OpeningBytes;
+use image_metadata::{OpeningBytes, UNKNOWN};
 use options::FirstStart;
 use std::io::Write;
-use volume::Runtime;
+use volume::{Runtime, SessionStart};
 
 /// Runs sessions over these disks until the server ends, and returns what the last one leaves. The first one begins as `how`
 /// says; a comparison shows its progress on `err`.
@@ -36,6 +36,7 @@ pub(crate) fn run_sessions<
     ensures served { IfOk result (IsServed (record standard { protocol = service.now.protocol; blocks = service.now.blocks }) how disks) }
 {
     let mut last = first_start(service, how, beginning, numbers, disks, err)?;
+    service.note_start(to_copy(&last.parts));
     for _ in rt.forever() {
         service.requests.forget_writes();
         last = run_session(rt, service, cut_every, last)?;
@@ -45,4 +46,12 @@ pub(crate) fn run_sessions<
         }
     }
     unreachable!()
+}
+
+// Returns how many blocks are to be copied from these parts: all of them over a disk about which nothing is known.
+fn to_copy(parts: &SessionStart) -> u32 {
+    if parts.peer == UNKNOWN {
+        return parts.settings.blocks;
+    }
+    parts.marks.count()
 }

@@ -6,6 +6,7 @@ use blocks::{Protocol, Refusal};
 use client_threads::{Listeners, Service, start_threads, work};
 use primary::Receipt;
 use serving::Host;
+use status_page::StartedAfter;
 use std::alloc::Global;
 use std::fs::File;
 use std::io::{Read, Write};
@@ -89,7 +90,10 @@ fn serve_device<
         .ok()
         .expect(&rt, "a listener");
     let requests = requests_under(&rt, Protocol::A, "flushed_held");
-    let service = Service::new(alloc, BLOCKS, Protocol::A, requests, 2).expect(&rt, "memory");
+    let after = StartedAfter::NoMetadata;
+    let service = Service::new(alloc, BLOCKS, Protocol::A, requests, 2, after).expect(
+        &rt, "memory",
+    );
     let service = Arc::new(alloc, service).expect(&rt, "memory");
     let is_done = Arc::new(alloc, AtomicBool::new(false)).expect(&rt, "memory");
     let order = Order {

@@ -1,7 +1,7 @@
 //! Tests of the texts of the status page, written out by hand.
 use blocks::Protocol;
 use status_lines::{DiskState, LinkState, PrimaryLine, Role, SecondaryLine, Words};
-use status_page::{Resync, StatusReport, answer_one};
+use status_page::{Resync, ServerStart, StartedAfter, StatusReport, answer_one};
 use std::hash::RandomState;
 use std::process::Abort;
 use std::random::RandomSource;
@@ -39,16 +39,16 @@ pub(crate) fn resync_lines() -> (PrimaryLine, SecondaryLine) {
 }
 
 const LINES: &str =
-    "cs:SyncSource ro:Primary/Secondary ds:UpToDate/Inconsistent pr:C pe:0 ap:1 ep:2 oos:12\ncs:SyncTarget ro:Secondary/Primary ds:Inconsistent/UpToDate pr:C pending:3 use:No whole:1\n";
+    "cs:SyncSource ro:Primary/Secondary ds:UpToDate/Inconsistent pr:C pe:0 ap:1 ep:2 oos:12\ncs:SyncTarget ro:Secondary/Primary ds:Inconsistent/UpToDate pr:C pending:3 use:No whole:1\nstart: the last server was killed, 16 KiB to copy\nresync: 25% done, 12 KiB left, 2 KiB/s, 6 s to go\n";
 
 const JSON: &str =
-    "{\"peer_sync_failed\":false,\"primary\":{\"connection\":\"SyncSource\",\"disk\":\"UpToDate\",\"open_epochs\":2,\"open_writes\":1,\"out_of_sync_kib\":12,\"peer_disk\":\"Inconsistent\",\"peer_role\":\"Secondary\",\"protocol\":\"C\",\"role\":\"Primary\",\"unanswered_writes\":0},\"resync\":{\"left_kib\":12,\"percent\":25},\"secondary\":{\"connection\":\"SyncTarget\",\"disk\":\"Inconsistent\",\"is_consistent\":false,\"peer_disk\":\"UpToDate\",\"peer_role\":\"Primary\",\"pending_items\":3,\"protocol\":\"C\",\"role\":\"Secondary\",\"whole_epoch\":1}}";
+    "{\"peer_sync_failed\":false,\"primary\":{\"connection\":\"SyncSource\",\"disk\":\"UpToDate\",\"open_epochs\":2,\"open_writes\":1,\"out_of_sync_kib\":12,\"peer_disk\":\"Inconsistent\",\"peer_role\":\"Secondary\",\"protocol\":\"C\",\"role\":\"Primary\",\"unanswered_writes\":0},\"resync\":{\"kib_per_second\":2,\"left_kib\":12,\"percent\":25,\"seconds_left\":6},\"secondary\":{\"connection\":\"SyncTarget\",\"disk\":\"Inconsistent\",\"is_consistent\":false,\"peer_disk\":\"UpToDate\",\"peer_role\":\"Primary\",\"pending_items\":3,\"protocol\":\"C\",\"role\":\"Secondary\",\"whole_epoch\":1},\"start\":{\"after\":\"killed\",\"to_copy_kib\":16}}";
 
 const LEFT_OUT: &str =
-    "cs:SyncSource ro:Primary/Secondary ds:UpToDate/Inconsistent pr:C pe:0 ap:1 ep:2 oos:12\ncs:SyncTarget ro:Secondary/Primary ds:Inconsistent/UpToDate pr:C pending:3 use:No whole:1\na sync of the peer's image failed: the link stays down until the server ends\n";
+    "cs:SyncSource ro:Primary/Secondary ds:UpToDate/Inconsistent pr:C pe:0 ap:1 ep:2 oos:12\ncs:SyncTarget ro:Secondary/Primary ds:Inconsistent/UpToDate pr:C pending:3 use:No whole:1\nstart: no metadata is kept, 0 KiB to copy\na sync of the peer's image failed: the link stays down until the server ends\n";
 
 const LEFT_OUT_JSON: &str =
-    "{\"peer_sync_failed\":true,\"primary\":{\"connection\":\"SyncSource\",\"disk\":\"UpToDate\",\"open_epochs\":2,\"open_writes\":1,\"out_of_sync_kib\":12,\"peer_disk\":\"Inconsistent\",\"peer_role\":\"Secondary\",\"protocol\":\"C\",\"role\":\"Primary\",\"unanswered_writes\":0},\"resync\":null,\"secondary\":{\"connection\":\"SyncTarget\",\"disk\":\"Inconsistent\",\"is_consistent\":false,\"peer_disk\":\"UpToDate\",\"peer_role\":\"Primary\",\"pending_items\":3,\"protocol\":\"C\",\"role\":\"Secondary\",\"whole_epoch\":1}}";
+    "{\"peer_sync_failed\":true,\"primary\":{\"connection\":\"SyncSource\",\"disk\":\"UpToDate\",\"open_epochs\":2,\"open_writes\":1,\"out_of_sync_kib\":12,\"peer_disk\":\"Inconsistent\",\"peer_role\":\"Secondary\",\"protocol\":\"C\",\"role\":\"Primary\",\"unanswered_writes\":0},\"resync\":null,\"secondary\":{\"connection\":\"SyncTarget\",\"disk\":\"Inconsistent\",\"is_consistent\":false,\"peer_disk\":\"UpToDate\",\"peer_role\":\"Primary\",\"pending_items\":3,\"protocol\":\"C\",\"role\":\"Secondary\",\"whole_epoch\":1},\"start\":{\"after\":\"no-metadata\",\"to_copy_kib\":0}}";
 
 /// Checks that a client that asks this gets this status and this body.
 fn check_answer(
@@ -76,7 +76,17 @@ fn a_client_is_answered(rt: HostRuntime) {
     let report = StatusReport {
         primary,
         secondary,
-        resync: Some(Resync { left: 3, all: 4 }),
+        start: ServerStart {
+            after: StartedAfter::Kill,
+            to_copy: 4,
+        },
+        // One block in two seconds.
+        resync: Some(Resync {
+            left: 3,
+            all: 4,
+            copied: 1,
+            elapsed_ms: 2000,
+        }),
         is_peer_failed: false,
     };
     let cases: [(&str, &str, &str); 4] = [
@@ -105,6 +115,10 @@ fn a_client_is_told_that_the_peer_is_left_out(rt: HostRuntime) {
     let report = StatusReport {
         primary,
         secondary,
+        start: ServerStart {
+            after: StartedAfter::NoMetadata,
+            to_copy: 0,
+        },
         resync: None,
         is_peer_failed: true,
     };

@@ -1,22 +1,21 @@
 //! A report as JSON.
-use crate::{Resync, StatusReport};
+use crate::{Resync, ServerStart, StatusReport};
 use serde_json::{Value, json};
 use status_lines::{PrimaryLine, SecondaryLine, protocol_name};
 use std::alloc::{AllocError, Global};
 
-/// KiB in a block.
-const BLOCK_KIB: u64 = 4;
-
 impl StatusReport {
     /// Returns the report as a JSON text: an object for each node, with a member for each word and number of its status
-    /// line; `resync`, which is null if no resync goes on; and `peer_sync_failed`.
+    /// line; `start`; `resync`, which is null if no resync goes on; and `peer_sync_failed`.
     pub fn json(&self, alloc: Global) -> Result<String, AllocError> {
         let primary = primary_value(alloc, &self.primary)?;
         let secondary = secondary_value(alloc, &self.secondary)?;
+        let start = start_value(alloc, self.start)?;
         let resync = progress(alloc, self.resync)?;
         let report = json!(in alloc; {
             "primary": primary,
             "secondary": secondary,
+            "start": start,
             "resync": resync,
             "peer_sync_failed": self.is_peer_failed
         })?;
@@ -57,14 +56,29 @@ fn secondary_value(alloc: Global, line: &SecondaryLine) -> Result<Value, AllocEr
     })
 }
 
-// Returns the progress of a resync.
+// Returns how the server began.
+fn start_value(alloc: Global, start: ServerStart) -> Result<Value, AllocError> {
+    let after = start.after.name();
+    let kib = start.kib();
+    json!(in alloc; {"after": after, "to_copy_kib": kib})
+}
+
+// Returns the progress of a resync. What is not known yet is null.
 fn progress(alloc: Global, resync: Option<Resync>) -> Result<Value, AllocError> {
-    match resync {
+    let Some(resync) = resync else {
+        return Ok(Value::Null);
+    };
+    let percent = resync.percent();
+    let left = resync.left_kib();
+    let rate = number(alloc, resync.kib_per_second())?;
+    let seconds = number(alloc, resync.seconds_left())?;
+    json!(in alloc; {"percent": percent, "left_kib": left, "kib_per_second": rate, "seconds_left": seconds})
+}
+
+// Returns a number, or null for none.
+fn number(alloc: Global, number: Option<u64>) -> Result<Value, AllocError> {
+    match number {
+        Some(number) => json!(in alloc; number),
         None => Ok(Value::Null),
-        Some(resync) => {
-            let percent = resync.percent();
-            let left = BLOCK_KIB * u64::from(resync.left);
-            json!(in alloc; {"percent": percent, "left_kib": left})
-        }
     }
 }

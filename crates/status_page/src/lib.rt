@@ -4,6 +4,8 @@
 mod json;
 mod page;
 mod report;
+mod start;
 
 pub use page::answer_one;
 pub use report::{Resync, StatusReport};
+pub use start::{ServerStart, StartedAfter};

@@ -1,6 +1,13 @@
 //! The report of a server on its nodes.
+ghost use Rattle.std.specs.Prelude.{◌≡◌, ◌-◌, ◌*◌, ◌/◌, None, Some};
+
+use crate::ServerStart;
 use status_lines::{PrimaryLine, SecondaryLine};
 use std::alloc::{AllocError, Global};
+use std::fmt;
+
+/// KiB in a block.
+pub(crate) const BLOCK_KIB: u64 = 4;
 
 /// The line of a peer's disk that is left out.
 const PEER_FAILED: &str =
@@ -13,6 +20,10 @@ pub struct Resync {
     pub left: u32,
     /// The most blocks that were marked since none was.
     pub all: u32,
+    /// Blocks that were copied since the link came up.
+    pub copied: u32,
+    /// Milliseconds since then.
+    pub elapsed_ms: u64,
 }
 
 impl Resync {
@@ -21,22 +32,72 @@ impl Resync {
         let done = u64::from(self.all.saturating_sub(self.left));
         (100 * done).checked_div(u64::from(self.all)).unwrap_or(100)
     }
+
+    /// Returns how many KiB are left.
+    pub fn left_kib(self) -> u64
+        ensures { result ≡ 4 * self.left }
+    {
+        BLOCK_KIB * u64::from(self.left)
+    }
+
+    /// Returns how many KiB were copied in a second since the link came up, rounded down, or `None` in the first millisecond.
+    pub fn kib_per_second(self) -> Option<u64>
+        ensures { self.elapsed_ms ≡ 0 → result ≡ None }
+    {
+        (1000 * BLOCK_KIB * u64::from(self.copied)).checked_div(self.elapsed_ms)
+    }
+
+    /// Returns in how many seconds it is done at that rate, rounded up, or `None` if nothing was copied yet.
+    pub fn seconds_left(self) -> Option<u64>
+        ensures { self.copied ≡ 0 → result ≡ None }
+    {
+        if self.copied == 0 {
+            return None;
+        }
+        let milliseconds = self.elapsed_ms.saturating_mul(u64::from(self.left))
+            / u64::from(self.copied);
+        Some(milliseconds.div_ceil(1000))
+    }
 }
 
-/// The state of a server's nodes: what the status line of each shows, the progress of a resync, if one goes on, and whether the
-/// peer's disk is left out, since a sync of it has failed.
+impl fmt::Display for Resync {
+    fn fmt<W: fmt::Write>(&self, f: &mut fmt::Formatter<W>) -> fmt::Result {
+        write!(
+            f,
+            "resync: {}% done, {} KiB left",
+            self.percent(),
+            self.left_kib()
+        )?;
+        if let (Some(rate), Some(seconds)) = (self.kib_per_second(), self.seconds_left()) {
+            write!(f, ", {rate} KiB/s, {seconds} s to go")?;
+        }
+        Ok(())
+    }
+}
+
+/// The state of a server's nodes: what the status line of each shows, how the server began, the progress of a resync, if one goes on,
+/// and whether the peer's disk is left out, since a sync of it has failed.
 #[derive(Clone, Copy, Debug, PartialEq, Eq)]
 pub struct StatusReport {
     pub primary: PrimaryLine,
     pub secondary: SecondaryLine,
+    pub start: ServerStart,
     pub resync: Option<Resync>,
     pub is_peer_failed: bool,
 }
 
 impl StatusReport {
-    /// Returns both lines, the primary's first, each ended by a newline, and a third one if the peer's disk is left out.
+    /// Returns both lines, the primary's first, then a line of how the server began, one of a resync that goes on, and one if the peer's
+    /// disk is left out. Each is ended by a newline.
     pub fn text(&self, alloc: Global) -> Result<String, AllocError> {
+        let resync = match self.resync {
+            Some(resync) => format!(in alloc; "{resync}\n")?,
+            None => String::new(alloc),
+        };
         let further = if self.is_peer_failed { PEER_FAILED } else { "" };
-        format!(in alloc; "{}\n{}\n{further}", self.primary, self.secondary)
+        format!(in alloc;
+            "{}\n{}\n{}\n{resync}{further}",
+            self.primary, self.secondary, self.start
+        )
     }
 }

@@ -1,0 +1,2 @@
+-- Why what is marked is copied.
+pub mod Turning

@@ -1,6 +1,0 @@
-use Rattle.std.proofs.Common.{length, ◌∙◌, ap}
-use Rattle.bitmap.proofs.Lists.{length-marking}
-use Rattle.serving.proofs.compare.mark_block.Goals as goal
-
-pub returns-then-block-len : goal.returns-then-block-len
-returns-then-block-len c = record { size = ap length c.mark.ensures ∙ length-marking 0 _ c.args.marks.now }

@@ -1,0 +1,72 @@
+//! What a first session starts from over images that get metadata.
+ghost use Rattle.std.specs.Prelude.{ℕ, ◌≡◌, ◌⊎◌, ◌<◌, ◌&&◌, true, false, nat_lt, not, length, slice_get, IfErr, IfOk};
+ghost use Rattle.bitmap.specs.Marks.{marked};
+ghost use Rattle.blocks.specs.declared.refusal.Refusal.TheVariants.{BadSetting, NoMemory, ReadFault};
+ghost use Rattle.handover.specs.Next.{unknown};
+ghost use Rattle.model.specs.Headline.{Cover};
+ghost use Rattle.model.specs.Pair.{same_block};
+ghost use Rattle.options.specs.declared.serve.FirstStart.TheVariants.{Compare, Copy};
+ghost use Rattle.serving.specs.Disks.{AreFaithful, WereRead};
+
+use crate::compare::mark_differing;
+use crate::disks::Disks;
+use bitmap::Bitmap;
+use blocks::{MAX_DEVICE_BLOCKS, Refusal, Store, Tuple};
+use options::FirstStart;
+use std::alloc::Global;
+use std::io::Write;
+
+/// Returns the marks of a first session over two disks of this many blocks: each block on which they differ, if a comparison is asked
+/// for, and else none. `BadSetting` (15) if a disk has another size, or no device is so large, `NoMemory` (7) if there is none for the
+/// marks, `ReadFault` (14) if a disk fails a read.
+pub(crate) fn first_marks<D: Store, E: Write>(
+    alloc: Global,
+    blocks: u32,
+    how: FirstStart,
+    disks: &mut Disks<D>,
+    err: &mut E,
+) -> Result<Bitmap, Refusal>
+    ensures size { IfOk result (λ marks. length marks ≡ blocks) }
+    ensures compared { IfOk result (λ marks. how ≡ Compare → AreFaithful disks.new → (block : ℕ) → block < blocks
+        → marked marks block ≡ not (same_block (slice_get disks.old.local block) (slice_get disks.old.peer block))) }
+    ensures cover { IfOk result (λ marks. how ≡ Compare → AreFaithful disks.new
+        → Cover (λ block. nat_lt block blocks && marked marks block) (slice_get disks.new.local) (slice_get disks.new.peer)) }
+    ensures unmarked { IfOk result (λ marks. (how ≡ Compare → ⊥) → (block : ℕ) → marked marks block ≡ false) }
+    ensures read { WereRead disks.old disks.new }
+    ensures refused { IfErr result (λ e. (e ≡ BadSetting) ⊎ ((e ≡ NoMemory) ⊎ (e ≡ ReadFault))) }
+{
+    if blocks > MAX_DEVICE_BLOCKS
+        || disks.local.blocks() != blocks
+        || disks.peer.blocks() != blocks
+    {
+        return Err(Refusal::BadSetting);
+    }
+    let mut marks = Bitmap::unmarked(alloc, u64::from(blocks))?;
+    if how == FirstStart::Compare {
+        mark_differing(disks, &mut marks, blocks, err)?;
+    }
+    Ok(marks)
+}
+
+/// Returns the identifiers of both disks in a first session: alike, but for a primary whose disk has blocks that the peer's lacks, and for
+/// a peer over which all is copied. No identifier of data is 0.
+pub(crate) fn first_identifiers(
+    how: FirstStart,
+    has_marks: bool,
+    identifier: u64,
+    word: u64,
+) -> (Tuple, Tuple)
+    ensures own { 0 < result.0.current }
+    ensures bitmap { (how ≡ Compare → ⊥) → result.0.bitmap ≡ 0 }
+    ensures parted { how ≡ Compare → has_marks ≡ true → result.0.bitmap ≡ result.1.current }
+    ensures copied { how ≡ Copy → result.1 ≡ unknown }
+{
+    let before = Tuple::new(identifier.max(1), 0, 0, 0);
+    match how {
+        FirstStart::Compare if has_marks => {
+            (Tuple::new(word.max(1), identifier.max(1), 0, 0), before)
+        }
+        FirstStart::Copy => (before, Tuple::new(0, 0, 0, 0)),
+        _ => (before, before),
+    }
+}
