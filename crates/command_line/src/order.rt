@@ -10,6 +10,9 @@ use std::convert::AsStr;
 const ABOUT: &str =
     "Mirrors two disks after DRBD 8.4: serves them to NBD clients (serve), tests them (run, tcp), or steps them by a script (the default).";
 
+/// The version, as in the file `VERSION` at the top of the repository: `checks/package` compares them.
+const VERSION: &str = "0.1.0";
+
 /// What the program is to do.
 #[derive(Clone, Copy, Debug, PartialEq, Eq)]
 pub enum Order<'a> {
@@ -56,7 +59,7 @@ impl HelpTexts {
 
 /// Reads the program's words; the first one is its name. `progress` says whether a long run shows its progress.
 ///
-/// `UsageFault::Words` if they ask for help or are wrong, `UsageFault::SharedImage` if both disks are to have the same image,
+/// `UsageFault::Words` if they ask for help or the version, or are wrong, `UsageFault::SharedImage` if both disks are to have the same image,
 /// `UsageFault::Address` if a server is to listen at no numeric address with a port.
 pub fn parse<'a, S: AsStr>(
     alloc: Global,
@@ -85,6 +88,7 @@ fn matches_of<'a, S: AsStr>(
         .arg(file)?;
     Command::new(alloc, "drbdpair")
         .bin_name("drbdpair")?
+        .version(VERSION)
         .about(ABOUT)
         .after_help(helps.script.as_str())
         .subcommand_required(true)

@@ -158,6 +158,15 @@ fn help_is_asked_for(rt: HostRuntime) {
     }
 }
 
+/// The version is printed under the program's own name, too; it is no option of a command.
+#[test]
+fn the_version_is_asked_for(rt: HostRuntime) {
+    for flag in ["--version", "-V"] {
+        runs(&rt, &["./program", flag], "drbdpair 0.1.0\n", 0);
+        runs(&rt, &["./program", "serve", flag], "", 2);
+    }
+}
+
 /// A session over sockets completes and settles all writes, under each protocol; `--cuts` is wrong usage for it.
 #[test]
 fn a_session_is_run_over_sockets(rt: HostRuntime) {
