@@ -1,7 +1,7 @@
 //! Faults of a command line.
 use clap::Error;
 use clap::error::ErrorKind;
-use numbers::Status;
+use program_values::Status;
 use std::io::Write;
 
 /// Why a command line was not accepted.

@@ -1,7 +1,7 @@
 //! The words of the commands over images that no server uses.
 use crate::run::option;
 use clap::{Arg, ArgAction, ArgMatches, Command, Error};
-use options::{DumpFormat, ImageOptions, VerifyOptions};
+use program_values::{DumpFormat, ImageOptions, VerifyOptions};
 use std::alloc::Global;
 
 /// Creates the command `create-md`, with this help below its usage.

@@ -3,7 +3,9 @@ use crate::fault::UsageFault;
 use crate::help::{CreateMdHelp, DumpMdHelp, RunHelp, ScriptHelp, ServeHelp, TcpHelp, VerifyHelp};
 use crate::{images, run, serve};
 use clap::{Arg, ArgMatches, Command, Error};
-use options::{DumpFormat, ImageOptions, Images, Path, RunOptions, ServeOptions, VerifyOptions};
+use program_values::{
+    DumpFormat, ImageOptions, Images, Path, RunOptions, ServeOptions, VerifyOptions,
+};
 use std::alloc::{AllocError, Global};
 use std::convert::AsStr;
 

@@ -2,7 +2,7 @@
 use blocks::{MAX_BLOCKS, Protocol, Settings};
 use clap::builder::ValueParser;
 use clap::{Arg, ArgAction, ArgMatches, Command, Error, value_parser};
-use options::{Images, LiveOutput, Path, RunOptions};
+use program_values::{Images, LiveOutput, Path, RunOptions};
 use std::alloc::Global;
 
 const RUN_ABOUT: &str = "Runs a session of writer threads, and prints what it came to";

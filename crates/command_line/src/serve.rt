@@ -3,7 +3,7 @@ use crate::run::{number, option, protocol, protocol_option};
 use blocks::MAX_DEVICE_BLOCKS;
 use clap::builder::ValueParser;
 use clap::{Arg, ArgAction, ArgMatches, Command, Error};
-use options::{FirstStart, MetadataFiles, ServeOptions};
+use program_values::{FirstStart, MetadataFiles, ServeOptions};
 use std::alloc::Global;
 use std::net::SocketAddr;
 

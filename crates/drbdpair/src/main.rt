@@ -7,7 +7,7 @@ mod standard_descriptors;
 #[cfg(test)]
 mod tests;
 
-use numbers::Status;
+use program_values::Status;
 use std::io::{ErrorKind, Write};
 use std::process::ExitCode;
 use std::{env, io};

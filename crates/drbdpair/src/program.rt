@@ -2,7 +2,7 @@
 ghost use Rattle.std.specs.Prelude.{◌≤◌};
 
 use command_line::{HelpTexts, Order, parse};
-use numbers::Status;
+use program_values::Status;
 use script::script_on;
 use serving::{AnyBytes, AnyContents};
 use session_run::Host;

@@ -3,7 +3,7 @@ use crate::command_fault::CommandFault;
 use blocks::{BLOCK_BYTES, MAX_DEVICE_BLOCKS};
 use image_metadata::open_locked;
 use image_store::ImageLock;
-use options::ImageOptions;
+use program_values::ImageOptions;
 use std::fs::{self, File};
 use std::os::unix::fs::FileTypeExt;
 use std::rt::Files;

@@ -6,3 +6,4 @@ pub mod Asked
 pub mod Recorded
 pub mod Again
 pub mod Leaving
+pub mod Shown

@@ -8,6 +8,7 @@ ghost use Rattle.endpoint.specs.Calls as link;
 ghost use Rattle.endpoint.specs.Calls.{IsNewIn, IsNewOut, has_room, is_out_of_memory};
 ghost use Rattle.kept_nodes.specs.Asked.{begins_full_copy, is_full_copy};
 ghost use Rattle.kept_nodes.specs.Kept.{PrimaryIsKept, SaysPrimary, is_broken};
+ghost use Rattle.kept_nodes.specs.Shown.{PrimaryHasShown};
 ghost use Rattle.kept_nodes.specs.Left.{Across, LosesNothing, Outcomes};
 ghost use Rattle.metadata.specs.Says.{extents_of};
 ghost use Rattle.metadata.specs.State.{is_entered};
@@ -17,6 +18,7 @@ ghost use Rattle.model.specs.LocalRuns.{Closes, Opens, Sends, Submits, primary_a
 ghost use Rattle.model.specs.Primary.{PrimaryHistory, local_map, next_local, primary_opening};
 ghost use Rattle.model.specs.Stopped.{stopped_tuple};
 ghost use Rattle.model.specs.Theorems.{primary_at};
+ghost use Rattle.node_lines.specs.Progress.{PrimaryShows};
 ghost use Rattle.primary.specs.Calls.{CopiesOne, WritesOne};
 ghost use Rattle.primary_core.specs.Send.{owes_blocks};
 ghost use Rattle.primary_protocol.specs.Node.{take_receipt};
@@ -32,6 +34,7 @@ use blocks::{
 use bytes::Bytes;
 use link::{FrameIn, FrameOut};
 use metadata::{Metadata, StableFile};
+use node_lines::PrimaryProgress;
 use primary::{Primary, Receipt};
 use session_nodes::{Beginning, SessionPrimary};
 use std::alloc::Global;
@@ -244,8 +247,8 @@ impl<
 
     /// Opens the end again and returns the connection's number. The refusals are those of `Primary::reopen`: 6, 7, 33 and 36. If the
     /// metadata is broken, the end stays closed: `NotDrained` (36).
-    pub fn reopen(&mut self, sync: u64, loss: u64) -> Result<u32, Refusal>
-        ensures step { is_broken self.old.metadata ≡ false → PrimarySteps (Opens sync loss (is_out_of_memory result)) self.old.node (replied (λ number. plainly tt) result) self.new.node }
+    pub fn reopen(&mut self, words: ConnectionWords) -> Result<u32, Refusal>
+        ensures step { is_broken self.old.metadata ≡ false → PrimarySteps (Opens words.sync words.loss (is_out_of_memory result)) self.old.node (replied (λ number. plainly tt) result) self.new.node }
         ensures number { IfOk result (λ number. number ≡ self.new.node.core.connections) }
         ensures broken { is_broken self.old.metadata ≡ true → (result ≡ Err NotDrained) × (self.new ≡ self.old) }
         ensures refused { IfErr result (λ e. reopen_refuses e ≡ true) }
@@ -253,7 +256,7 @@ impl<
         if self.is_broken() {
             return Err(Refusal::NotDrained);
         }
-        let opened = self.node.reopen(sync, loss);
+        let opened = self.node.reopen(words);
         save_identifiers(&self.node, &mut self.metadata);
         opened
     }
@@ -263,6 +266,15 @@ impl<
         ensures { result ≡ is_broken self.now.metadata }
     {
         is_broken(&self.metadata)
+    }
+
+    /// Returns how far the primary has come.
+    pub fn progress(&self) -> PrimaryProgress
+        ensures shows { (h : PrimaryHistory) → PrimaryHas self.now.node h → PrimaryShows result h }
+        ensures metadata { result.is_metadata_broken ≡ is_broken self.now.metadata }
+        ensures told { PrimaryHasShown B.opening result }
+    {
+        PrimaryProgress::of(self.node.node(), self.is_broken())
     }
 
     /// Returns the locked node for reading.

@@ -1,16 +1,16 @@
 //! The secondary with its metadata.
-ghost use Rattle.std.specs.Prelude.{◌≡◌, ◌≢◌, ◌⊎◌, ◌-◌, ◌+◌, ◌<◌, ◌≤◌, ◌&&◌, true, false, None, Err, slice_get, is_some, IfErr, IfOk, IfSome, OnErr, OnOk};
+ghost use Rattle.std.specs.Prelude.{◌≡◌, ◌≢◌, ◌⊎◌, ◌-◌, ◌+◌, ◌<◌, ◌≤◌, ◌&&◌, true, false, None, Err, slice_get, is_some, IfErr, IfOk, IfSome, OnErr};
 ghost use Rattle.blocks.specs.declared.outcome.Reply.{Reply};
 ghost use Rattle.blocks.specs.declared.refusal.Refusal.TheVariants.{BadSetting, LocalFault, NoMemory, NotConnected, NotDrained, NothingThere};
 ghost use Rattle.endpoint.specs.Calls.{IsNewIn, IsNewOut, Sends, has_room, is_out_of_memory};
 ghost use Rattle.kept_nodes.specs.Kept.{SecondaryIsKept, is_broken};
+ghost use Rattle.kept_nodes.specs.Shown.{SecondaryHasShown};
 ghost use Rattle.model.specs.CallRefusals.{ack_out_refuses, peer_open_refuses, receive_refuses};
 ghost use Rattle.model.specs.LocalRuns.{Acknowledges, ClosesToo, OpensToo, secondary_after};
-ghost use Rattle.model.specs.Secondary.{SecondaryHistory, secondary_connection, secondary_opening, is_drained, next_pending};
+ghost use Rattle.model.specs.Secondary.{SecondaryHistory, secondary_opening, next_pending};
 ghost use Rattle.model.specs.Theorems.{secondary_at};
+ghost use Rattle.node_lines.specs.Progress.{SecondaryShows};
 ghost use Rattle.secondary.specs.Calls.{AppliesOne};
-ghost use Rattle.secondary.specs.State.{node};
-ghost use Rattle.secondary_protocol.specs.Node.{NodeHas};
 ghost use Rattle.secondary_protocol.specs.Steps.{plainly, replied};
 ghost use Rattle.session_nodes.specs.Secondaries.{SecondaryHas, SecondaryIsHad, SecondaryReceives, SecondaryRuns, SecondarySteps};
 
@@ -18,6 +18,7 @@ use crate::keeping::{is_broken, save_turned};
 use blocks::{Done, Refusal, Settings, Store, Tuple};
 use link::{FrameIn, FrameOut};
 use metadata::{Metadata, StableFile};
+use node_lines::SecondaryProgress;
 use secondary::Secondary;
 use session_nodes::{Beginning, SessionSecondary};
 use std::alloc::Global;
@@ -171,19 +172,6 @@ impl<
         save_identifiers(&self.node, &mut self.metadata, self.is_doubted);
     }
 
-    /// Checks that the end may open again: it is closed, nothing is pending, and the metadata is not broken. `NotDrained` (36) if not.
-    pub fn may_reopen(&self) -> Result<(), Refusal>
-        ensures may { (h : SecondaryHistory) → NodeHas (node self.now.node) h → OnOk result (((secondary_connection h).closed ≡ true) × (is_drained h ≡ true)) }
-        ensures whole { OnOk result (is_broken self.now.metadata ≡ false) }
-        ensures refused { is_broken self.now.metadata ≡ false → (h : SecondaryHistory) → NodeHas (node self.now.node) h → IfErr result (λ e. (e ≡ NotDrained) × (((secondary_connection h).closed && is_drained h) ≡ false)) }
-        ensures only { IfErr result (λ e. e ≡ NotDrained) }
-    {
-        if self.is_broken() {
-            return Err(Refusal::NotDrained);
-        }
-        self.node.may_reopen()
-    }
-
     /// Opens the end again under the connection's number.
     ///
     /// `NotDrained` (36) if the end is open, if items are pending, if the node had a connection of this number or a higher one, and if
@@ -215,6 +203,15 @@ impl<
             Some(metadata) => metadata.is_broken(),
             None => false,
         }
+    }
+
+    /// Returns how far the secondary has come. If its disk is doubted, the line says that its data may not be used.
+    pub fn progress(&self) -> SecondaryProgress
+        ensures shows { (h : SecondaryHistory) → SecondaryHas self.now.node h → SecondaryShows self.now.is_doubted result h }
+        ensures metadata { result.is_metadata_broken ≡ is_broken self.now.metadata }
+        ensures told { SecondaryHasShown B.opening result }
+    {
+        SecondaryProgress::of(self.node.node(), self.is_doubted, self.is_broken())
     }
 
     /// Returns the locked node for reading.

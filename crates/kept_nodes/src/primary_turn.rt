@@ -9,8 +9,8 @@ use crate::KeptPrimary;
 use blocks::{Refusal, Store};
 use link::{FrameIn, FrameOut};
 use metadata::StableFile;
+use session_api::{PrimaryRole, STEPS, Turn};
 use session_nodes::Beginning;
-use turns::{PrimaryRole, STEPS, Turn};
 
 impl<
     B: Beginning,
@@ -34,7 +34,7 @@ impl<
             turn.worked = true;
         }
         if was_open && !self.node.node().is_open() {
-            turn.closed = Some(self.node.node().connections());
+            turn.closed = Some(self.node.node().connection_number());
             turn.wakes_writers = true;
         }
         turn

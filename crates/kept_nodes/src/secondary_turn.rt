@@ -9,8 +9,8 @@ use crate::KeptSecondary;
 use blocks::{Refusal, Store};
 use link::{FrameIn, FrameOut};
 use metadata::StableFile;
+use session_api::{STEPS, SecondaryRole, Turn};
 use session_nodes::Beginning;
-use turns::{STEPS, SecondaryRole, Turn};
 
 impl<
     B: Beginning,
@@ -34,7 +34,7 @@ impl<
             turn.worked = true;
         }
         if was_open && !self.node.node().is_open() {
-            turn.closed = Some(self.node.node().number());
+            turn.closed = Some(self.node.node().connection_number());
         }
         turn
     }

@@ -3,27 +3,22 @@ ghost use Rattle.std.specs.Prelude.{◌≡◌, ◌⊎◌, Bool, true, false, is_
 ghost use Rattle.blocks.specs.declared.refusal.Refusal.TheVariants.{LocalFault};
 ghost use Rattle.endpoint.specs.Calls.{IsNewIn, IsNewOut};
 ghost use Rattle.kept_nodes.specs.Kept.{PrimaryIsKept};
-ghost use Rattle.locked_halves.specs.Shown.{HasReleased, PrimaryHasShown};
 ghost use Rattle.model.specs.CallRefusals.{local_open_refuses};
 ghost use Rattle.model.specs.Primary.{primary_opening};
 ghost use Rattle.model.specs.Theorems.{primary_at};
 ghost use Rattle.session_nodes.specs.Primaries.{PrimaryIsHad};
 
-use bell::Bell;
 use bitmap::Bitmap;
 use blocks::{ConnectionWords, Done, Refusal, Settings, Store, Tuple};
 use bytes::Bytes;
-use halves::PrimaryHalf;
 use kept_nodes::KeptPrimary;
 use link::{FrameIn, FrameOut};
 use metadata::{Metadata, StableFile};
-use node_lines::primary_line;
 use primary::{Primary, Receipt};
-use session_nodes::{Beginning, SessionPrimary};
-use status_lines::PrimaryLine;
+use session_api::{Bell, PrimaryHalf, PrimaryProgress, PrimaryRole, Turn};
+use session_nodes::Beginning;
 use std::alloc::Global;
 use std::sync::{Mutex, Wait};
-use turns::{PrimaryRole, SentItems, Turn};
 
 /// The primary under its lock, with the metadata of its disk.
 #[derive(Drop)]
@@ -99,7 +94,7 @@ impl<
     S: Store + Drop,
     F: StableFile,
 > PrimaryHalf for LockedPrimary<R, B, O, I, S, F> {
-    ghost use Rattle.locked_halves.specs.Shown.{HasReleased, PrimaryHasShown};
+    ghost use Rattle.kept_nodes.specs.Shown.{PrimaryHasShown};
     ghost use Rattle.std.specs.Prelude.{IsTrue};
     ghost use Rattle.session_nodes.specs.Primaries.{HasAccepted, HasHeld};
 
@@ -107,8 +102,6 @@ impl<
 
     // It says nothing of a disk whose reads are not known to be faithful.
     ghost holds = { λ first count bytes. ((store : S) → IsTrue (S.faithful store)) → HasHeld B.opening first count bytes };
-
-    ghost releases = { HasReleased B.opening };
 
     ghost shows = { PrimaryHasShown B.opening };
 
@@ -151,32 +144,12 @@ impl<
         self.writers_bell.ring_all(&self.rt);
     }
 
-    fn reopen(&self, sync: u64, loss: u64) -> Result<u32, Refusal> {
-        self.node.lock(&self.rt).reopen(sync, loss)
+    fn reopen(&self, words: ConnectionWords) -> Result<u32, Refusal> {
+        self.node.lock(&self.rt).reopen(words)
     }
 
-    fn has_unfinished(&self) -> bool {
-        self.node.lock(&self.rt).node().has_unfinished()
-    }
-
-    fn sent_if_quiet(&self) -> Option<SentItems> {
-        self.node.lock(&self.rt).node().sent_if_quiet()
-    }
-
-    fn accepted(&self) -> u64 {
-        self.node.lock(&self.rt).node().node().accepted()
-    }
-
-    fn released(&self) -> u64 {
-        released_of(self.node.lock(&self.rt).node())
-    }
-
-    fn marks(&self) -> u32 {
-        self.node.lock(&self.rt).node().node().marks()
-    }
-
-    fn status(&self) -> PrimaryLine {
-        line_of(self.node.lock(&self.rt).node())
+    fn progress(&self) -> PrimaryProgress {
+        self.node.lock(&self.rt).progress()
     }
 
     fn prepare_leaving(&self, most: u64) -> u64 {
@@ -185,10 +158,6 @@ impl<
 
     fn leave_prepared(&self) -> u64 {
         self.node.lock(&self.rt).leave_prepared()
-    }
-
-    fn is_metadata_broken(&self) -> bool {
-        self.node.lock(&self.rt).is_broken()
     }
 
     fn work_bell(&self) -> &Bell {
@@ -202,24 +171,4 @@ impl<
     fn pump_bell(&self) -> &Bell {
         &self.pump_bell
     }
-}
-
-// Returns the number up to which each write of a locked node is released.
-fn released_of<B: Beginning, O: FrameOut + Drop, I: FrameIn + Drop, S: Store + Drop>(
-    primary: &SessionPrimary<B, O, I, S>,
-) -> u64
-    ensures { HasReleased B.opening result }
-{
-    // Proof hint: brings the node's history into scope.
-    let _ = primary.node();
-    primary.released()
-}
-
-// Returns what the line of a locked node shows.
-fn line_of<B: Beginning, O: FrameOut + Drop, I: FrameIn + Drop, S: Store + Drop>(
-    primary: &SessionPrimary<B, O, I, S>,
-) -> PrimaryLine
-    ensures { PrimaryHasShown B.opening result }
-{
-    primary_line(primary.node())
 }

@@ -3,25 +3,20 @@ ghost use Rattle.std.specs.Prelude.{◌≡◌, ◌⊎◌, true, is_some, slice_g
 ghost use Rattle.blocks.specs.declared.refusal.Refusal.TheVariants.{LocalFault};
 ghost use Rattle.endpoint.specs.Calls.{IsNewIn, IsNewOut};
 ghost use Rattle.kept_nodes.specs.Kept.{SecondaryIsKept};
-ghost use Rattle.locked_halves.specs.Shown.{SecondaryHasShown};
 ghost use Rattle.model.specs.CallRefusals.{peer_open_refuses};
 ghost use Rattle.model.specs.Secondary.{secondary_opening};
 ghost use Rattle.model.specs.Theorems.{secondary_at};
 ghost use Rattle.session_nodes.specs.Secondaries.{SecondaryIsHad};
 
-use bell::Bell;
 use blocks::{Done, Refusal, Settings, Store, Tuple};
-use halves::SecondaryHalf;
 use kept_nodes::KeptSecondary;
 use link::{FrameIn, FrameOut};
 use metadata::{Metadata, StableFile};
-use node_lines::secondary_line;
 use secondary::Secondary;
-use session_nodes::{Beginning, SessionSecondary};
-use status_lines::SecondaryLine;
+use session_api::{Bell, SecondaryHalf, SecondaryProgress, SecondaryRole, Turn};
+use session_nodes::Beginning;
 use std::alloc::Global;
 use std::sync::{Mutex, Wait};
-use turns::{SecondaryRole, SentItems, Turn};
 
 /// The secondary under its lock, with the metadata of its disk.
 #[derive(Drop)]
@@ -94,7 +89,7 @@ impl<
     S: Store + Drop,
     F: StableFile,
 > SecondaryHalf for LockedSecondary<R, B, O, I, S, F> {
-    ghost use Rattle.locked_halves.specs.Shown.{SecondaryHasShown};
+    ghost use Rattle.kept_nodes.specs.Shown.{SecondaryHasShown};
 
     ghost shows = { SecondaryHasShown B.opening };
 
@@ -118,32 +113,12 @@ impl<
         self.node.lock(&self.rt).close_lost(connection);
     }
 
-    fn may_reopen(&self) -> Result<(), Refusal> {
-        self.node.lock(&self.rt).may_reopen()
-    }
-
     fn reopen(&self, number: u32) -> Result<(), Refusal> {
         self.node.lock(&self.rt).reopen(number)
     }
 
-    fn has_taken(&self, sent: SentItems) -> bool {
-        self.node.lock(&self.rt).node().has_taken(sent)
-    }
-
-    fn has_unfinished(&self) -> bool {
-        self.node.lock(&self.rt).node().has_unfinished()
-    }
-
-    fn applied(&self) -> u32 {
-        self.node.lock(&self.rt).node().node().items_applied()
-    }
-
-    fn status(&self) -> SecondaryLine {
-        line_of(self.node.lock(&self.rt).node())
-    }
-
-    fn is_metadata_broken(&self) -> bool {
-        self.node.lock(&self.rt).is_broken()
+    fn progress(&self) -> SecondaryProgress {
+        self.node.lock(&self.rt).progress()
     }
 
     fn work_bell(&self) -> &Bell {
@@ -153,13 +128,4 @@ impl<
     fn pump_bell(&self) -> &Bell {
         &self.pump_bell
     }
-}
-
-// Returns what the line of a locked node shows.
-fn line_of<B: Beginning, O: FrameOut + Drop, I: FrameIn + Drop, S: Store + Drop>(
-    secondary: &SessionSecondary<B, O, I, S>,
-) -> SecondaryLine
-    ensures { SecondaryHasShown B.opening result }
-{
-    secondary_line(secondary.node())
 }

@@ -47,7 +47,7 @@ where
         → IfErr result (λ e. (e ≡ NoMemory) ⊎ (first_refusal (connect_tests words.sync words.loss h g) ≡ Some e)) }
 {
     peer.may_open()?;
-    if peer.number() == u32::MAX {
+    if peer.connection_number() == u32::MAX {
         return Err(Refusal::StreamFull);
     }
     local.may_open(words.sync, words.loss)?;

@@ -60,7 +60,7 @@ impl<O: FrameOut + Drop, I: FrameIn + Drop, S: Store + Drop> Primary<O, I, S> {
         ensures unchanged { OnErr result (self.new ≡ self.old) }
     {
         self.core.open(sync, loss)?;
-        let number = self.core.connection();
+        let number = self.core.connection_number();
         let Some(outgoing) = &mut self.outgoing else {
             return Err(Refusal::NotConnected);
         };

@@ -47,10 +47,10 @@ impl<O: FrameOut + Drop, I: FrameIn + Drop, S: Store + Drop> Primary<O, I, S> {
     }
 
     /// Returns how many connections were opened.
-    pub fn connections(&self) -> u32
+    pub fn connection_number(&self) -> u32
         ensures { (h : PrimaryHistory) → NodeHas (node self.now) h → result ≡ length h.connections }
     {
-        self.core.connection()
+        self.core.connection_number()
     }
 
     /// Returns whether the end is open.

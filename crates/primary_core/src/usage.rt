@@ -51,7 +51,7 @@ impl PrimaryCore {
     }
 
     /// Returns how many connections were opened, which is the number of the last one.
-    pub fn connection(&self) -> u32
+    pub fn connection_number(&self) -> u32
         ensures { result ≡ self.now.state.connections }
     {
         self.connections

@@ -5,7 +5,7 @@ ghost use Rattle.thread_link.specs.Moments.{WasFull};
 ghost use Rattle.pumps.specs.Carried.{IsCarriedIn, PushesBytes};
 
 use crate::{Buffer, PumpEnd};
-use bell::Bell;
+use session_api::Bell;
 use std::io::{ErrorKind, Read};
 use std::sync::Wait;
 use std::sync::atomic::{AtomicBool, Ordering};

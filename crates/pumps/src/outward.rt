@@ -5,7 +5,7 @@ ghost use Rattle.thread_link.specs.Moments.{WasEmpty};
 ghost use Rattle.pumps.specs.Carried.{IsCarriedOut, PopsBytes};
 
 use crate::{Buffer, PumpEnd};
-use bell::Bell;
+use session_api::Bell;
 use std::io::{ErrorKind, Write};
 use std::sync::Wait;
 use std::sync::atomic::{AtomicBool, Ordering};

@@ -1,7 +1,7 @@
 //! The commands of a script.
 use crate::keys::Keys;
-use numbers::decimal;
 use pair::Side;
+use program_values::decimal;
 
 /// The most blocks that a command submits: twice those of the largest write, so that a script can ask for too
 /// many.
@@ -114,7 +114,7 @@ impl Command {
         let (count, byte) = words.split_once(' ')?;
         let first = decimal(first)?;
         let count = decimal(count)?;
-        let byte = numbers::byte(byte)?;
+        let byte = program_values::byte(byte)?;
         if count > MOST_BLOCKS {
             return None;
         }

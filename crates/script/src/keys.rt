@@ -1,6 +1,6 @@
 //! The keys of `pair`.
 use blocks::{Protocol, Settings, Tuple};
-use numbers::decimal;
+use program_values::decimal;
 
 /// The generation identifiers of a disk that no key names: its first generation, and none before it.
 const FIRST: Tuple = Tuple {

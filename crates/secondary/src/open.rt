@@ -33,7 +33,7 @@ impl<O: FrameOut + Drop, I: FrameIn + Drop, S: Store + Drop> Secondary<O, I, S> 
         }) }
         ensures unchanged { OnErr result (self.new ≡ self.old) }
     {
-        let number = self.core.connection() + 1;
+        let number = self.core.connection_number() + 1;
         self.core.open(number)?;
         self.outgoing = Some(PacketSender::new(outward));
         self.incoming = Some(PacketReceiver::new(inward));

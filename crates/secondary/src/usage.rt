@@ -52,11 +52,11 @@ impl<O: FrameOut + Drop, I: FrameIn + Drop, S: Store + Drop> Secondary<O, I, S> 
 
     /// Returns the number of the last connection, 0 before the first. `open` begins the next one, and `reopen` one
     /// with a higher number.
-    pub fn number(&self) -> u32
+    pub fn connection_number(&self) -> u32
         ensures number { result ≡ self.now.core.number }
         ensures history { (h : SecondaryHistory) → NodeHas (node self.now) h → result ≡ (secondary_connection h).number }
     {
-        self.core.connection()
+        self.core.connection_number()
     }
 
     /// Returns how many items were taken on the last connection.

@@ -69,7 +69,7 @@ impl SecondaryCore {
     }
 
     /// Returns the number of the last connection, 0 before the first.
-    pub fn connection(&self) -> u32
+    pub fn connection_number(&self) -> u32
         ensures { result ≡ self.now.state.number }
     {
         self.number

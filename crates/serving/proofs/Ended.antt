@@ -8,8 +8,8 @@ use Rattle.std.proofs.lemmas.Option.{slice_get_within}
 use Rattle.bitmap.specs.Marks.{marked}
 use Rattle.blocks.specs.Ranges.{below}
 use Rattle.blocks.specs.declared.refusal.Refusal.{Refusal}
-use Rattle.halves.specs.Opening.{opening_of}
-use Rattle.handover.specs.Left.{IsUnparted}
+use Rattle.session_api.specs.Opening.{opening_of}
+use Rattle.settlement.specs.Left.{IsUnparted}
 use Rattle.blocks.specs.declared.tuple.Tuple.{Tuple}
 use Rattle.laws.proofs.Blocks.SameBlocks.{same-equal}
 use Rattle.laws.proofs.Joining.Openings.{kept-opening-primary, kept-opening-secondary}
@@ -31,9 +31,9 @@ use Rattle.serving.specs.Sessions.{NodesComeTo, IsSession, Rest, opening}
 use Rattle.serving.specs.declared.totals.Totals.{Totals}
 use Rattle.session_nodes.specs.Primaries.{PrimaryHas, PrimaryIsHad}
 use Rattle.session_nodes.specs.Secondaries.{SecondaryHas, SecondaryIsHad}
-use Rattle.settle.proofs.Openings.{were-honest}
-use Rattle.settle.proofs.Settling.{keeps-order}
-use Rattle.settle.specs.Settled.{WasHonest}
+use Rattle.settlement.proofs.Openings.{were-honest}
+use Rattle.settlement.proofs.Settling.{keeps-order}
+use Rattle.settlement.specs.Settled.{WasHonest}
 
 -- Disks without differences.
 

@@ -10,9 +10,9 @@ use Rattle.blocks.specs.Ranges.{is_between}
 use Rattle.blocks.specs.declared.tuple.Tuple.{Tuple}
 use Rattle.model.specs.Headline.{Cover, IsHonest}
 use Rattle.model.specs.Pair.{same_block}
-use Rattle.options.specs.declared.serve.FirstStart.{FirstStart}
-use Rattle.options.specs.declared.serve.FirstStart.TheVariants.{AssumeEqual, Compare, Copy}
-use Rattle.settle.proofs.Openings.{first-honest}
+use Rattle.program_values.specs.declared.serve_options.FirstStart.{FirstStart}
+use Rattle.program_values.specs.declared.serve_options.FirstStart.TheVariants.{AssumeEqual, Compare, Copy}
+use Rattle.settlement.proofs.Openings.{first-honest}
 
 -- no block of a new bitmap is marked
 pub none-marked : (blocks block : ℕ) → marked (replicate blocks false) block ≡ false

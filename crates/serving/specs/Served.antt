@@ -3,10 +3,10 @@ use Rattle.std.specs.Prelude.{ℕ, ◌≡◌, ◌<◌, ◌≤◌, false, ◌||�
 use Rattle.std.specs.Io.KnownBytes.{Appends}
 use Rattle.blocks.specs.SettingsRange.{standard}
 use Rattle.blocks.specs.declared.settings.Settings.{Settings}
-use Rattle.options.specs.declared.serve.FirstStart.{FirstStart}
-use Rattle.options.specs.declared.serve.ServeOptions.{ServeOptions}
-use Rattle.result_lines.specs.Text.{results_text}
-use Rattle.result_lines.specs.declared.results.Results.{Results}
+use Rattle.program_values.specs.declared.serve_options.FirstStart.{FirstStart}
+use Rattle.program_values.specs.declared.serve_options.ServeOptions.{ServeOptions}
+use Rattle.program_values.specs.Text.{results_text}
+use Rattle.program_values.specs.declared.results.Results.{Results}
 use Rattle.serving.specs.Disks.{AreFaithful, DisksState, IsOpened, WereRead, unmarked_between}
 use Rattle.serving.specs.Sessions.{IsServed, Rest}
 use Rattle.serving.specs.declared.end.End.{End}

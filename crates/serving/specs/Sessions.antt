@@ -3,8 +3,8 @@ use Rattle.std.specs.Prelude.{ℕ, ◌≡◌, ◌⊎◌, ◌+◌, ◌<◌, ◌�
 use Rattle.std.specs.List.{list_any}
 use Rattle.bitmap.specs.Marks.{marked}
 use Rattle.blocks.specs.declared.settings.Settings.{Settings}
-use Rattle.handover.specs.Left.{IsUnparted}
-use Rattle.handover.specs.Next.{IsLeft, unknown}
+use Rattle.settlement.specs.Left.{IsUnparted}
+use Rattle.settlement.specs.Next.{IsLeft, unknown}
 use Rattle.model.specs.Headline.{IsJoined}
 use Rattle.model.specs.LocalRuns.{PrimaryEvent, SecondaryEvent, primary_run, secondary_run}
 use Rattle.model.specs.Pair.{same_block}
@@ -13,17 +13,17 @@ use Rattle.model.specs.Secondary.{SecondaryHistory, secondary_map}
 use Rattle.model.specs.Settlement.{Receipt, Settlement}
 use Rattle.model.specs.Theorems.{Opening, IsSoundOpening, Settles, SettlesAnyhow, primary_at, secondary_at}
 use Rattle.model.specs.WriteOrder.{KeepsWriteOrder}
-use Rattle.options.specs.declared.serve.FirstStart.{FirstStart}
-use Rattle.options.specs.declared.serve.FirstStart.TheVariants.{AssumeEqual, Compare, Copy}
+use Rattle.program_values.specs.declared.serve_options.FirstStart.{FirstStart}
+use Rattle.program_values.specs.declared.serve_options.FirstStart.TheVariants.{AssumeEqual, Compare, Copy}
 use Rattle.primary.specs.State.{PrimaryView, node as primary_node}
 use Rattle.primary_protocol.specs.Node.{NodeHas as PrimaryHas}
 use Rattle.secondary.specs.State.{SecondaryView, node as secondary_node}
 use Rattle.secondary_protocol.specs.Node.{NodeHas as SecondaryHas}
 use Rattle.serving.specs.Disks.{AreFaithful, DisksState}
 use Rattle.serving.specs.declared.totals.Totals.{Totals}
-use Rattle.settle.specs.Settled.{WasHonest, WereHonest}
-use Rattle.halves.specs.Opening.{opening_of}
-use Rattle.halves.specs.declared.session_start.SessionStart.{SessionStart}
+use Rattle.settlement.specs.Settled.{WasHonest, WereHonest}
+use Rattle.session_api.specs.Opening.{opening_of}
+use Rattle.session_api.specs.declared.session_start.SessionStart.{SessionStart}
 
 -- what a session leaves for the next one: both disks, what the next one starts from, and the results so far
 pub record Rest : Type 0 where

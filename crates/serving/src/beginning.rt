@@ -3,14 +3,14 @@ use crate::fault::ServeFault;
 use crate::image_files::FoundFiles;
 use bitmap::Bitmap;
 use blocks::{BLOCK_BYTES, Tuple};
-use client_threads::StartedAfter;
 use image_metadata::{
     BootId, Found, FoundFile, Header, ImageFile, LastEnd, Metadata, MetadataFault, OpeningBytes,
     Start, UNKNOWN, boot_id, create_anew, judge, opening_identifiers, serving_identifiers,
 };
 use image_store::PerDisk;
 use kept_nodes::known_marks;
-use options::ServeOptions;
+use program_values::ServeOptions;
+use serve_clients::StartedAfter;
 use std::alloc::Global;
 use std::fs::File;
 use std::io::Write;

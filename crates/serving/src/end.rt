@@ -1,7 +1,7 @@
 //! The end of a server, and the lines that it prints.
 ghost use Rattle.std.specs.Prelude.{◌≡◌, false, None, IfSome, OnOk};
 ghost use Rattle.std.specs.Io.KnownBytes.{Appends};
-ghost use Rattle.result_lines.specs.Text.{results_text};
+ghost use Rattle.program_values.specs.Text.{results_text};
 ghost use Rattle.serving.specs.Served.{results};
 
 use crate::compare::LastComparison;

@@ -2,16 +2,16 @@
 ghost use Rattle.std.specs.Prelude.{◌≡◌};
 ghost use Rattle.blocks.specs.declared.refusal.Refusal.{Refusal};
 ghost use Rattle.blocks.specs.declared.refusal.Refusal.TheVariants as refusal;
-ghost use Rattle.client_threads.specs.declared.threads.StartFault.TheVariants.{NoMemory};
-ghost use Rattle.numbers.specs.Statuses.{status_of};
-ghost use Rattle.numbers.specs.declared.status.SessionStatus.TheVariants as status;
+ghost use Rattle.serve_clients.specs.declared.threads.StartFault.TheVariants.{NoMemory};
+ghost use Rattle.program_values.specs.Statuses.{status_of};
+ghost use Rattle.program_values.specs.declared.status.SessionStatus.TheVariants as status;
 ghost use Rattle.serving.specs.declared.fault.ServeFault.TheVariants.{Refused, Unbound, Unstarted};
 
 use blocks::{BLOCK_BYTES, MAX_DEVICE_BLOCKS, Refusal};
-use client_threads::{ListenFault, StartFault};
 use image_metadata::{MetadataFault, MetadataFileFault};
 use image_store::OpenFault;
-use numbers::SessionStatus;
+use program_values::SessionStatus;
+use serve_clients::{ListenFault, StartFault};
 use std::{fmt, io};
 
 /// Why a server could not start, or failed.

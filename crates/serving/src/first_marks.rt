@@ -2,17 +2,17 @@
 ghost use Rattle.std.specs.Prelude.{ℕ, ◌≡◌, ◌⊎◌, ◌<◌, ◌&&◌, true, false, nat_lt, not, length, slice_get, IfErr, IfOk};
 ghost use Rattle.bitmap.specs.Marks.{marked};
 ghost use Rattle.blocks.specs.declared.refusal.Refusal.TheVariants.{BadSetting, NoMemory, ReadFault};
-ghost use Rattle.handover.specs.Next.{unknown};
+ghost use Rattle.settlement.specs.Next.{unknown};
 ghost use Rattle.model.specs.Headline.{Cover};
 ghost use Rattle.model.specs.Pair.{same_block};
-ghost use Rattle.options.specs.declared.serve.FirstStart.TheVariants.{Compare, Copy};
+ghost use Rattle.program_values.specs.declared.serve_options.FirstStart.TheVariants.{Compare, Copy};
 ghost use Rattle.serving.specs.Disks.{AreFaithful, WereRead};
 
 use crate::compare::mark_differing;
 use crate::disks::Disks;
 use bitmap::Bitmap;
 use blocks::{MAX_DEVICE_BLOCKS, Refusal, Store, Tuple};
-use options::FirstStart;
+use program_values::FirstStart;
 use std::alloc::Global;
 use std::io::Write;
 

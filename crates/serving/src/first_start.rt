@@ -2,7 +2,7 @@
 ghost use Rattle.std.specs.Prelude.{ℕ, ◌≡◌, false, true, replicate, IfOk, IsTrue};
 ghost use Rattle.bitmap.specs.Marks.{marked};
 ghost use Rattle.blocks.specs.SettingsRange.{standard};
-ghost use Rattle.options.specs.declared.serve.FirstStart.TheVariants.{AssumeEqual, Compare, Copy};
+ghost use Rattle.program_values.specs.declared.serve_options.FirstStart.TheVariants.{AssumeEqual, Compare, Copy};
 ghost use Rattle.serving.specs.Disks.{AreFaithful, WereRead};
 ghost use Rattle.serving.specs.Sessions.{IsFirst, IsKeptStart, IsMarkedStart, IsStart};
 
@@ -13,13 +13,13 @@ use crate::first_marks::{first_identifiers, first_marks};
 use crate::session_end::SessionEnd;
 use crate::totals::Totals;
 use bitmap::Bitmap;
-use blocks::{ConnectionWords, MAX_DEVICE_BLOCKS, Refusal, Settings, Store, Tuple};
-use client_threads::Service;
+use blocks::{MAX_DEVICE_BLOCKS, Refusal, Settings, Store, Tuple};
 use image_metadata::{
     Header, MetadataFault, OpeningBytes, UNKNOWN, create_anew, serving_identifiers,
 };
 use kept_nodes::record_marks;
-use options::FirstStart;
+use program_values::FirstStart;
+use serve_clients::Service;
 use std::fs::File;
 use std::io::Write;
 use volume::{PairMetadata, SessionStart};
@@ -248,14 +248,12 @@ fn parts_of(
         ..Settings::STANDARD
     };
     settings.check()?;
-    let ConnectionWords { sync, loss } = service.words();
     Ok(SessionStart {
         settings,
         own,
         peer,
         marks,
-        sync,
-        loss,
+        words: service.words(),
         is_cut: false,
     })
 }

@@ -7,7 +7,7 @@ use image_metadata::{
     Found, FoundFile, OpeningBytes, close_local, close_peer, find, image_state, open_locked,
 };
 use image_store::{ImageLock, PerDisk};
-use options::{MetadataFiles, ServeOptions};
+use program_values::{MetadataFiles, ServeOptions};
 use std::fs::File;
 use std::os::unix::fs::FileTypeExt;
 use std::rt::Files;

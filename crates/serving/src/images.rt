@@ -10,7 +10,7 @@ use crate::fault::ServeFault;
 use blocks::{BLOCK_BYTES, MAX_DEVICE_BLOCKS, Refusal};
 use file_store::{FileStore, OpeningContents};
 use image_store::{ImageLock, OpenFault, PerDisk, SyncHandle, open_image};
-use options::ServeOptions;
+use program_values::ServeOptions;
 use std::fs::File;
 use std::rt::Files;
 

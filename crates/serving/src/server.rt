@@ -2,7 +2,7 @@
 ghost use Rattle.std.specs.Prelude.{◌≡◌, ◌||◌, false, nat_le, is_some, Err, IfOk, OnOk};
 ghost use Rattle.blocks.specs.SettingsRange.{standard};
 ghost use Rattle.blocks.specs.declared.refusal.Refusal.TheVariants.{BadSetting};
-ghost use Rattle.numbers.specs.declared.status.SessionStatus.TheVariants as status;
+ghost use Rattle.program_values.specs.declared.status.SessionStatus.TheVariants as status;
 ghost use Rattle.serving.specs.Served.{AreInRange, CameTo, HasEnded, HasServed};
 ghost use Rattle.serving.specs.declared.fault.ServeFault.TheVariants.{Refused};
 
@@ -18,13 +18,12 @@ use crate::images::{
 use crate::session_end::SessionEnd;
 use crate::sessions::run_sessions;
 use blocks::Refusal;
-use client_threads::{Listeners, Service, StartedAfter, start_threads};
 use file_store::{FileStore, OpeningContents};
 use image_metadata::OpeningBytes;
 use image_store::{ImageLock, PerDisk, SyncHandle};
-use numbers::SessionStatus;
-use options::{MetadataFiles, ServeOptions};
-use requests::Requests;
+use program_values::{MetadataFiles, ServeOptions, SessionStatus};
+use serve_clients::{Listeners, Service, StartedAfter, start_threads};
+use serve_requests::Requests;
 use std::alloc::Global;
 use std::fs::File;
 use std::io::{Read, Write};

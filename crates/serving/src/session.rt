@@ -16,10 +16,10 @@ use crate::disks::Disks;
 use crate::session_end::{SessionEnd, settle_session};
 use crate::totals::Totals;
 use blocks::{Refusal, Settings, Store};
-use client_threads::{Service, work};
 use image_metadata::{ImageFile, OpeningBytes};
 use metadata::StableFile;
 use primary::Receipt;
+use serve_clients::{Service, work};
 use std::alloc::Global;
 use std::marker::Brand;
 use std::sync::Wait;
@@ -30,7 +30,7 @@ use volume::{Finished, KeptSession, Linked, PairMetadata, Runtime, SessionStart}
 type Direction<R> = (RuledOut<R>, RuledIn<R>);
 
 /// Runs a session over these disks, does the requests of clients over it, and returns what it leaves. The refusals are
-/// `BadSetting` (15), `NoMemory` (7), and those of `Session::start`, `client_threads::work`, `Session::finish`, `confirm` and
+/// `BadSetting` (15), `NoMemory` (7), and those of `Session::start`, `serve_clients::work`, `Session::finish`, `confirm` and
 /// `parts_after`. If a sync of the peer's image has failed, nothing is sent to it: the link is cut after the hello.
 pub(crate) fn run_session<
     R: Runtime,

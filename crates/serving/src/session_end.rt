@@ -6,13 +6,12 @@ use crate::beginning::ImagesMetadata;
 use crate::disks::Disks;
 use crate::totals::Totals;
 use blocks::{Refusal, Store};
-use client_threads::Service;
-use handover::parts_after;
 use image_metadata::OpeningBytes;
 use link::{FrameIn, FrameOut};
 use primary::{Primary, Receipt};
 use secondary::Secondary;
-use settle::confirm;
+use serve_clients::Service;
+use settlement::{confirm, parts_after};
 use std::marker::Model;
 use volume::SessionStart;
 

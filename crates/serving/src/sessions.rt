@@ -9,9 +9,9 @@ use crate::first_start::first_start;
 use crate::session::run_session;
 use crate::session_end::SessionEnd;
 use blocks::{Refusal, Store};
-use client_threads::Service;
 use image_metadata::{OpeningBytes, UNKNOWN};
-use options::FirstStart;
+use program_values::FirstStart;
+use serve_clients::Service;
 use std::io::Write;
 use volume::{Runtime, SessionStart};
 

@@ -3,8 +3,8 @@ ghost use Rattle.std.specs.Prelude.{◌≡◌};
 ghost use Rattle.serving.specs.Served.{results};
 ghost use Rattle.serving.specs.Sessions.{counted};
 
-use result_lines::Results;
-use settle::Confirmed;
+use program_values::Results;
+use settlement::Confirmed;
 
 /// The results of a server's sessions.
 #[derive(Clone, Copy, Debug, PartialEq, Eq)]

@@ -23,7 +23,7 @@ pub fn check_numbers<
     ensures above { OnErr result (primary.now.core.connections < secondary.now.core.number) }
     ensures refused { IfErr result (λ refusal. refusal ≡ NotDrained) }
 {
-    if secondary.number() > primary.connections() {
+    if secondary.connection_number() > primary.connection_number() {
         return Err(Refusal::NotDrained);
     }
     Ok(())

@@ -1,5 +1,5 @@
 //! The primary under its lock.
-ghost use Rattle.std.specs.Prelude.{◌≡◌, ◌<◌, ◌≤◌, ◌*◌, ◌⊎◌, true, false, is_some, IsTrue, None, Some, Err, if◌then◌else◌, slice_get, unwrap_or, vec_len, IfOk, IfErr, IfSome, OnOk, OnErr};
+ghost use Rattle.std.specs.Prelude.{◌≡◌, ◌<◌, ◌≤◌, ◌*◌, ◌⊎◌, true, false, IsTrue, None, Some, Err, if◌then◌else◌, slice_get, unwrap_or, vec_len, IfOk, IfErr, IfSome, OnOk};
 ghost use Rattle.blocks.specs.declared.outcome.Reply.{Reply};
 ghost use Rattle.blocks.specs.declared.outcome.Reply.TheVariants as reply;
 ghost use Rattle.blocks.specs.declared.outcome.What.TheVariants as what;
@@ -17,7 +17,6 @@ ghost use Rattle.primary_protocol.specs.Node.{take_receipt};
 ghost use Rattle.primary_protocol.specs.Steps.{plainly, replied};
 ghost use Rattle.primary_protocol.specs.Transitions.{whole_blocks};
 ghost use Rattle.session_nodes.specs.Primaries.{HasAccepted, HasHeld, IsPrimaryStep, PrimaryHas, PrimaryIsHad, PrimaryRuns, PrimarySteps, PrimaryTakes};
-ghost use Rattle.session_nodes.specs.Queries.{is_quiet, released_to, sent_items};
 
 use crate::Beginning;
 use bitmap::Bitmap;
@@ -27,7 +26,6 @@ use link::{FrameIn, FrameOut};
 use primary::{Primary, Receipt};
 use std::alloc::Global;
 use std::marker::{Model, PhantomData};
-use turns::SentItems;
 
 /// The primary of a session, kept under a lock. Invariant: it was opened as its beginning says, and all of its connections
 /// used the link ends that it has (`PrimaryIsHad`).
@@ -196,61 +194,18 @@ impl<B: Beginning, O: FrameOut + Drop, I: FrameIn + Drop, S: Store + Drop> Sessi
         ensures closes { self.old.core.connections ≤ connection → (reply : Reply) × PrimarySteps Closes self.old reply self.new }
         ensures later { connection < self.old.core.connections → self.new ≡ self.old }
     {
-        if self.node.connections() <= connection {
+        if self.node.connection_number() <= connection {
             let _ = self.close();
         }
     }
 
     /// Opens the end again and returns the connection's number. The refusals are those of `Primary::reopen`: 6, 7, 33 and 36.
-    pub fn reopen(&mut self, sync: u64, loss: u64) -> Result<u32, Refusal>
-        ensures step { PrimarySteps (Opens sync loss (is_out_of_memory result)) self.old (replied (λ number. plainly tt) result) self.new }
+    pub fn reopen(&mut self, words: ConnectionWords) -> Result<u32, Refusal>
+        ensures step { PrimarySteps (Opens words.sync words.loss (is_out_of_memory result)) self.old (replied (λ number. plainly tt) result) self.new }
         ensures number { IfOk result (λ number. number ≡ self.new.core.connections) }
         ensures refused { IfErr result (λ e. reopen_refuses e ≡ true) }
     {
-        self.node.reopen(sync, loss)
-    }
-
-    /// Returns what was sent on the last connection, if the primary has nothing more to do for the link: its end is closed, or
-    /// its connection is established, no block is marked, every epoch is acknowledged, and no item waits to be sent.
-    pub fn sent_if_quiet(&self) -> Option<SentItems>
-        ensures { (h : PrimaryHistory) → PrimaryHas self.now h → result ≡ (if is_quiet h then Some (sent_items h) else None) }
-    {
-        if self.is_quiet() {
-            Some(SentItems {
-                connection: self.node.connections(),
-                items: self.node.items_sent(),
-            })
-        } else {
-            None
-        }
-    }
-
-    fn is_quiet(&self) -> bool
-        ensures { (h : PrimaryHistory) → PrimaryHas self.now h → result ≡ is_quiet h }
-    {
-        let node = &self.node;
-        !node.is_open()
-            || (node.is_established()
-                && node.marks() == 0
-                && node.open_epochs() == 0
-                && node.unsent() == 0)
-    }
-
-    /// Returns whether the disk has a write to do.
-    pub fn has_unfinished(&self) -> bool
-        ensures { (h : PrimaryHistory) → PrimaryHas self.now h → result ≡ is_some (next_local h) }
-    {
-        self.node.next_local().is_some()
-    }
-
-    /// Returns the number up to which each write is released.
-    pub fn released(&self) -> u64
-        ensures { (h : PrimaryHistory) → PrimaryHas self.now h → result ≡ released_to h }
-    {
-        match self.node.first_unreleased() {
-            Some(first) => first.saturating_sub(1),
-            None => self.node.accepted(),
-        }
+        self.node.reopen(words.sync, words.loss)
     }
 
     /// Returns the node for reading.

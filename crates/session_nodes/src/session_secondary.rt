@@ -1,17 +1,14 @@
 //! The secondary under its lock.
-ghost use Rattle.std.specs.Prelude.{◌≡◌, ◌≢◌, ◌-◌, ◌+◌, ◌<◌, ◌≤◌, ◌&&◌, not, true, false, None, Err, slice_get, IfErr, IfOk, IfSome, OnErr, OnOk};
+ghost use Rattle.std.specs.Prelude.{◌≡◌, ◌≢◌, ◌-◌, ◌+◌, ◌<◌, ◌≤◌, true, None, Err, slice_get, IfErr, IfOk, IfSome, OnErr};
 ghost use Rattle.blocks.specs.declared.outcome.Reply.{Reply};
 ghost use Rattle.blocks.specs.declared.refusal.Refusal.TheVariants.{NoMemory, NotConnected, NotDrained, NothingThere};
 ghost use Rattle.endpoint.specs.Calls.{IsNewIn, IsNewOut, Sends, has_room, is_out_of_memory};
 ghost use Rattle.model.specs.CallRefusals.{ack_out_refuses, peer_open_refuses, receive_refuses};
 ghost use Rattle.model.specs.LocalRuns.{Acknowledges, ClosesToo, OpensToo, secondary_after};
-ghost use Rattle.model.specs.Secondary.{SecondaryHistory, secondary_connection, secondary_opening, is_drained, next_pending};
+ghost use Rattle.model.specs.Secondary.{SecondaryHistory, secondary_opening, next_pending};
 ghost use Rattle.model.specs.Theorems.{secondary_at};
 ghost use Rattle.secondary.specs.Calls.{AppliesOne};
-ghost use Rattle.secondary.specs.State.{node};
-ghost use Rattle.secondary_protocol.specs.Node.{NodeHas};
 ghost use Rattle.secondary_protocol.specs.Steps.{plainly, replied};
-ghost use Rattle.session_nodes.specs.Queries.{has_taken};
 ghost use Rattle.session_nodes.specs.Secondaries.{SecondaryHas, SecondaryIsHad, SecondaryReceives, SecondaryRuns, SecondarySteps};
 
 use crate::Beginning;
@@ -20,7 +17,6 @@ use link::{FrameIn, FrameOut};
 use secondary::Secondary;
 use std::alloc::Global;
 use std::marker::{Model, PhantomData};
-use turns::SentItems;
 
 /// The secondary of a session, kept under a lock. Invariant: it was opened as its beginning says, and all of its
 /// connections used the link ends that it has (`SecondaryIsHad`).
@@ -133,21 +129,9 @@ impl<B: Beginning, O: FrameOut + Drop, I: FrameIn + Drop, S: Store + Drop> Sessi
         ensures closes { self.old.core.number ≤ connection → (reply : Reply) × SecondarySteps ClosesToo self.old reply self.new }
         ensures later { connection < self.old.core.number → self.new ≡ self.old }
     {
-        if self.node.number() <= connection {
+        if self.node.connection_number() <= connection {
             let _ = self.close();
         }
-    }
-
-    /// Checks that the end may open again: it is closed, and nothing is pending. `NotDrained` (36) if not.
-    pub fn may_reopen(&self) -> Result<(), Refusal>
-        ensures may { (h : SecondaryHistory) → NodeHas (node self.now) h → OnOk result (((secondary_connection h).closed ≡ true) × (is_drained h ≡ true)) }
-        ensures refused { (h : SecondaryHistory) → NodeHas (node self.now) h → IfErr result (λ e. (e ≡ NotDrained) × (((secondary_connection h).closed && is_drained h) ≡ false)) }
-        ensures only { IfErr result (λ e. e ≡ NotDrained) }
-    {
-        if self.node.is_open() || !self.node.is_drained() {
-            return Err(Refusal::NotDrained);
-        }
-        Ok(())
     }
 
     /// Opens the end again under the connection's number.
@@ -160,7 +144,7 @@ impl<B: Beginning, O: FrameOut + Drop, I: FrameIn + Drop, S: Store + Drop> Sessi
         ensures unchanged { OnErr result (self.new ≡ self.old) }
         ensures refused { IfErr result (λ e. e ≡ NotDrained) }
     {
-        if number <= self.node.number() {
+        if number <= self.node.connection_number() {
             return Err(Refusal::NotDrained);
         }
         self.open_again(number)
@@ -174,22 +158,6 @@ impl<B: Beginning, O: FrameOut + Drop, I: FrameIn + Drop, S: Store + Drop> Sessi
         ensures refused { IfErr result (λ e. e ≡ NotDrained) }
     {
         self.node.reopen(number)
-    }
-
-    /// Returns whether nothing of what was sent is on its way: the end has taken as many items on the same connection, or it is
-    /// closed.
-    pub fn has_taken(&self, sent: SentItems) -> bool
-        ensures { (h : SecondaryHistory) → SecondaryHas self.now h → result ≡ has_taken sent h }
-    {
-        let node = &self.node;
-        !node.is_open() || (node.number() == sent.connection && node.items_taken() >= sent.items)
-    }
-
-    /// Returns whether the disk has an item to do.
-    pub fn has_unfinished(&self) -> bool
-        ensures { (h : SecondaryHistory) → SecondaryHas self.now h → result ≡ not (is_drained h) }
-    {
-        !self.node.is_drained()
     }
 
     /// Returns the node for reading.

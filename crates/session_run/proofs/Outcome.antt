@@ -13,18 +13,18 @@ use Rattle.model.specs.Refusals.{first_refusal}
 use Rattle.model.specs.Secondary.{SecondaryHistory}
 use Rattle.model.specs.Settlement.{Receipt, Settlement, settle, settle_tests, settlement}
 use Rattle.model.specs.Theorems.{Opening, Settles, primary_at, secondary_at}
-use Rattle.options.specs.declared.run.Path.TheVariants.{Link, Sockets}
-use Rattle.options.specs.declared.run.RunOptions.{RunOptions}
+use Rattle.program_values.specs.declared.run_options.Path.TheVariants.{Link, Sockets}
+use Rattle.program_values.specs.declared.run_options.RunOptions.{RunOptions}
 use Rattle.primary.specs.State.{PrimaryView}
-use Rattle.run_threads.specs.Plan.{AreOfPlan}
+use Rattle.session_run.specs.Plan.{AreOfPlan}
 use Rattle.secondary.specs.State.{SecondaryView}
 use Rattle.session_nodes.specs.Primaries.{HasAccepted, PrimaryHas, PrimaryIsHad}
 use Rattle.session_nodes.specs.Secondaries.{SecondaryHas, SecondaryIsHad}
 use Rattle.session_run.specs.Outcome.{AreAtRest, HasSettled, IsLinked, IsNumber, IsOpening, IsOutcome, IsRun}
 use Rattle.session_run.specs.declared.report.RunReport.{RunReport}
-use Rattle.settle.proofs.Openings.{were-honest}
-use Rattle.settle.proofs.Settling.{keeps-order}
-use Rattle.settle.specs.Settled.{WasHonest}
+use Rattle.settlement.proofs.Openings.{were-honest}
+use Rattle.settlement.proofs.Settling.{keeps-order}
+use Rattle.settlement.specs.Settled.{WasHonest}
 
 -- where nodes settle, it is to these numbers
 pub settled-numbers : (p : PrimaryHistory) (s : SecondaryHistory) (receipts : List Receipt) (faulty : Bool) (numbers : Settlement)

@@ -1,2 +1,3 @@
--- What a run's session comes to.
+-- What a run's threads bring about, and what its session comes to.
 pub mod Outcome
+pub mod Plan

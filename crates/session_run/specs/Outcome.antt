@@ -13,17 +13,17 @@ use Rattle.model.specs.Secondary.{SecondaryHistory, secondary_map}
 use Rattle.model.specs.Settlement.{Receipt, Settlement, is_at_rest, settlement}
 use Rattle.model.specs.Theorems.{Opening, Settles, primary_at, secondary_at}
 use Rattle.model.specs.WriteOrder.{KeepsWriteOrder}
-use Rattle.options.specs.declared.run.Path.TheVariants as path
-use Rattle.options.specs.declared.run.RunOptions.{RunOptions}
+use Rattle.program_values.specs.declared.run_options.Path.TheVariants as path
+use Rattle.program_values.specs.declared.run_options.RunOptions.{RunOptions}
 use Rattle.primary.specs.State.{PrimaryView, node as primary_node}
 use Rattle.primary_protocol.specs.Node.{NodeHas as PrimaryHas}
-use Rattle.result_lines.specs.Text.{results_text}
-use Rattle.run_threads.specs.Plan.{AreOfPlan}
+use Rattle.program_values.specs.Text.{results_text}
+use Rattle.session_run.specs.Plan.{AreOfPlan}
 use Rattle.secondary.specs.State.{SecondaryView, node as secondary_node}
 use Rattle.secondary_protocol.specs.Node.{NodeHas as SecondaryHas}
 use Rattle.session_nodes.specs.Primaries.{HasAccepted}
 use Rattle.session_run.specs.declared.report.RunReport.{RunReport}
-use Rattle.settle.specs.Settled.{AreEntries, WereHonest}
+use Rattle.settlement.specs.Settled.{AreEntries, WereHonest}
 
 -- This number is that of the settlement with these receipts, for all histories that the two nodes have.
 abbrev pub IsNumber : (Settlement → ℕ) → PrimaryView → SecondaryView → List Receipt → ℕ → Type 0

@@ -2,13 +2,13 @@
 ghost use Rattle.std.specs.Prelude.{◌≡◌};
 ghost use Rattle.blocks.specs.declared.refusal.Refusal.{Refusal};
 ghost use Rattle.blocks.specs.declared.refusal.Refusal.TheVariants.{NoMemory};
-ghost use Rattle.numbers.specs.Statuses.{status_of};
-ghost use Rattle.numbers.specs.declared.status.SessionStatus.TheVariants as status;
+ghost use Rattle.program_values.specs.Statuses.{status_of};
+ghost use Rattle.program_values.specs.declared.status.SessionStatus.TheVariants as status;
 ghost use Rattle.session_run.specs.declared.fault.RunFault.TheVariants.{Refused};
 
 use blocks::Refusal;
 use image_store::OpenFault;
-use numbers::SessionStatus;
+use program_values::SessionStatus;
 use std::alloc::AllocError;
 use std::{fmt, io};
 

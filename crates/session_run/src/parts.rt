@@ -3,13 +3,13 @@ ghost use Rattle.std.specs.Prelude.{◌≡◌, ◌<◌, slice_get, IfOk};
 ghost use Rattle.blocks.specs.Contents.{blocks_of};
 ghost use Rattle.blocks.specs.SettingsRange.{standard};
 ghost use Rattle.session_run.specs.Outcome.{IsOpening};
-ghost use Rattle.settle.specs.Settled.{WasHonest};
+ghost use Rattle.settlement.specs.Settled.{WasHonest};
 ghost use Rattle.volume.specs.Opening.{opening_of};
 
 use bitmap::Bitmap;
-use blocks::{MemStore, Refusal, Tuple};
+use blocks::{ConnectionWords, MemStore, Refusal, Tuple};
 use image_store::PerDisk;
-use options::RunOptions;
+use program_values::RunOptions;
 use std::alloc::Global;
 use volume::SessionStart;
 
@@ -29,7 +29,7 @@ pub(crate) fn parts(
     ensures opens { IfOk result (λ made. IsOpening (record standard { protocol = options.now.protocol; blocks = options.now.blocks }) images.local.items images.peer.items
         (opening_of made.0 (slice_get made.1.local) (slice_get made.1.peer))) }
     ensures honest { IfOk result (λ made. WasHonest (opening_of made.0 (slice_get made.1.local) (slice_get made.1.peer))) }
-    ensures words { IfOk result (λ made. (made.0.sync ≡ 2) × (made.0.loss ≡ 3)) }
+    ensures words { IfOk result (λ made. (made.0.words.sync ≡ 2) × (made.0.words.loss ≡ 3)) }
     ensures disks { IfOk result (λ made. (made.1.local ≡ blocks_of 4096 images.local.items) × (made.1.peer ≡ blocks_of 4096 images.peer.items)) }
 {
     let settings = options.settings();
@@ -45,8 +45,7 @@ pub(crate) fn parts(
             unknown
         },
         marks: Bitmap::unmarked(alloc, u64::from(settings.blocks))?,
-        sync: 2,
-        loss: 3,
+        words: ConnectionWords { sync: 2, loss: 3 },
         is_cut: false,
     };
     let local = MemStore::from_image(images.local)?;

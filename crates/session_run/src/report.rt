@@ -8,11 +8,10 @@ use blocks::{MemStore, Refusal};
 use image_store::PerDisk;
 use link::{FrameIn, FrameOut};
 use node_lines::{primary_line, secondary_line};
-use options::RunOptions;
 use primary::{Primary, Receipt};
-use result_lines::Results;
+use program_values::{Results, RunOptions};
 use secondary::Secondary;
-use settle::{Settled, settle};
+use settlement::{Settled, settle};
 use status_lines::{PrimaryLine, SecondaryLine};
 
 /// The outcome of a session, with both disks.

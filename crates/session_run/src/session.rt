@@ -1,21 +1,21 @@
 //! A session over a link in this process, from its start to its settlement.
-ghost use Rattle.run_threads.specs.Plan.{AreOfPlan};
+ghost use Rattle.session_run.specs.Plan.{AreOfPlan};
 ghost use Rattle.session_nodes.specs.Primaries.{HasAccepted};
 ghost use Rattle.std.specs.Prelude.{◌≡◌, ◌*◌, ◌<◌, Some, slice_get, vec_len, IfOk};
 ghost use Rattle.thread_link.specs.Names as names;
 ghost use Rattle.session_run.specs.Outcome.{IsLinked, IsRun};
-ghost use Rattle.settle.specs.Settled.{WasHonest};
+ghost use Rattle.settlement.specs.Settled.{WasHonest};
 ghost use Rattle.volume.specs.Links.{AreEndsOf};
 ghost use Rattle.volume.specs.Opening.{opening_of};
 
 use crate::parts::{Disks, parts};
 use crate::report::{RunReport, conclude};
+use crate::workers::work;
 use blocks::{MemStore, Refusal};
 use image_store::PerDisk;
 use metadata::StableFile;
-use options::RunOptions;
 use primary::Receipt;
-use run_threads::work;
+use program_values::RunOptions;
 use std::alloc::Global;
 use std::io::Write;
 use std::marker::Brand;

@@ -1,21 +1,21 @@
 //! A session over two sockets of this machine, from its start to its settlement.
-ghost use Rattle.run_threads.specs.Plan.{AreOfPlan};
+ghost use Rattle.session_run.specs.Plan.{AreOfPlan};
 ghost use Rattle.session_nodes.specs.Primaries.{HasAccepted};
 ghost use Rattle.std.specs.Prelude.{◌≡◌, ◌*◌, ◌<◌, Some, slice_get, vec_len, IfOk};
-ghost use Rattle.options.specs.declared.run.Path.TheVariants as path;
+ghost use Rattle.program_values.specs.declared.run_options.Path.TheVariants as path;
 ghost use Rattle.session_run.specs.Outcome.{IsOutcome, IsRun};
-ghost use Rattle.settle.specs.Settled.{WasHonest};
+ghost use Rattle.settlement.specs.Settled.{WasHonest};
 ghost use Rattle.volume.specs.Opening.{opening_of};
 
 use crate::parts::{Disks, parts};
 use crate::report::{RunReport, conclude};
+use crate::workers::work;
 use blocks::{MemStore, Refusal};
 use image_store::PerDisk;
 use locked_halves::{LockedPrimary, LockedSecondary};
 use metadata::StableFile;
-use options::RunOptions;
 use primary::Receipt;
-use run_threads::work;
+use program_values::RunOptions;
 use session_threads::SharedSession;
 use std::alloc::Global;
 use std::io::Write;

@@ -2,22 +2,21 @@
 ghost use Rattle.std.specs.Prelude.{◌≡◌, ◌*◌, ◌≤◌, Err, IfOk, OnOk};
 ghost use Rattle.blocks.specs.SettingsRange.{IsInRange, standard};
 ghost use Rattle.blocks.specs.declared.refusal.Refusal.TheVariants.{BadSetting};
-ghost use Rattle.numbers.specs.declared.status.SessionStatus.TheVariants as status;
+ghost use Rattle.program_values.specs.declared.status.SessionStatus.TheVariants as status;
 ghost use Rattle.session_run.specs.Outcome.{HasRun, IsRun};
 ghost use Rattle.session_run.specs.declared.fault.RunFault.TheVariants.{Refused};
 
 use crate::fault::RunFault;
 use crate::images::load;
 use crate::locked_image::LockedImage;
+use crate::progress::print_status;
 use crate::report::RunReport;
 use crate::saving::save;
 use crate::session::run_session;
 use crate::sockets::run_over;
 use blocks::{MAX_BLOCKS, Refusal};
 use image_store::PerDisk;
-use numbers::SessionStatus;
-use options::{Images, Path, RunOptions};
-use run_threads::print_status;
+use program_values::{Images, Path, RunOptions, SessionStatus};
 use std::fs::File;
 use std::io::Write;
 use std::net::{Net, TcpListener, TcpStream};

@@ -11,13 +11,12 @@ use crate::way::{Sink, Source, Way};
 use crate::workers::Workers;
 use blocks::Refusal;
 use crossbeam_channel::{Receiver, Sender, bounded};
-use halves::{PrimaryHalf, SecondaryHalf};
 use pumps::{Buffer, PumpEnd, pump_in, pump_out};
+use session_api::{PrimaryHalf, Runtime, SecondaryHalf};
 use std::alloc::Global;
 use std::io::{Read, Write};
 use std::sync::{Arc, Wait};
 use std::thread;
-use std::thread::Threads;
 use std::time::Clock;
 use thread_link::{PieceIn, PieceOut, RuledIn, RuledOut, row};
 
@@ -101,7 +100,7 @@ impl Carrier {
     /// Creates a carrier, and starts a thread that closes both ends of the link each time a pump ends, until no pump
     /// remains. `NoMemory` (7) if there is no memory, and if the thread cannot be started.
     pub(crate) fn start<
-        R: Threads + Wait + Clock + Drop + Send + Sync + 'static,
+        R: Runtime,
         A: PrimaryHalf + Drop + Send + Sync + 'static,
         B: SecondaryHalf + Drop + Send + Sync + 'static,
     >(
@@ -123,7 +122,7 @@ impl Carrier {
 
     /// Starts both pumps of a way: one at the row of the half that sends, and one at the row of the half that takes.
     pub(crate) fn start_way<
-        R: Threads + Wait + Clock + Drop + Send + Sync + 'static,
+        R: Runtime,
         A: PrimaryHalf + Drop + Send + Sync + 'static,
         B: SecondaryHalf + Drop + Send + Sync + 'static,
         W: Sink,
@@ -146,7 +145,7 @@ impl Carrier {
 
     // Starts the pump that writes what a node sends.
     fn start_out<
-        R: Threads + Wait + Clock + Drop + Send + Sync + 'static,
+        R: Runtime,
         A: PrimaryHalf + Drop + Send + Sync + 'static,
         B: SecondaryHalf + Drop + Send + Sync + 'static,
         W: Sink,
@@ -175,7 +174,7 @@ impl Carrier {
 
     // Starts the pump that reads what a node takes.
     fn start_in<
-        R: Threads + Wait + Clock + Drop + Send + Sync + 'static,
+        R: Runtime,
         A: PrimaryHalf + Drop + Send + Sync + 'static,
         B: SecondaryHalf + Drop + Send + Sync + 'static,
         D: Source,

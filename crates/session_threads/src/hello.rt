@@ -4,7 +4,7 @@ ghost use Rattle.model.specs.CallRefusals.{hello_refuses, streams_hello_refuses}
 
 use crate::shared::Shared;
 use blocks::{Done, Refusal};
-use halves::{PrimaryHalf, SecondaryHalf};
+use session_api::{PrimaryHalf, SecondaryHalf};
 use std::sync::Wait;
 use std::time::Clock;
 

@@ -11,7 +11,7 @@ mod way;
 mod workers;
 
 pub use carriers::{PumpEnds, Rows, half_rows};
-pub use halves::{Begun, Device, Host, Runtime};
 pub use running::Running;
+pub use session_api::{Begun, Device, Host, Runtime};
 pub use shared_session::SharedSession;
 pub use way::{Sink, Source, Way, Ways};

@@ -9,11 +9,10 @@ use crate::shared::{Shared, Transport};
 use crate::way::{Sink, Source, Way, Ways};
 use crate::workers::Workers;
 use blocks::Refusal;
-use halves::{PrimaryHalf, SecondaryHalf};
+use session_api::{PrimaryHalf, Runtime, SecondaryHalf};
 use std::alloc::Global;
 use std::sync::{Arc, Wait};
 use std::thread::Threads;
-use std::time::Clock;
 
 /// A running session: the mirror that callers share, and its threads.
 #[derive(Drop)]
@@ -23,7 +22,7 @@ pub struct Running<R: Threads + Wait + Drop, A: PrimaryHalf + Drop, B: Secondary
 }
 
 impl<
-    R: Threads + Wait + Clock + Drop + Send + Sync + 'static,
+    R: Runtime,
     A: PrimaryHalf + Drop + Send + Sync + 'static,
     B: SecondaryHalf + Drop + Send + Sync + 'static,
 > Running<R, A, B> {
@@ -143,11 +142,7 @@ impl<
     }
 }
 
-impl<R: Threads + Wait + Clock + Drop, A: PrimaryHalf + Drop, B: SecondaryHalf + Drop> Running<
-    R,
-    A,
-    B,
-> {
+impl<R: Runtime, A: PrimaryHalf + Drop, B: SecondaryHalf + Drop> Running<R, A, B> {
     /// Returns the mirror, which any number of threads may share.
     pub fn mirror(&self) -> &SharedSession<R, A, B> {
         &self.mirror

@@ -1,9 +1,8 @@
 //! The state that both halves of a running session share, and the loop of each thread.
-use halves::{PrimaryHalf, SecondaryHalf};
+use session_api::{PrimaryHalf, PrimaryRole, SecondaryHalf, SecondaryRole, Turn};
 use std::sync::atomic::{AtomicBool, Ordering};
 use std::sync::{Mutex, Wait};
 use std::time::Clock;
-use turns::{PrimaryRole, SecondaryRole, Turn};
 
 /// How the frames of a session get from one half to the other.
 #[derive(Clone, Copy, Debug, PartialEq, Eq)]
@@ -154,13 +153,13 @@ impl<R: Wait + Clock, A: PrimaryHalf, B: SecondaryHalf> Shared<R, A, B> {
     /// Lets both disks finish all pending work, while both ends are closed.
     pub(crate) fn finish_disks(&self) {
         for _ in self.rt.forever() {
-            if !self.primary.has_unfinished() {
+            if !self.primary.progress().has_unfinished {
                 break;
             }
             self.turn_primary(PrimaryRole::Disk);
         }
         for _ in self.rt.forever() {
-            if !self.secondary.has_unfinished() {
+            if !self.secondary.progress().has_unfinished {
                 break;
             }
             self.turn_secondary(SecondaryRole::Disk);

@@ -4,15 +4,13 @@ ghost use Rattle.blocks.specs.declared.refusal.Refusal.TheVariants.{LocalFault};
 ghost use Rattle.model.specs.CallRefusals.{begin_refuses, complete_refuses, reopen_refuses};
 
 use crate::shared::{Shared, Transport};
-use blocks::{BLOCK_BYTES, Refusal};
+use blocks::{BLOCK_BYTES, ConnectionWords, Refusal};
 use bytes::Bytes;
-use halves::{Begun, Device, PrimaryHalf, SecondaryHalf};
 use primary::Receipt;
-use status_lines::{PrimaryLine, SecondaryLine};
+use session_api::{Begun, Device, PrimaryHalf, PrimaryRole, Progress, SecondaryHalf};
 use std::alloc::Global;
 use std::sync::{Arc, Wait};
 use std::time::Clock;
-use turns::PrimaryRole;
 
 /// A running session over two halves. Any number of threads may share it.
 #[derive(Drop)]
@@ -26,9 +24,7 @@ impl<R: Wait + Clock, A: PrimaryHalf, B: SecondaryHalf> Device for SharedSession
 
     ghost holds = { A.holds };
 
-    ghost releases = { A.releases };
-
-    ghost shows = { λ own other. A.shows own × B.shows other };
+    ghost shows = { λ progress. A.shows progress.primary × B.shows progress.secondary };
 
     fn write(&self, first: u64, bytes: &Bytes) -> Result<Receipt, Refusal> {
         let begun = self.begin(first, bytes.clone()?)?;
@@ -57,39 +53,18 @@ impl<R: Wait + Clock, A: PrimaryHalf, B: SecondaryHalf> Device for SharedSession
         self.shared.cut();
     }
 
-    fn reconnect(&self, sync: u64, loss: u64) -> Result<u32, Refusal> {
+    fn reconnect(&self, words: ConnectionWords) -> Result<u32, Refusal> {
         let shared = &self.shared;
         if shared.transport == Transport::Streams {
             return Err(Refusal::NotConnected);
         }
-        self.reconnect_over_link(sync, loss)
+        self.reconnect_over_link(words)
     }
 
-    fn status(&self) -> (PrimaryLine, SecondaryLine) {
-        (self.shared.primary.status(), self.shared.secondary.status())
-    }
-
-    fn marks(&self) -> u32 {
-        self.shared.primary.marks()
-    }
-
-    fn is_quiet(&self) -> bool {
-        match self.shared.primary.sent_if_quiet() {
-            Some(sent) => self.shared.secondary.has_taken(sent),
-            None => false,
-        }
-    }
-
-    fn accepted(&self) -> u64 {
-        self.shared.primary.accepted()
-    }
-
-    fn released(&self) -> u64 {
-        self.shared.primary.released()
-    }
-
-    fn applied(&self) -> u32 {
-        self.shared.secondary.applied()
+    fn progress(&self) -> Progress {
+        let primary = self.shared.primary.progress();
+        let secondary = self.shared.secondary.progress();
+        Progress { primary, secondary }
     }
 
     fn prepare_leaving(&self, most: u64) -> u64 {
@@ -99,22 +74,20 @@ impl<R: Wait + Clock, A: PrimaryHalf, B: SecondaryHalf> Device for SharedSession
     fn leave_prepared(&self) -> u64 {
         self.shared.primary.leave_prepared()
     }
-
-    fn is_metadata_broken(&self) -> bool {
-        self.shared.primary.is_metadata_broken() || self.shared.secondary.is_metadata_broken()
-    }
 }
 
 impl<R: Wait, A: PrimaryHalf, B: SecondaryHalf> SharedSession<R, A, B> {
     /// Opens both ends again as `Device::reconnect` does, of a session that goes over one link: its rows take any number of
     /// connections. `NotConnected` (12) does not come.
-    pub fn reconnect_over_link(&self, sync: u64, loss: u64) -> Result<u32, Refusal>
+    pub fn reconnect_over_link(&self, words: ConnectionWords) -> Result<u32, Refusal>
         ensures refused { IfErr result (λ e. reopen_refuses e ≡ true) }
     {
         let shared = &self.shared;
         let _connecting = shared.connecting.lock(&shared.rt);
-        shared.secondary.may_reopen()?;
-        let number = shared.primary.reopen(sync, loss)?;
+        if !shared.secondary.progress().may_reopen() {
+            return Err(Refusal::NotDrained);
+        }
+        let number = shared.primary.reopen(words)?;
         if let Err(refusal) = shared.secondary.reopen(number) {
             shared.primary.close();
             return Err(refusal);

@@ -4,14 +4,12 @@ ghost use Rattle.blocks.specs.declared.refusal.Refusal.TheVariants.{NoMemory};
 
 use crate::shared::Shared;
 use blocks::Refusal;
-use halves::{PrimaryHalf, SecondaryHalf};
+use session_api::{PrimaryHalf, PrimaryRole, Runtime, SecondaryHalf, SecondaryRole};
 use std::alloc::Global;
 use std::sync::atomic::Ordering;
 use std::sync::{Arc, Wait};
 use std::thread;
 use std::thread::{JoinHandle, Threads};
-use std::time::Clock;
-use turns::{PrimaryRole, SecondaryRole};
 
 const PRIMARY_ROLES: [PrimaryRole; 4] = [
     PrimaryRole::Sender,
@@ -43,7 +41,7 @@ impl Workers {
     /// Starts a thread for each role of both nodes. `NoMemory` (7) if there is no memory, and if a thread cannot be
     /// started; the threads that were started then go on.
     pub(crate) fn start<
-        R: Threads + Wait + Clock + Drop + Send + Sync + 'static,
+        R: Runtime,
         A: PrimaryHalf + Drop + Send + Sync + 'static,
         B: SecondaryHalf + Drop + Send + Sync + 'static,
     >(&mut self, shared: &Arc<Shared<R, A, B>, Global>) -> Result<(), Refusal>

@@ -5,11 +5,11 @@
 mod session;
 mod sockets;
 
-pub use halves::{Device, SessionStart};
 pub use session::{
     LockedStreamPrimary, LockedStreamSecondary, SharedStreamSession, StreamPrimary,
     StreamSecondary, StreamSession,
 };
+pub use session_api::{Device, SessionStart};
 pub use session_nodes::{Beginning, Unknown};
 pub use session_threads::{Runtime, SharedSession, Sink, Source, Way, Ways};
 pub use sockets::{Socket, loopback};

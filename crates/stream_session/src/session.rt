@@ -1,7 +1,7 @@
 //! A session whose frames go over streams of bytes, such as sockets.
 ghost use Rattle.std.specs.Prelude.{◌≡◌, ◌<◌, ◌≤◌, ◌⊎◌, ◌*◌, true, false, Err, length, slice_get, unwrap_or, vec_len, IfErr, IfOk, IfSome, IsTrue};
 ghost use Rattle.blocks.specs.declared.refusal.Refusal.TheVariants.{BadRange, NoMemory, NotConnected, NotDrained, ReadFault};
-ghost use Rattle.halves.specs.Opening.{opening_of};
+ghost use Rattle.session_api.specs.Opening.{opening_of};
 ghost use Rattle.model.specs.CallRefusals.{local_open_refuses, peer_open_refuses, start_over_refuses, streams_hello_refuses, write_refuses};
 ghost use Rattle.model.specs.Primary.{primary_opening};
 ghost use Rattle.model.specs.Secondary.{secondary_opening};
@@ -12,19 +12,18 @@ ghost use Rattle.session_nodes.specs.Secondaries.{SecondaryIsHad};
 use bitmap::Bitmap;
 use blocks::{ConnectionWords, Refusal, Settings, Store, Tuple};
 use bytes::Bytes;
-use halves::{Device, SessionStart};
 use kept_nodes::NoFile;
 use locked_halves::{LockedPrimary, LockedSecondary};
 use metadata::StableFile;
 use primary::{Primary, Receipt};
 use secondary::Secondary;
+use session_api::{Device, Runtime, SessionStart};
 use session_link::check_numbers;
 use session_nodes::Beginning;
 use session_threads::{PumpEnds, Rows, Running, SharedSession, Sink, Source, Way, Ways, half_rows};
 use std::alloc::Global;
 use std::sync::Wait;
 use std::thread::Threads;
-use std::time::Clock;
 use thread_link::{RuledIn, RuledOut};
 
 // The primary's half of a session over streams, with a metadata file of type `F`.
@@ -58,7 +57,7 @@ pub struct StreamSession<R: Threads + Wait + Drop, B: Beginning, S: Store + Drop
 }
 
 impl<
-    R: Threads + Wait + Clock + Copy + Drop + Send + Sync + 'static,
+    R: Runtime,
     B: Beginning + Send + Sync + 'static,
     S: Store + Drop + Send + 'static,
     T: Store + Drop + Send + 'static,
@@ -83,10 +82,6 @@ impl<
         ensures refused { IfErr result (λ e. start_over_refuses e ≡ true) }
     {
         parts.settings.check()?;
-        let words = ConnectionWords {
-            sync: parts.sync,
-            loss: parts.loss,
-        };
         let settings = parts.settings;
         let (primary, primary_rows) = open_primary(
             rt,
@@ -95,7 +90,7 @@ impl<
             local,
             parts.own,
             parts.marks,
-            words,
+            parts.words,
         )?;
         match open_secondary(rt, alloc, settings, peer, parts.peer) {
             Ok((secondary, secondary_rows)) => {
@@ -118,7 +113,7 @@ impl<
 
 // Starts the threads of a session over both halves, whatever the type of their metadata's files.
 fn run_over<
-    R: Threads + Wait + Clock + Copy + Drop + Send + Sync + 'static,
+    R: Runtime,
     B: Beginning + Send + Sync + 'static,
     S: Store + Drop + Send + 'static,
     T: Store + Drop + Send + 'static,
@@ -183,12 +178,7 @@ fn open_secondary<R: Wait + Copy + Drop, B: Beginning, T: Store + Drop>(
     }
 }
 
-impl<
-    R: Threads + Wait + Clock + Drop,
-    B: Beginning,
-    S: Store + Drop,
-    T: Store + Drop,
-> StreamSession<R, B, S, T> {
+impl<R: Runtime, B: Beginning, S: Store + Drop, T: Store + Drop> StreamSession<R, B, S, T> {
     /// Returns the mirror, which any number of threads may share.
     pub fn mirror(&self) -> &SharedStreamSession<R, B, S, T> {
         self.running.mirror()

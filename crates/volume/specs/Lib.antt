@@ -1,3 +1,3 @@
 -- Which ends a session begins with, and what its parts are as an opening.
 pub use Rattle.session_link.specs.Links
-pub use Rattle.halves.specs.Opening
+pub use Rattle.session_api.specs.Opening

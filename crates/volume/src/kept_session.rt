@@ -1,7 +1,7 @@
 //! A session over a link in this process, whose nodes have their metadata on stable storage.
 ghost use Rattle.std.specs.Prelude.{◌≡◌, ◌≤◌, ◌⊎◌, Bool, true, Some, is_some, slice_get, IfErr, IfOk};
 ghost use Rattle.blocks.specs.declared.refusal.Refusal.TheVariants.{LocalFault, NotDrained};
-ghost use Rattle.halves.specs.Opening.{opening_of};
+ghost use Rattle.session_api.specs.Opening.{opening_of};
 ghost use Rattle.kept_nodes.specs.Kept.{PrimaryIsKept, SecondaryIsKept};
 ghost use Rattle.model.specs.CallRefusals.{start_refuses};
 ghost use Rattle.model.specs.Headline.{IsJoined};
@@ -12,10 +12,10 @@ ghost use Rattle.session_nodes.specs.Secondaries.{SecondaryHas, SecondaryIsHad};
 ghost use Rattle.thread_link.specs.Names as names;
 ghost use Rattle.volume.specs.Links.{AreEndsOf};
 
-use blocks::{ConnectionWords, Refusal, Store};
-use halves::SessionStart;
+use blocks::{Refusal, Store};
 use locked_halves::{LockedPrimary, LockedSecondary};
 use metadata::{Metadata, StableFile};
+use session_api::{Runtime, SessionStart};
 use session_link::{
     Back, Began, Linked, NamedPrimary, NamedSecondary, There, check_numbers, join_nodes, named_ends,
 };
@@ -23,7 +23,6 @@ use session_threads::{Running, SharedSession};
 use std::alloc::Global;
 use std::sync::Wait;
 use std::thread::Threads;
-use std::time::Clock;
 use thread_link::{NamedIn, NamedOut, RuledIn, RuledOut};
 
 /// The primary's half over a session's link.
@@ -90,7 +89,7 @@ pub struct KeptSession<
 }
 
 impl<
-    R: Threads + Wait + Clock + Copy + Drop + Send + Sync + 'static,
+    R: Runtime,
     L: Linked + Send + Sync + 'static,
     S: Store + Drop + Send + 'static,
     T: Store + Drop + Send + 'static,
@@ -118,10 +117,6 @@ impl<
         ensures refused { IfErr result (λ e. (start_refuses e ≡ true) ⊎ ((e ≡ LocalFault) × ((is_some metadata.primary ≡ true) ⊎ (is_some metadata.secondary ≡ true)))) }
     {
         let (primary_ends, secondary_ends) = named_ends::<R, L>(there, back);
-        let words = ConnectionWords {
-            sync: parts.sync,
-            loss: parts.loss,
-        };
         let primary = LockedPrimary::open(
             rt,
             alloc,
@@ -130,7 +125,7 @@ impl<
             parts.own,
             parts.marks,
             primary_ends,
-            words,
+            parts.words,
             metadata.primary,
         )?;
         match LockedSecondary::open(
@@ -156,7 +151,7 @@ impl<
 }
 
 impl<
-    R: Threads + Wait + Clock + Drop,
+    R: Runtime,
     L: Linked,
     S: Store + Drop,
     T: Store + Drop,

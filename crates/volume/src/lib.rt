@@ -5,11 +5,11 @@
 mod kept_session;
 mod session;
 
-pub use halves::{Begun, Device, Host, Runtime, SessionStart};
 pub use kept_session::{
     Finished, KeptSession, LockedLinkPrimary, LockedLinkSecondary, PairMetadata, SharedLinkSession,
 };
 pub use locked_halves::{LockedPrimary, LockedSecondary};
 pub use session::Session;
+pub use session_api::{Begun, Device, Host, Runtime, SessionStart};
 pub use session_link::{Back, Began, Linked, NamedPrimary, NamedSecondary, There};
 pub use session_threads::SharedSession;

@@ -1,7 +1,7 @@
 //! A session over a link in this process.
 ghost use Rattle.std.specs.Prelude.{◌≡◌, ◌≤◌, ◌⊎◌, ◌*◌, true, Some, length, slice_get, vec_len, IfErr, IfOk, IsTrue};
 ghost use Rattle.blocks.specs.declared.refusal.Refusal.TheVariants.{BadRange, NoMemory, NotDrained, ReadFault};
-ghost use Rattle.halves.specs.Opening.{opening_of};
+ghost use Rattle.session_api.specs.Opening.{opening_of};
 ghost use Rattle.model.specs.CallRefusals.{reopen_refuses, start_refuses, write_refuses};
 ghost use Rattle.model.specs.Headline.{IsJoined};
 ghost use Rattle.model.specs.Primary.{PrimaryHistory};
@@ -12,16 +12,15 @@ ghost use Rattle.session_nodes.specs.Secondaries.{SecondaryHas, SecondaryIsHad};
 ghost use Rattle.volume.specs.Links.{AreEndsOf};
 
 use crate::kept_session::{Finished, KeptSession, PairMetadata, SharedLinkSession};
-use blocks::{Refusal, Store};
+use blocks::{ConnectionWords, Refusal, Store};
 use bytes::Bytes;
-use halves::{Device, SessionStart};
 use kept_nodes::NoFile;
 use primary::Receipt;
+use session_api::{Device, Runtime, SessionStart};
 use session_link::{Linked, NamedPrimary, NamedSecondary};
 use std::alloc::Global;
 use std::sync::Wait;
 use std::thread::Threads;
-use std::time::Clock;
 use thread_link::{RuledIn, RuledOut};
 
 /// A running session over a link. It cannot be dropped: whoever starts it has to finish it.
@@ -30,7 +29,7 @@ pub struct Session<R: Threads + Wait + Drop, L: Linked, S: Store + Drop, T: Stor
 }
 
 impl<
-    R: Threads + Wait + Clock + Copy + Drop + Send + Sync + 'static,
+    R: Runtime,
     L: Linked + Send + Sync + 'static,
     S: Store + Drop + Send + 'static,
     T: Store + Drop + Send + 'static,
@@ -68,12 +67,7 @@ impl<
     }
 }
 
-impl<R: Threads + Wait + Clock + Drop, L: Linked, S: Store + Drop, T: Store + Drop> Session<
-    R,
-    L,
-    S,
-    T,
-> {
+impl<R: Runtime, L: Linked, S: Store + Drop, T: Store + Drop> Session<R, L, S, T> {
     /// Returns the mirror, which any number of threads may share.
     pub fn mirror(&self) -> &SharedLinkSession<R, L, S, T, NoFile, NoFile> {
         self.kept.mirror()
@@ -111,7 +105,8 @@ impl<R: Threads + Wait + Clock + Drop, L: Linked, S: Store + Drop, T: Store + Dr
     pub fn reconnect(&self, sync: u64, loss: u64) -> Result<u32, Refusal>
         ensures refused { IfErr result (λ e. reopen_refuses e ≡ true) }
     {
-        self.kept.mirror().reconnect_over_link(sync, loss)
+        let words = ConnectionWords { sync, loss };
+        self.kept.mirror().reconnect_over_link(words)
     }
 
     /// Ends the session: cuts the link, lets the disks finish all pending work, stops the threads, and returns both

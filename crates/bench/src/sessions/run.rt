@@ -7,7 +7,7 @@ ghost use Rattle.volume.specs.Opening.{opening_of};
 use crate::sessions::report::Report;
 use crate::sessions::writers::write_all;
 use bitmap::Bitmap;
-use blocks::{MemStore, Protocol, Refusal, Settings, Tuple};
+use blocks::{ConnectionWords, MemStore, Protocol, Refusal, Settings, Tuple};
 use link::{FrameIn, FrameOut};
 use metadata::StableFile;
 use primary::Primary;
@@ -86,8 +86,7 @@ fn parts(alloc: Global, plan: Plan) -> Result<(SessionStart, Disks), Refusal> {
         own: alike,
         peer: alike,
         marks: Bitmap::unmarked(alloc, u64::from(BLOCKS))?,
-        sync: 2,
-        loss: 3,
+        words: ConnectionWords { sync: 2, loss: 3 },
         is_cut: false,
     };
     let local = MemStore::zeroed(alloc, BLOCKS)?;

@@ -1,6 +1,6 @@
 use Rattle.std.proofs.Common.{◌≡◌, refl, sym, ◌∙◌, ap, arith}
 use Rattle.blocks.specs.declared.tuple.Tuple.{Tuple}
-use Rattle.settle.proofs.Openings.{first-honest}
+use Rattle.settlement.proofs.Openings.{first-honest}
 use Rattle.serving.proofs.first_start.start_unkept.Goals.{then-is_known, else-is_known}
 use Rattle.serving.proofs.first_start.start_unkept.Goals as goal
 

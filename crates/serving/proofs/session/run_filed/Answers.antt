@@ -1,5 +1,5 @@
 use Rattle.std.proofs.Common.{◌≡◌, slice_get, subst, sym}
-use Rattle.halves.specs.Opening.{opening_of}
+use Rattle.session_api.specs.Opening.{opening_of}
 use Rattle.serving.proofs.session.run_filed.Goals as goal
 
 pub start-requires-clause-opening : goal.start-requires-clause-opening

@@ -5,7 +5,7 @@ use Rattle.model.specs.Theorems.{Settles, SettlesAnyhow}
 use Rattle.primary.specs.State.{PrimaryView, node as primary_node}
 use Rattle.primary_protocol.specs.Node.{NodeHas as PrimaryHas}
 use Rattle.serving.specs.Sessions.{NodesComeTo, counted}
-use Rattle.settle.specs.Settled.{with_unmarked}
+use Rattle.settlement.specs.Settled.{with_unmarked}
 use Rattle.serving.proofs.Ended.{given}
 use Rattle.serving.proofs.session_end.settle_and_hand_over.Goals as goal
 

@@ -1,9 +1,9 @@
 -- The sessions so far led to this start, whose identifiers are honest if those of the first one were, and the disks were faithful.
 use Rattle.std.proofs.Common.{List}
 use Rattle.blocks.specs.SettingsRange.{standard}
-use Rattle.handover.specs.Left.{IsUnparted}
+use Rattle.settlement.specs.Left.{IsUnparted}
 use Rattle.serving.specs.Sessions.{HasCome, IsStart, Rest, StayedFaithful, opening}
-use Rattle.settle.specs.Settled.{WasHonest}
+use Rattle.settlement.specs.Settled.{WasHonest}
 use Rattle.serving.proofs.sessions.run_sessions.Given as goal
 
 abbrev pub invariant-loop : goal.invariant-loop

@@ -3,7 +3,7 @@ use Rattle.std.specs.Prelude.{unwrap_or}
 use Rattle.std.proofs.lemmas.Bool.Decides.{Decides-eqb}
 use Rattle.std.proofs.lemmas.Slice.Eq.{slice_eq-Decides}
 use Rattle.blocks.specs.Contents.{blocks_of}
-use Rattle.settle.proofs.Openings.{first-honest}
+use Rattle.settlement.proofs.Openings.{first-honest}
 use Rattle.session_run.proofs.parts.parts.Goals.{then-eq, else-eq}
 use Rattle.session_run.proofs.parts.parts.Goals as goal
 

@@ -2,7 +2,7 @@ use Rattle.std.proofs.Common.{◌≡◌, ◌≤◌, List, false, refl, sym, ap, 
 use Rattle.std.specs.Prelude.{IfOk, IsTrue}
 use Rattle.model.specs.Settlement.{Receipt, Settlement, settlement}
 use Rattle.model.specs.Theorems.{Settles}
-use Rattle.settle.specs.Settled.{AreEntries, kept, numbers}
+use Rattle.settlement.specs.Settled.{AreEntries, kept, numbers}
 use Rattle.session_run.specs.Outcome.{AreAtRest, HasSettled, IsNumber}
 use Rattle.session_run.proofs.Outcome.{settled-numbers}
 use Rattle.session_run.proofs.report.settled_by.Goals as goal

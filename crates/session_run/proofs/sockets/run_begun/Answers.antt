@@ -2,7 +2,7 @@ use Rattle.std.proofs.Common.{rules, slice_get, subst}
 use Rattle.std.specs.Prelude.{IfOk}
 use Rattle.session_nodes.specs.Primaries.{PrimaryIsHad, HasAccepted}
 use Rattle.session_nodes.specs.Secondaries.{SecondaryIsHad}
-use Rattle.run_threads.specs.Plan.{AreOfPlan}
+use Rattle.session_run.specs.Plan.{AreOfPlan}
 use Rattle.session_run.proofs.Outcome.{outcome-of}
 use Rattle.session_run.proofs.sockets.run_begun.Goals as goal
 use Rattle.volume.specs.Opening.{opening_of}

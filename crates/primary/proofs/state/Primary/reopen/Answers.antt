@@ -20,9 +20,9 @@ returns-in_err-open-clause-unchanged g c =
 pub invariant_of-self-2 : goal.invariant_of-self-2
 invariant_of-self-2 g c =
     (opens-anew _ c.self.invariant _ c.args.sync c.args.loss _ _ _ c.in_ok-open.was c.open.ensures _ c.in-Some.outgoing c.in-Some-incoming.incoming
-    c.connection-number.ensures c.restart.ensures c.restart-2.ensures).is
+    c.connection_number-number.ensures c.restart.ensures c.restart-2.ensures).is
 
 pub returns-clause-step : goal.returns-clause-step
 returns-clause-step g c =
     rw (← c.self.view_is) (opens-anew _ c.self.invariant _ c.args.sync c.args.loss _ _ _ c.in_ok-open.was c.open.ensures _
-    c.in-Some.outgoing c.in-Some-incoming.incoming c.connection-number.ensures c.restart.ensures c.restart-2.ensures).steps
+    c.in-Some.outgoing c.in-Some-incoming.incoming c.connection_number-number.ensures c.restart.ensures c.restart-2.ensures).steps

@@ -18,14 +18,14 @@ pub reopen-requires-clause-opened_too : goal.reopen-requires-clause-opened_too
 reopen-requires-clause-opened_too g c = (is-there c.self.inside.node c.self.invariant).1
 
 abbrev steps : (g : _) (c : goal.After-reopen g)
-    → PrimarySteps (Opens c.args.sync c.args.loss (is_out_of_memory c.reopen.result)) c.self.inside.node (replied (λ number. plainly tt) c.reopen.result)
+    → PrimarySteps (Opens c.args.words.sync c.args.words.loss (is_out_of_memory c.reopen.result)) c.self.inside.node (replied (λ number. plainly tt) c.reopen.result)
     c.reopen.new.self
-steps g c = reopens-over c.args.sync c.args.loss c.self.inside.node c.reopen.new.self c.reopen.result c.reopen.ensures.step c.reopen.ensures.link
+steps g c = reopens-over c.args.words.sync c.args.words.loss c.self.inside.node c.reopen.new.self c.reopen.result c.reopen.ensures.step c.reopen.ensures.link
     c.reopen.ensures.number c.reopen.ensures.unchanged
 
 pub invariant_of-self : goal.invariant_of-self
-invariant_of-self g c = had-over (Opens c.args.sync c.args.loss (is_out_of_memory c.reopen.result))
-    (primary_step (Opens c.args.sync c.args.loss (is_out_of_memory c.reopen.result))) c.self.inside.node c.reopen.new.self
+invariant_of-self g c = had-over (Opens c.args.words.sync c.args.words.loss (is_out_of_memory c.reopen.result))
+    (primary_step (Opens c.args.words.sync c.args.words.loss (is_out_of_memory c.reopen.result))) c.self.inside.node c.reopen.new.self
     (replied (λ number. plainly tt) c.reopen.result) (λ h. refl) c.self.invariant (steps g c)
 
 pub returns-clause-step : goal.returns-clause-step
@@ -33,5 +33,5 @@ returns-clause-step g c = rw (← c.self.view_is) (steps g c)
 
 pub returns-clause-refused : goal.returns-clause-refused
 returns-clause-refused g c = primary-refused (λ e. reopen_refuses e ≡ true) (λ number. plainly tt) _
-    (Opens c.args.sync c.args.loss (is_out_of_memory c.reopen.result)) _ c.reopen.new.self c.reopen.result c.self.invariant c.reopen.ensures.step
-    (λ h. opens-so c.args.sync c.args.loss (is_out_of_memory c.reopen.result) h)
+    (Opens c.args.words.sync c.args.words.loss (is_out_of_memory c.reopen.result)) _ c.reopen.new.self c.reopen.result c.self.invariant c.reopen.ensures.step
+    (λ h. opens-so c.args.words.sync c.args.words.loss (is_out_of_memory c.reopen.result) h)

@@ -1,5 +1,0 @@
-use Rattle.std.proofs.Common.{rules}
-use Rattle.options.proofs.plan.byte_of_turn.Goals as goal
-
-pub returns : goal.returns
-returns c = search rules

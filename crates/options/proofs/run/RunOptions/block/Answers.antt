@@ -1,5 +1,0 @@
-use Rattle.std.proofs.Common.{rules}
-use Rattle.options.proofs.run.RunOptions.block.Goals as goal
-
-pub returns : goal.returns
-returns c = search rules

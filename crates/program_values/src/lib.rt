@@ -1,0 +1,21 @@
+//! The programs' options, numbers, exit statuses and result lines in plain values: for a run of a session, with the
+//! plan of its writes, for a server, and for commands over images.
+#![tactic(auto)]
+
+mod comparison;
+mod image_options;
+mod number;
+mod plan;
+mod results;
+mod run_options;
+mod serve_options;
+mod status;
+
+pub use comparison::Comparison;
+pub use image_options::{DumpFormat, ImageOptions, VerifyOptions};
+pub use number::{byte, decimal};
+pub use plan::{byte_of_turn, reconnect_words};
+pub use results::Results;
+pub use run_options::{Images, LiveOutput, Path, RunOptions};
+pub use serve_options::{FirstStart, MetadataFiles, ServeOptions};
+pub use status::{SessionStatus, Status};

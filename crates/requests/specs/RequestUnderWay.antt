@@ -1,9 +1,0 @@
--- A request whose writes were begun.
-use Rattle.std.specs.Prelude.{List}
-use Rattle.nbd.specs.declared.request.Request.{Request}
-use Rattle.halves.specs.Begun.{BegunState}
-
--- the request, and the writes that were begun for it
-pub record UnderWayState : Type 0 where
-  pub request : Request
-  pub begun : List BegunState

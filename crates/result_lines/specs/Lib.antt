@@ -1,2 +1,0 @@
--- The bytes of the three lines.
-pub mod Text

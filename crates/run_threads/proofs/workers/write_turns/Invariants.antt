@@ -1,9 +1,0 @@
-use Rattle.std.proofs.Common.{◌≡◌, vec_len}
-use Rattle.run_threads.specs.Plan.{AreOfWriter}
-use Rattle.run_threads.proofs.workers.write_turns.Given as goal
-
-abbrev pub invariant-loop-turn : goal.invariant-loop-turn
-invariant-loop-turn g l = record {
-  count : vec_len l.receipts ≡ l.turn;
-  plan : AreOfWriter g.D.Device.accepts l.fn.options l.fn.writer l.receipts.items;
-}

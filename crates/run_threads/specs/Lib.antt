@@ -1,2 +1,0 @@
--- What a run's threads bring about.
-pub mod Plan

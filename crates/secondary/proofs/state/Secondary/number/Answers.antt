@@ -1,8 +1,0 @@
-use Rattle.std.proofs.Common.{rules}
-use Rattle.secondary.proofs.state.Secondary.number.Goals as goal
-
-pub returns-clause-number : goal.returns-clause-number
-returns-clause-number g c = search rules
-
-pub returns-clause-history : goal.returns-clause-history
-returns-clause-history g c = search rules

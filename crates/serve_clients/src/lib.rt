@@ -1,0 +1,33 @@
+//! The threads between block clients and the device of any session: those that let clients in, read their requests and
+//! answer them, keep the link up, and serve the status page.
+#![tactic(auto)]
+
+mod accept;
+mod answer;
+mod client;
+mod copying;
+mod housekeeper;
+mod job;
+mod keeper;
+mod limited_stream;
+mod listeners;
+mod page;
+mod piece;
+mod quit;
+mod reader;
+mod reply_queue;
+mod reports;
+mod request_budget;
+mod service;
+mod standstill;
+mod sync_queue;
+mod threads;
+mod timed_writer;
+mod waiting;
+mod workers;
+
+pub use listeners::{ListenFault, Listeners};
+pub use serve_page::StartedAfter;
+pub use service::Service;
+pub use threads::{StartFault, start_threads};
+pub use workers::work;

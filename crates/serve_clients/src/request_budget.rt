@@ -1,0 +1,79 @@
+//! The limit on a client's requests under way.
+ghost use Rattle.std.specs.Prelude.{◌≡◌};
+ghost use Rattle.serve_clients.specs.RequestBudget.{places_for, places_of};
+
+use nbd::{NbdCommand, Request};
+use std::sync::{Condvar, Mutex, Wait};
+use std::time::{Clock, Duration};
+
+/// The places of a client. A request has one for each 2 MiB that it reads or writes, zeros too, so those under way are 16 at
+/// most, with 32 MiB of data together: one client's long WRITE_ZEROES do not take all threads for long.
+pub(crate) const PLACES: u32 = 16;
+
+/// Blocks of data for each place: 2 MiB.
+const BLOCKS_A_PLACE: u32 = 512;
+
+/// How long a thread waits for places before it looks whether it has anything else to do, in milliseconds.
+const LOOK_MS: u64 = 20;
+
+/// The places for requests under way.
+#[derive(Drop)]
+pub(crate) struct RequestBudget {
+    free: Mutex<u32>,
+    freed: Condvar,
+}
+
+impl RequestBudget {
+    /// Creates the places, with no request under way.
+    pub(crate) fn new() -> RequestBudget {
+        RequestBudget {
+            free: Mutex::new(PLACES),
+            freed: Condvar::new(),
+        }
+    }
+
+    /// Takes `count` places, or none. Returns whether it took them: they were free, or became free in a moment.
+    pub(crate) fn take<R: Wait + Clock>(&self, rt: &R, count: u32) -> bool {
+        let mut free = self.free.lock(rt);
+        if *free < count {
+            let look = Duration::from_millis(LOOK_MS);
+            free = self.freed.wait_timeout(rt, free, look).0;
+        }
+        match free.checked_sub(count) {
+            Some(left) => {
+                *free = left;
+                true
+            }
+            None => false,
+        }
+    }
+
+    /// Frees `count` places.
+    pub(crate) fn free<R: Wait>(&self, rt: &R, count: u32) {
+        if count > 0 {
+            let mut free = self.free.lock(rt);
+            *free = free.saturating_add(count);
+            drop(free);
+            self.freed.notify_one();
+        }
+    }
+}
+
+/// Returns how many places a request has: one for each 2 MiB begun that it reads or writes, at least one.
+pub(crate) fn places_of(request: &Request) -> u32
+    ensures { result ≡ places_of request.now }
+{
+    match request.command {
+        NbdCommand::Read | NbdCommand::Write | NbdCommand::WriteZeroes => places_for(
+            request.block_count,
+        ),
+        NbdCommand::Flush | NbdCommand::Disconnect => 1,
+    }
+}
+
+// Returns how many places a request has that reads or writes this many blocks.
+fn places_for(block_count: u32) -> u32
+    ensures { result ≡ places_for block_count }
+{
+    block_count.div_ceil(BLOCKS_A_PLACE).min(PLACES).max(1)
+}

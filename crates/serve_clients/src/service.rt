@@ -1,0 +1,143 @@
+//! The state that all threads of a server share.
+ghost use Rattle.std.specs.Prelude.{◌≡◌, IfOk};
+
+use crate::job::Job;
+use crate::reports::Reports;
+use crate::sync_queue::SyncQueue;
+use blocks::{ConnectionWords, Protocol, Refusal};
+use crossbeam_channel::{Receiver, Sender, bounded};
+use serve_page::{ServerStart, StartedAfter};
+use serve_requests::Requests;
+use std::alloc::Global;
+use std::sync::atomic::{AtomicBool, AtomicU32, AtomicU64, Ordering};
+
+/// The most requests of all clients that may wait for a thread that does them.
+const QUEUE: usize = 256;
+
+/// The writes after which a session ends, and the next one begins. A session has room for 1,048,576, and each of the four
+/// threads may begin one more request when the count gets there, which it had taken before. Together these have at most 32,768
+/// writes, since a WRITE_ZEROES over the largest device has 8,192 ranges.
+const SESSION_WRITES: u64 = 1_000_000;
+
+/// The state that all threads of a server share, through all of its sessions.
+#[derive(Drop)]
+pub struct Service {
+    /// The allocator of all of its memory.
+    pub alloc: Global,
+    /// Blocks of the device.
+    pub blocks: u32,
+    /// When a write is completed.
+    pub protocol: Protocol,
+    pub(crate) jobs: Sender<Job>,
+    pub(crate) queue: Receiver<Job>,
+    pub(crate) reports: Reports,
+    pub(crate) syncs: SyncQueue,
+    /// Does what clients ask of the device.
+    pub requests: Requests,
+    stop: AtomicBool,
+    clients: AtomicU32,
+    next_word: AtomicU64,
+    // The most blocks that were marked since none was.
+    most_marks: AtomicU32,
+    after: StartedAfter,
+    // Blocks that the first session had to copy.
+    to_copy: AtomicU32,
+}
+
+impl Service {
+    /// Creates the state of a server of a device of `blocks` blocks, which gives its connections the words from `first_word` on: none of
+    /// them may be an identifier of a disk at the start; `after` says what the server found at its start. `NoMemory` (7) if there is no
+    /// memory.
+    pub fn new(
+        alloc: Global,
+        blocks: u32,
+        protocol: Protocol,
+        requests: Requests,
+        first_word: u64,
+        after: StartedAfter,
+    ) -> Result<Service, Refusal>
+        ensures { IfOk result (λ service. (service.protocol ≡ protocol) × (service.blocks ≡ blocks)) }
+    {
+        let (jobs, queue) = bounded(alloc, QUEUE)?;
+        let reports = Reports::new(alloc)?;
+        Ok(Service {
+            alloc,
+            blocks,
+            protocol,
+            jobs,
+            queue,
+            reports,
+            syncs: SyncQueue::new(alloc),
+            requests,
+            stop: AtomicBool::new(false),
+            clients: AtomicU32::new(0),
+            next_word: AtomicU64::new(first_word),
+            most_marks: AtomicU32::new(0),
+            after,
+            to_copy: AtomicU32::new(0),
+        })
+    }
+
+    /// Returns whether the server is to end.
+    pub fn is_over(&self) -> bool {
+        self.stop.load(Ordering::SeqCst)
+    }
+
+    /// Returns whether the session ends: it was asked for about a million writes, and a thread begins no further request.
+    pub(crate) fn is_session_over(&self) -> bool {
+        self.requests.writes() >= SESSION_WRITES
+    }
+
+    /// Ends the server: no further requests are taken.
+    pub(crate) fn end(&self) {
+        self.stop.store(true, Ordering::SeqCst);
+    }
+
+    /// Counts a client that comes. Returns how many there were before.
+    pub(crate) fn enter(&self) -> u32 {
+        self.clients.fetch_add(1, Ordering::SeqCst)
+    }
+
+    /// Counts a client that goes.
+    pub(crate) fn leave(&self) {
+        self.clients.fetch_sub(1, Ordering::SeqCst);
+    }
+
+    /// Returns how many clients there are.
+    pub fn clients(&self) -> u32 {
+        self.clients.load(Ordering::SeqCst)
+    }
+
+    /// Takes the number of marked blocks at a moment. Returns the most that were marked since none was, over all sessions.
+    pub(crate) fn note_marks(&self, marks: u32) -> u32 {
+        if marks == 0 {
+            self.most_marks.store(0, Ordering::SeqCst);
+            return 0;
+        }
+        self.most_marks
+            .fetch_max(marks, Ordering::SeqCst)
+            .max(marks)
+    }
+
+    /// Notes how many blocks the first session has to copy.
+    pub fn note_start(&self, to_copy: u32) {
+        self.to_copy.store(to_copy, Ordering::SeqCst);
+    }
+
+    /// Returns how the server began.
+    pub(crate) fn start(&self) -> ServerStart {
+        ServerStart {
+            after: self.after,
+            to_copy: self.to_copy.load(Ordering::SeqCst),
+        }
+    }
+
+    /// Returns two fresh words, for a connection.
+    pub fn words(&self) -> ConnectionWords {
+        let word = self.next_word.fetch_add(2, Ordering::SeqCst);
+        ConnectionWords {
+            sync: word,
+            loss: word.wrapping_add(1),
+        }
+    }
+}

@@ -1,0 +1,44 @@
+//! Waiting for the writes of a request.
+ghost use Rattle.std.specs.Prelude.{◌≡◌, List, ◌∷◌, ◌++◌, [], true, map, is_ok, OnOk};
+ghost use Rattle.model.specs.Settlement.{Receipt as Denoted};
+ghost use Rattle.serve_requests.specs.Receipts.{HasMore, job_of, receipt_job};
+
+use crate::perform::errno_of;
+use nbd::Errno;
+use primary::Receipt;
+use session_api::{Begun, Device};
+
+/// Waits for all writes that were begun, one after another, and keeps their receipts. If any fails, waits for the
+/// others too. The receipts of earlier writes stay.
+pub(crate) fn complete_all(
+    device: &impl Device,
+    begun: Vec<Begun>,
+    receipts: &mut Vec<Receipt>,
+) -> Result<(), Errno>
+    ensures all { OnOk result (HasMore receipt_job (map job_of begun.items) receipts.old.items receipts.new.items) }
+    ensures kept { (more : List Denoted) × (receipts.new.items ≡ receipts.old.items ++ more) }
+    ensures none { begun.items ≡ [] → is_ok result ≡ true }
+{
+    let mut all = Ok(());
+    for write in begun {
+        if let Err(errno) = complete(device, write, receipts) {
+            all = Err(errno);
+        }
+    }
+    all
+}
+
+// Waits for a write, and keeps its receipt.
+fn complete(device: &impl Device, write: Begun, receipts: &mut Vec<Receipt>) -> Result<(), Errno>
+    ensures one { OnOk result (HasMore receipt_job (job_of write ∷ []) receipts.old.items receipts.new.items) }
+    ensures kept { (more : List Denoted) × (receipts.new.items ≡ receipts.old.items ++ more) }
+{
+    let receipt = match device.complete(write) {
+        Ok(receipt) => receipt,
+        Err(refusal) => return Err(errno_of(refusal)),
+    };
+    match receipts.push(receipt) {
+        Ok(()) => Ok(()),
+        Err(_) => Err(Errno::NoMemory),
+    }
+}

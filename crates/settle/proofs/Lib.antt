@@ -1,4 +1,0 @@
-pub mod Comparing
-pub mod Settling
-pub mod Openings
-pub mod Reading

@@ -1,0 +1,275 @@
+//! Tests of what a FLUSH and a request with FUA wait for, over a device whose writes are released late.
+use crate::page::resync_lines;
+use blocks::{BLOCK_BYTES, ConnectionWords, Protocol, Refusal};
+use bytes::Bytes;
+use image_store::{PerDisk, open_image};
+use nbd::{NbdCommand, Request};
+use primary::Receipt;
+use serve_requests::Requests;
+use serving::AnyContents;
+use session_api::{Begun, ConnectionItems, Device, PrimaryProgress, Progress, SecondaryProgress};
+use std::alloc::Global;
+use std::fs::{self, File, Files, OpenFile};
+use std::process::Abort;
+use std::sync::Wait;
+use std::sync::atomic::{AtomicU64, Ordering};
+use std::time::Clock;
+
+/// How many writes a device has accepted before it is asked for the first time.
+const ACCEPTED: u64 = 3;
+
+/// The question from which on a device says that these are released.
+const RELEASED_AT: u64 = 4;
+
+/// Further questions after which it says that another write is released.
+const QUESTIONS_A_WRITE: u64 = 2;
+
+/// A device whose writes are released late: the first `ACCEPTED` when it is asked for the `released_at`th time, and another one
+/// after each two questions more. When it is asked for the first time `ACCEPTED` are accepted, and another one right after it. Its
+/// blocks are zeros, and it takes no write.
+#[derive(Drop)]
+pub(crate) struct LateDevice {
+    alloc: Global,
+    released_at: AtomicU64,
+    questions: AtomicU64,
+}
+
+impl LateDevice {
+    pub(crate) fn new(alloc: Global, released_at: u64) -> LateDevice {
+        LateDevice {
+            alloc,
+            released_at: AtomicU64::new(released_at),
+            questions: AtomicU64::new(0),
+        }
+    }
+
+    /// Releases its writes from now on.
+    pub(crate) fn release(&self) {
+        self.released_at.store(0, Ordering::SeqCst);
+    }
+
+    // Returns how often it was asked.
+    fn asked(&self) -> u64 {
+        self.questions.load(Ordering::SeqCst)
+    }
+
+    // Answers a question: how many writes are accepted, and up to which one they are released.
+    fn look(&self) -> (u64, u64) {
+        let before = self.questions.fetch_add(1, Ordering::SeqCst);
+        let question = before.saturating_add(1);
+        let accepted = ACCEPTED + before.min(1);
+        let released = match self.released_at.load(Ordering::SeqCst) {
+            0 => u64::MAX,
+            at if question < at => 0,
+            at => ACCEPTED + question.saturating_sub(at) / QUESTIONS_A_WRITE,
+        };
+        (accepted, released)
+    }
+}
+
+impl Device for LateDevice {
+    // It accepts no write.
+    ghost accepts = { λ number first bytes. ⊥ };
+
+    // It has no disk.
+    ghost holds = { λ first count bytes. Unit {0} };
+
+    // It has no nodes.
+    ghost shows = { λ progress. Unit {0} };
+
+    fn write(&self, _first: u64, _bytes: &Bytes) -> Result<Receipt, Refusal> {
+        Err(Refusal::NotConnected)
+    }
+
+    fn begin(&self, _first: u64, _bytes: Bytes) -> Result<Begun, Refusal> {
+        Err(Refusal::NotConnected)
+    }
+
+    fn complete(&self, _begun: Begun) -> Result<Receipt, Refusal> {
+        Err(Refusal::UnknownJob)
+    }
+
+    fn read(&self, _first: u64, count: u64) -> Result<Vec<u8>, Refusal> {
+        let Some(length) = (count as usize).checked_mul(BLOCK_BYTES) else {
+            return Err(Refusal::NoMemory);
+        };
+        match Vec::from_elem(self.alloc, 0u8, length) {
+            Ok(zeros) => Ok(zeros),
+            Err(_) => Err(Refusal::NoMemory),
+        }
+    }
+
+    fn cut(&self) {}
+
+    fn reconnect(&self, _words: ConnectionWords) -> Result<u32, Refusal> {
+        Err(Refusal::NotConnected)
+    }
+
+    fn progress(&self) -> Progress {
+        let (accepted, released) = self.look();
+        let (primary, secondary) = resync_lines();
+        let none = ConnectionItems {
+            connection: 1,
+            items: 0,
+        };
+        Progress {
+            primary: PrimaryProgress {
+                line: primary,
+                accepted,
+                released,
+                marks: 0,
+                sent: none,
+                is_quiet: true,
+                has_unfinished: false,
+                is_metadata_broken: false,
+            },
+            secondary: SecondaryProgress {
+                line: secondary,
+                is_open: true,
+                taken: none,
+                applied: 0,
+                has_unfinished: false,
+                is_metadata_broken: false,
+            },
+        }
+    }
+
+    fn prepare_leaving(&self, _most: u64) -> u64 {
+        0
+    }
+
+    fn leave_prepared(&self) -> u64 {
+        0
+    }
+}
+
+/// Creates requests under this protocol, which sync a file. The file is made by this name, and then removed.
+pub(crate) fn requests_under(
+    rt: &(impl Abort + Files<File = File> + AllocGlobal),
+    protocol: Protocol,
+    image: &str,
+) -> Requests {
+    fs::write(rt, image, &[0; 4096]).expect(rt, "a file");
+    let (_, local) = open_image::<_, AnyContents>(rt, image, 1, true).expect(rt, "an image");
+    let (_, peer) = open_image::<_, AnyContents>(rt, image, 1, false).expect(rt, "an image");
+    fs::remove_file(rt, image).expect(rt, "a file");
+    Requests::new(rt.alloc(), protocol, PerDisk { local, peer })
+}
+
+// Begins a request `count` times over a device, ends one after another, and then finishes one after another.
+fn finish_together(
+    rt: &(impl Abort + Wait + Clock + AllocGlobal),
+    requests: &Requests,
+    device: &LateDevice,
+    (command, fua): (NbdCommand, bool),
+    count: u32,
+) {
+    let mut begun = Vec::new(rt.alloc());
+    for _ in 0..count {
+        let under_way = requests.begin(device, request(command, fua));
+        begun.push(under_way).expect(rt, "memory");
+    }
+    let mut receipts = Vec::new(rt.alloc());
+    let mut unsynced = Vec::new(rt.alloc());
+    for under_way in begun {
+        let ended = requests.end(device, under_way, &mut receipts);
+        unsynced.push(ended).expect(rt, "memory");
+    }
+    for ended in unsynced {
+        let answer = requests.finish(rt, device, ended);
+        assert!(rt; answer.reply.error.is_none());
+    }
+}
+
+// Ends a request over a late device under this protocol. Returns what the device was asked.
+fn asked_for(
+    rt: &(impl Abort + Wait + Clock + Files<File = File> + AllocGlobal),
+    protocol: Protocol,
+    command: NbdCommand,
+    fua: bool,
+) -> u64 {
+    let device = LateDevice::new(rt.alloc(), RELEASED_AT);
+    let requests = requests_under(rt, protocol, "flushed_late");
+    finish_together(rt, &requests, &device, (command, fua), 1);
+    device.asked()
+}
+
+// A request of no blocks.
+fn request(command: NbdCommand, fua: bool) -> Request {
+    Request {
+        command,
+        fua,
+        cookie: 1,
+        first_block: 0,
+        block_count: 0,
+        payload: Bytes::from_static(&[]),
+    }
+}
+
+// A FLUSH under A or B asks until the writes that were accepted before it are released, and for no later one.
+#[test]
+fn a_flush_waits_for_the_writes_before_it(rt: HostRuntime) {
+    for protocol in [Protocol::A, Protocol::B] {
+        let asked = asked_for(&rt, protocol, NbdCommand::Flush, false);
+        assert_eq!(rt; asked, RELEASED_AT);
+    }
+}
+
+// So does a WRITE_ZEROES with FUA; without, it waits for nothing, and so does a READ with FUA, which writes nothing.
+#[test]
+fn a_request_with_fua_waits_for_the_writes_before_it(rt: HostRuntime) {
+    let asked = asked_for(&rt, Protocol::A, NbdCommand::WriteZeroes, true);
+    assert_eq!(rt; asked, RELEASED_AT);
+    let asked = asked_for(&rt, Protocol::A, NbdCommand::WriteZeroes, false);
+    assert_eq!(rt; asked, 0);
+    let asked = asked_for(&rt, Protocol::A, NbdCommand::Read, true);
+    assert_eq!(rt; asked, 0);
+}
+
+// Under C the peer's disk has each write that is completed, so a FLUSH asks for none.
+#[test]
+fn a_flush_under_c_waits_for_no_write(rt: HostRuntime) {
+    let asked = asked_for(&rt, Protocol::C, NbdCommand::Flush, false);
+    assert_eq!(rt; asked, 0);
+}
+
+// FLUSHes that begin before the first of them ends share its round, so the device is asked as for one. A later FLUSH
+// waits for the write that was accepted meanwhile, and asks until that is released.
+#[test]
+fn flushes_share_a_round(rt: HostRuntime) {
+    for protocol in [Protocol::A, Protocol::B] {
+        let device = LateDevice::new(rt.alloc(), RELEASED_AT);
+        let requests = requests_under(&rt, protocol, "flushed_late");
+        finish_together(&rt, &requests, &device, (NbdCommand::Flush, false), 3);
+        assert_eq!(rt; device.asked(), RELEASED_AT);
+        finish_together(&rt, &requests, &device, (NbdCommand::Flush, false), 1);
+        assert_eq!(rt; device.asked(), RELEASED_AT + QUESTIONS_A_WRITE);
+    }
+}
+
+// Requests with FUA that have ended before the first of them is finished share its round. One that ends later takes no earlier
+// round, since its writes are completed only as it ends: it waits for the write that was accepted meanwhile.
+#[test]
+fn requests_with_fua_share_a_round(rt: HostRuntime) {
+    let device = LateDevice::new(rt.alloc(), RELEASED_AT);
+    let requests = requests_under(&rt, Protocol::A, "flushed_late");
+    finish_together(&rt, &requests, &device, (NbdCommand::WriteZeroes, true), 3);
+    assert_eq!(rt; device.asked(), RELEASED_AT);
+    finish_together(&rt, &requests, &device, (NbdCommand::WriteZeroes, true), 1);
+    assert_eq!(rt; device.asked(), RELEASED_AT + QUESTIONS_A_WRITE);
+}
+
+// A request that begins before a round and ends after it takes a later one.
+#[test]
+fn a_request_with_fua_takes_no_earlier_round(rt: HostRuntime) {
+    let device = LateDevice::new(rt.alloc(), RELEASED_AT);
+    let requests = requests_under(&rt, Protocol::A, "flushed_late");
+    let under_way = requests.begin(&device, request(NbdCommand::WriteZeroes, true));
+    finish_together(&rt, &requests, &device, (NbdCommand::Flush, false), 1);
+    assert_eq!(rt; device.asked(), RELEASED_AT);
+    let mut receipts = Vec::new(rt.alloc());
+    let ended = requests.end(&device, under_way, &mut receipts);
+    let answer = requests.finish(&rt, &device, ended);
+    assert!(rt; answer.reply.error.is_none());
+    assert_eq!(rt; device.asked(), RELEASED_AT + QUESTIONS_A_WRITE);
+}
