@@ -2,6 +2,7 @@
 use clap::Error;
 use clap::error::ErrorKind;
 use program_values::Status;
+use std::alloc::AllocError;
 use std::io::Write;
 
 /// Why a command line was not accepted.
@@ -9,8 +10,12 @@ use std::io::Write;
 pub enum UsageFault<'a> {
     /// They ask for help or the version, which is then in the error, or they are wrong.
     Words(Error),
-    /// A server is to listen at this, which is no numeric address with a port.
+    /// A server is to listen at this, which is no numeric address with a port and no path of a socket.
     Address(&'a str),
+    /// A status page is to be at this, which is no port and no path of a socket.
+    Page(&'a str),
+    /// This is no name of a server.
+    Name(&'a str),
     /// Both disks are to have this image.
     SharedImage(&'a str),
 }
@@ -25,7 +30,21 @@ impl UsageFault<'_> {
             UsageFault::Address(address) => {
                 let _ = writeln!(
                     err,
-                    "error: --listen {address}: give an IP address and a port, as in 127.0.0.1:10809"
+                    "error: --listen {address}: give an IP address and a port, as in 127.0.0.1:10809, or unix:PATH"
+                );
+                Status::Misused
+            }
+            UsageFault::Page(address) => {
+                let _ = writeln!(
+                    err,
+                    "error: --status {address}: give a port of 127.0.0.1, as in 8080, or unix:PATH"
+                );
+                Status::Misused
+            }
+            UsageFault::Name(name) => {
+                let _ = writeln!(
+                    err,
+                    "error: {name} is no name of a server: give 1 to 64 letters, digits, -, _ and ., the first a letter or a digit, and not all"
                 );
                 Status::Misused
             }
@@ -37,6 +56,12 @@ impl UsageFault<'_> {
                 Status::Misused
             }
         }
+    }
+}
+
+impl From<AllocError> for UsageFault<'_> {
+    fn from(fault: AllocError) -> Self {
+        UsageFault::Words(Error::from(fault))
     }
 }
 

@@ -156,13 +156,13 @@ failed in the hello.
 const SERVE_STATUSES: &str = "
 Exit statuses: 0 done; 1 an image cannot be opened or locked, is no regular file
 or block device, is of another length or is in use, the images cannot be
-compared, an address cannot be listened at, or memory, a thread or the output
-failed, or a metadata file cannot be used; or, at the end, blocks were not copied
-or differ without a mark, a sync has failed, or an image may have kept parts of a
-failed write, was replaced or has another length; 2 wrong usage; 3 the images
-are given the wrong way round, or a session was refused by another number than
-7. Of several faults the last line tells the first, and a line before it each
-further one.
+compared, an address cannot be listened at or is in use, or memory, a thread or
+the output failed, or a metadata file cannot be used; or, at the end, blocks were
+not copied or differ without a mark, a sync has failed, or an image may have kept
+parts of a failed write, was replaced or has another length; 2 wrong usage; 3 the
+images are given the wrong way round, or a session was refused by another number
+than 7. Of several faults the last line tells the first, and a line before it
+each further one.
 ";
 
 /// What a run over sockets does.
@@ -243,10 +243,25 @@ pipe:
 With --cut-every S the link is cut every S seconds, and reconnected: the blocks
 that clients write meanwhile are marked, and copied at the next connection.
 
-With --status PORT a page tells of both nodes: the status lines, as
+Clients come by each address of --listen, which may be given more than once. With
+unix:PATH that is a Unix socket of mode 0660 for clients of the same machine: put
+it into a folder of its own, whose mode says who gets there. A dead server's
+socket is replaced; if a server answers there, or it is no socket, this one fails
+with status 1.
+  drbdpair serve --local a.img --peer b.img --listen unix:/srv/sockets/nbd
+  nbdinfo 'nbd+unix:///?socket=/srv/sockets/nbd'
+
+With --status PORT, or unix:PATH, a page tells of both nodes: the status lines, as
 drbdpair script --help explains them, and the same as JSON.
   curl http://127.0.0.1:PORT/
   curl http://127.0.0.1:PORT/status.json
+
+With --name NAME the page is also at the Unix socket NAME/status in the folder of
+--run-dir, where drbdpair status NAME and its kin ask. The folder NAME is made if
+it is not there. A name has 1 to 64 letters, digits, -, _ and ., the first a letter
+or a digit.
+  drbdpair serve --local a.img --peer b.img --name r0 --run-dir /tmp/run
+  drbdpair status r0 --run-dir /tmp/run
 
 A start that fails prints a line on standard error that says why.
 ";

@@ -6,6 +6,7 @@ mod fault;
 mod help;
 mod images;
 mod order;
+mod queries;
 mod run;
 mod serve;
 

@@ -1,10 +1,11 @@
 //! The order that a command line gives.
 use crate::fault::UsageFault;
 use crate::help::{CreateMdHelp, DumpMdHelp, RunHelp, ScriptHelp, ServeHelp, TcpHelp, VerifyHelp};
-use crate::{images, run, serve};
+use crate::{images, queries, run, serve};
 use clap::{Arg, ArgMatches, Command, Error};
 use program_values::{
-    DumpFormat, ImageOptions, Images, Path, RunOptions, ServeOptions, VerifyOptions,
+    Asked, Awaited, DumpFormat, ImageOptions, Images, Path, Question, RunOptions, ServeOptions,
+    VerifyOptions, WaitOptions,
 };
 use std::alloc::{AllocError, Global};
 use std::convert::AsStr;
@@ -16,7 +17,7 @@ const ABOUT: &str =
 const VERSION: &str = "0.1.0";
 
 /// What the program is to do.
-#[derive(Clone, Copy, Debug, PartialEq, Eq)]
+#[derive(Drop)]
 pub enum Order<'a> {
     /// To run the script of this file, `-` being the standard input.
     Script(&'a str),
@@ -30,6 +31,10 @@ pub enum Order<'a> {
     DumpMd(ImageOptions<'a>, DumpFormat),
     /// To compare both images of a mirror.
     Verify(VerifyOptions<'a>),
+    /// To ask these servers for something.
+    Ask(Asked<'a>, Question),
+    /// To wait for a server.
+    Wait(WaitOptions<'a>),
 }
 
 /// The texts below the usages.
@@ -62,7 +67,8 @@ impl HelpTexts {
 /// Reads the program's words; the first one is its name. `progress` says whether a long run shows its progress.
 ///
 /// `UsageFault::Words` if they ask for help or the version, or are wrong, `UsageFault::SharedImage` if both disks are to have the same image,
-/// `UsageFault::Address` if a server is to listen at no numeric address with a port.
+/// `UsageFault::Address` if a server is to listen at no numeric address with a port and no path, `UsageFault::Page` if its page is to be at
+/// no port and no path, `UsageFault::Name` for a word that is no name of a server.
 pub fn parse<'a, S: AsStr>(
     alloc: Global,
     helps: &'a HelpTexts,
@@ -70,7 +76,7 @@ pub fn parse<'a, S: AsStr>(
     progress: bool,
 ) -> Result<Order<'a>, UsageFault<'a>> {
     match matches_of(alloc, helps, words) {
-        Ok(matches) => order_of(&matches, progress),
+        Ok(matches) => order_of(alloc, &matches, progress),
         Err(error) => Err(UsageFault::Words(error)),
     }
 }
@@ -101,14 +107,23 @@ fn matches_of<'a, S: AsStr>(
         .subcommand(images::create_md(alloc, helps.create_md.as_str())?)?
         .subcommand(images::dump_md(alloc, helps.dump_md.as_str())?)?
         .subcommand(images::verify(alloc, helps.verify.as_str())?)?
+        .subcommand(queries::status(alloc)?)?
+        .subcommand(queries::cstate(alloc)?)?
+        .subcommand(queries::dstate(alloc)?)?
+        .subcommand(queries::wait_sync(alloc)?)?
+        .subcommand(queries::wait_connect(alloc)?)?
         .try_get_matches_from(words)
 }
 
-fn order_of<'a>(matches: &ArgMatches<'a>, progress: bool) -> Result<Order<'a>, UsageFault<'a>> {
+fn order_of<'a>(
+    alloc: Global,
+    matches: &ArgMatches<'a>,
+    progress: bool,
+) -> Result<Order<'a>, UsageFault<'a>> {
     match matches.subcommand() {
         Some(("run", words)) => run_of(words, Path::Link, progress),
         Some(("tcp", words)) => run_of(words, Path::Sockets, progress),
-        Some(("serve", words)) => serve_of(words),
+        Some(("serve", words)) => serve_of(alloc, words),
         Some(("create-md", words)) => Ok(Order::CreateMd(
             images::image_options(words),
             words.get_flag("force"),
@@ -118,9 +133,25 @@ fn order_of<'a>(matches: &ArgMatches<'a>, progress: bool) -> Result<Order<'a>, U
             images::format(words),
         )),
         Some(("verify", words)) => verify_of(words),
-        Some((_, words)) => Ok(Order::Script(words.get_str("FILE").unwrap_or("-"))),
+        Some((name, words)) => match query_of(name, words)? {
+            Some(order) => Ok(order),
+            None => Ok(Order::Script(words.get_str("FILE").unwrap_or("-"))),
+        },
         None => Ok(Order::Script("-")),
     }
+}
+
+// Returns the order for a command that asks running servers, or `None` if it is another one.
+fn query_of<'a>(name: &str, words: &ArgMatches<'a>) -> Result<Option<Order<'a>>, UsageFault<'a>> {
+    let question = match name {
+        "status" => queries::status_question(words),
+        "cstate" => Question::Connection,
+        "dstate" => Question::Disks,
+        "wait-sync" => return Ok(Some(Order::Wait(queries::wait(words, Awaited::Sync)?))),
+        "wait-connect" => return Ok(Some(Order::Wait(queries::wait(words, Awaited::Connection)?))),
+        _ => return Ok(None),
+    };
+    Ok(Some(Order::Ask(queries::asked(words)?, question)))
 }
 
 // Returns the order for a run whose frames take this path.
@@ -136,14 +167,11 @@ fn run_of<'a>(
 }
 
 // Returns the order for a server.
-fn serve_of<'a>(words: &ArgMatches<'a>) -> Result<Order<'a>, UsageFault<'a>> {
+fn serve_of<'a>(alloc: Global, words: &ArgMatches<'a>) -> Result<Order<'a>, UsageFault<'a>> {
     if let Some(image) = shared_image(words) {
         return Err(UsageFault::SharedImage(image));
     }
-    match serve::options(words) {
-        Some(options) => Ok(Order::Serve(options)),
-        None => Err(UsageFault::Address(serve::listen(words))),
-    }
+    Ok(Order::Serve(serve::options(alloc, words)?))
 }
 
 // Returns the order for a comparison.

@@ -1,11 +1,12 @@
 //! The words of `serve`.
+use crate::fault::UsageFault;
 use crate::run::{number, option, protocol, protocol_option};
 use blocks::MAX_DEVICE_BLOCKS;
 use clap::builder::ValueParser;
 use clap::{Arg, ArgAction, ArgMatches, Command, Error};
-use program_values::{FirstStart, MetadataFiles, ServeOptions};
-use std::alloc::Global;
-use std::net::SocketAddr;
+use program_values::{FirstStart, ListenAt, MetadataFiles, ServeOptions, ServerName, decimal};
+use std::alloc::{AllocError, Global};
+use std::net::{Ipv4Addr, SocketAddr};
 
 /// The values of `--metadata`.
 const METADATA: [&str; 2] = ["beside", "none"];
@@ -29,9 +30,16 @@ fn with_device<'a>(alloc: Global, command: Command<'a>) -> Result<Command<'a>, E
     let command = command
         .arg(option(alloc, "local", "FILE", "The image of the local disk").required(true))?
         .arg(option(alloc, "peer", "FILE", "The image of the peer's disk").required(true))?
-        .arg(option(alloc, "listen", "ADDR:PORT", "Where clients connect").default_value(
-            "127.0.0.1:10809",
-        ))?
+        .arg(
+            option(
+                alloc,
+                "listen",
+                "ADDRESS",
+                "Where clients connect: ADDR:PORT or unix:PATH; may be given more than once",
+            )
+            .action(ArgAction::Append)
+            .default_value("127.0.0.1:10809"),
+        )?
         .arg(protocol_option(alloc))?
         .arg(number(
             alloc,
@@ -75,14 +83,20 @@ fn with_metadata<'a>(alloc: Global, command: Command<'a>) -> Result<Command<'a>,
 // Adds the options of the page, and of the link that it tells of.
 fn with_link<'a>(alloc: Global, command: Command<'a>) -> Result<Command<'a>, Error> {
     let command = command
-        .arg(number(
+        .arg(option(
             alloc,
             "status",
-            "PORT",
-            "The port of a status page on 127.0.0.1",
-            1,
-            65_535,
+            "ADDRESS",
+            "Where a status page is: a port of 127.0.0.1 or unix:PATH; may be given more than once",
+        )
+        .action(ArgAction::Append))?
+        .arg(option(
+            alloc,
+            "name",
+            "NAME",
+            "The server's name: it puts a status socket into the folder of that name",
         ))?
+        .arg(run_folder_option(alloc))?
         .arg(number(
             alloc,
             "cut-every",
@@ -116,28 +130,108 @@ fn with_start_and_end<'a>(alloc: Global, command: Command<'a>) -> Result<Command
     Ok(command)
 }
 
-/// Returns what the server is to do; `None` if it is to listen at something that is no numeric address with a port.
-pub(crate) fn options<'a>(words: &ArgMatches<'a>) -> Option<ServeOptions<'a>> {
-    let Ok(listen) = SocketAddr::parse_ascii(listen(words).as_bytes()) else {
-        return None;
-    };
-    Some(ServeOptions {
+/// Creates the option for the folder in which named servers have one each.
+pub(crate) fn run_folder_option<'a>(alloc: Global) -> Arg<'a> {
+    option(
+        alloc,
+        "run-dir",
+        "FOLDER",
+        "Where named servers have a folder each",
+    )
+    .default_value("/run/drbdpair")
+}
+
+/// Returns what the server is to do. The faults are those of `parse`, and of memory.
+pub(crate) fn options<'a>(
+    alloc: Global,
+    words: &ArgMatches<'a>,
+) -> Result<ServeOptions<'a>, UsageFault<'a>> {
+    Ok(ServeOptions {
         local: words.get_str("local").unwrap_or(""),
         peer: words.get_str("peer").unwrap_or(""),
         blocks: words.get_one("blocks"),
         metadata: metadata(words),
         protocol: protocol(words),
-        listen,
-        page_port: page_port(words),
+        listen: listen(alloc, words)?,
+        pages: pages(alloc, words)?,
+        name: name(words)?,
         cut_every: words.get_one("cut-every"),
         first: first(words),
         compare: words.get_flag("compare"),
     })
 }
 
-/// Returns where the server is to listen, as it was given.
-pub(crate) fn listen<'a>(words: &ArgMatches<'a>) -> &'a str {
-    words.get_str("listen").unwrap_or("")
+// Returns where clients are to connect.
+fn listen<'a>(alloc: Global, words: &ArgMatches<'a>) -> Result<Vec<ListenAt<'a>>, UsageFault<'a>> {
+    let mut places = Vec::new(alloc);
+    for word in words.get_strs("listen").unwrap_or(&[]) {
+        match listen_at(*word) {
+            Some(place) => append(&mut places, place)?,
+            None => return Err(UsageFault::Address(*word)),
+        }
+    }
+    Ok(places)
+}
+
+// Returns where clients of the status page are to connect.
+fn pages<'a>(alloc: Global, words: &ArgMatches<'a>) -> Result<Vec<ListenAt<'a>>, UsageFault<'a>> {
+    let mut places = Vec::new(alloc);
+    for word in words.get_strs("status").unwrap_or(&[]) {
+        match page_at(*word) {
+            Some(place) => append(&mut places, place)?,
+            None => return Err(UsageFault::Page(*word)),
+        }
+    }
+    Ok(places)
+}
+
+// Appends a place to those before it.
+fn append<'a>(places: &mut Vec<ListenAt<'a>>, place: ListenAt<'a>) -> Result<(), AllocError> {
+    places.push(place)?;
+    Ok(())
+}
+
+// Returns the place that a word names: an IP address and a port, or the path of a socket.
+fn listen_at<'a>(word: &'a str) -> Option<ListenAt<'a>> {
+    if let Some(path) = word.strip_prefix("unix:") {
+        return unix_at(path);
+    }
+    match SocketAddr::parse_ascii(word.as_bytes()) {
+        Ok(address) => Some(ListenAt::Ip(address)),
+        Err(_) => None,
+    }
+}
+
+// Returns the place that a word names: a port of this machine, or the path of a socket.
+fn page_at<'a>(word: &'a str) -> Option<ListenAt<'a>> {
+    if let Some(path) = word.strip_prefix("unix:") {
+        return unix_at(path);
+    }
+    let port = u16::try_from(decimal(word)?).ok()?;
+    if port == 0 {
+        return None;
+    }
+    Some(ListenAt::Ip(SocketAddr::from((Ipv4Addr::LOCALHOST, port))))
+}
+
+// Returns the place of a socket's path; none if that is empty.
+fn unix_at<'a>(path: &'a str) -> Option<ListenAt<'a>> {
+    if path.is_empty() {
+        return None;
+    }
+    Some(ListenAt::Unix(path))
+}
+
+// Returns the server's name, if it has one.
+fn name<'a>(words: &ArgMatches<'a>) -> Result<Option<ServerName<'a>>, UsageFault<'a>> {
+    let Some(name) = words.get_str("name") else {
+        return Ok(None);
+    };
+    if !ServerName::is_name(name) {
+        return Err(UsageFault::Name(name));
+    }
+    let run_folder = words.get_str("run-dir").unwrap_or("");
+    Ok(Some(ServerName { name, run_folder }))
 }
 
 // Returns where the metadata of both images is.
@@ -158,10 +252,4 @@ fn first(words: &ArgMatches<'_>) -> FirstStart {
         Some("assume-equal") => FirstStart::AssumeEqual,
         _ => FirstStart::Compare,
     }
-}
-
-// Returns the port of the status page, if there is to be one.
-fn page_port(words: &ArgMatches<'_>) -> Option<u16> {
-    let port: u32 = words.get_one("status")?;
-    u16::try_from(port).ok()
 }

@@ -1,5 +1,5 @@
 //! The program, from its words to its exit status.
-ghost use Rattle.std.specs.Prelude.{◌≤◌};
+ghost use Rattle.std.specs.Prelude.{◌≡◌, ◌≤◌, ◌⊎◌};
 
 use command_line::{HelpTexts, Order, parse};
 use program_values::Status;
@@ -16,7 +16,7 @@ use std::random::RandomSource;
 use std::rt::Files;
 
 /// Runs the program over its words. The first is its name; then come `script FILE`, where `-` stands for `input`, or
-/// `run`, `tcp`, `serve`, `create-md`, `dump-md` or `verify` with its options; no words at all mean `script -`. Returns the exit status. A long run shows
+/// `run`, `tcp`, `serve`, `create-md`, `dump-md`, `verify`, `status`, `cstate`, `dstate`, `wait-sync` or `wait-connect` with its options; no words at all mean `script -`. Returns the exit status. A long run shows
 /// its progress if `err` is a terminal.
 pub fn run_on<
     S: AsStr,
@@ -25,7 +25,7 @@ pub fn run_on<
     W: Write,
     E: Write + IsTerminal + Send,
 >(rt: &H, words: &[S], input: I, out: &mut W, err: &mut E) -> u8
-    ensures { result ≤ 3 }
+    ensures { (result ≤ 3) ⊎ (result ≡ 5) ⊎ (result ≡ 10) }
 {
     let alloc = rt.alloc();
     if words.len() < 2 {
@@ -51,7 +51,7 @@ fn carry_out<
     W: Write,
     E: Write + IsTerminal + Send,
 >(rt: &H, order: &Order<'_>, input: I, out: &mut W, err: &mut E) -> u8
-    ensures { result ≤ 3 }
+    ensures { (result ≤ 3) ⊎ (result ≡ 5) ⊎ (result ≡ 10) }
 {
     match order {
         Order::Script(file) => run_script(rt, *file, input, out, err),
@@ -67,6 +67,8 @@ fn carry_out<
         Order::DumpMd(options, format) => {
             image_commands::dump_md(rt, options, *format, out, err).code()
         }
+        Order::Ask(asked, question) => status_commands::ask(rt, asked, *question, out, err).code(),
+        Order::Wait(options) => status_commands::wait(rt, options, err).code(),
         Order::Verify(options) => image_commands::verify(rt, options, out, err).code(),
     }
 }
@@ -96,12 +98,11 @@ fn run_script<H: Files + AllocGlobal, I: Read + Drop, W: Write, E: Write>(
 /// Runs the script of `input`.
 fn script_of<I: Read + Drop, W: Write, E: Write>(
     alloc: Global,
-    input: I,
+    mut input: I,
     out: &mut W,
     err: &mut E,
 ) -> u8
     ensures { result ≤ 2 }
 {
-    let mut input = input;
     script_on(alloc, &mut input, out, err)
 }

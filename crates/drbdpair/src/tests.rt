@@ -276,3 +276,71 @@ fn status_lines_are_shown(rt: HostRuntime) {
         )
     );
 }
+
+/// Places at which no server can listen, and words that are no names, are wrong usage, before any file is read.
+#[test]
+fn places_and_names_have_their_forms(rt: HostRuntime) {
+    for (option, value) in [
+        ("--listen", "unix:"),
+        ("--listen", "localhost:10809"),
+        ("--listen", "/run/socket"),
+        ("--status", "unix:"),
+        ("--status", "0"),
+        ("--status", "65536"),
+        ("--status", "127.0.0.1"),
+        ("--name", "all"),
+        ("--name", ".."),
+        ("--name", "a/b"),
+        ("--name", ""),
+    ] {
+        let words = [
+            "drbdpair",
+            "serve",
+            "--local",
+            "no/such/file",
+            "--peer",
+            "no/other/file",
+            "--listen",
+            "127.0.0.1:10809",
+            option,
+            value,
+        ];
+        runs(&rt, &words, "", 2);
+    }
+}
+
+/// The commands that ask servers say of each that does not answer, with a status of their own. All of none are an empty array.
+#[test]
+fn no_server_answers(rt: HostRuntime) {
+    for command in ["status", "cstate", "dstate", "wait-sync", "wait-connect"] {
+        runs(
+            &rt,
+            &["drbdpair", command, "r0", "--run-dir", "no/such"],
+            "",
+            10,
+        );
+        runs(&rt, &["drbdpair", command, "no/name"], "", 2);
+        runs(&rt, &["drbdpair", command, "r0", "r1"], "", 2);
+    }
+    runs(&rt, &["drbdpair", "wait-sync"], "", 2);
+    runs(&rt, &["drbdpair", "wait-sync", "all"], "", 2);
+    runs(
+        &rt,
+        &["drbdpair", "wait-sync", "r0", "--wfc-timeout", "soon"],
+        "",
+        2,
+    );
+    let words = ["drbdpair", "status", "--json", "--run-dir", "no/such"];
+    let outcome = outcome_of(&rt, &words, "");
+    assert_eq!(rt;
+        (outcome.status, outcome.written.as_slice()),
+        (0, b"[]\n".as_slice())
+    );
+    assert!(rt;
+        outcome
+            .said
+            .bytes
+            .as_slice()
+            .starts_with(b"# No server found in no/such.")
+    );
+}

@@ -1,5 +1,30 @@
 //! The primary with its metadata.
-ghost use Rattle.std.specs.Prelude.{◌≡◌, ◌⊎◌, ◌<◌, ◌≤◌, ◌*◌, ◌/◌, ℕ, [], true, false, None, Some, Err, slice_get, slice_index, unwrap_or, is_some, length, vec_len, IsTrue, IfOk, IfErr, IfSome, OnOk};
+ghost use Rattle.std.specs.Prelude.{
+  ◌≡◌,
+  ◌⊎◌,
+  ◌<◌,
+  ◌≤◌,
+  ◌*◌,
+  ◌/◌,
+  ℕ,
+  [],
+  true,
+  false,
+  None,
+  Some,
+  Err,
+  slice_get,
+  slice_index,
+  unwrap_or,
+  is_some,
+  length,
+  vec_len,
+  IsTrue,
+  IfOk,
+  IfErr,
+  IfSome,
+  OnOk,
+};
 ghost use Rattle.blocks.specs.declared.outcome.Reply.{Reply};
 ghost use Rattle.blocks.specs.declared.outcome.Reply.TheVariants as reply;
 ghost use Rattle.blocks.specs.declared.outcome.What.TheVariants as what;
@@ -12,7 +37,15 @@ ghost use Rattle.kept_nodes.specs.Shown.{PrimaryHasShown};
 ghost use Rattle.kept_nodes.specs.Left.{Across, LosesNothing, Outcomes};
 ghost use Rattle.metadata.specs.Says.{extents_of};
 ghost use Rattle.metadata.specs.State.{is_entered};
-ghost use Rattle.model.specs.CallRefusals.{ack_in_refuses, local_open_refuses, reopen_refuses, resync_next_refuses, send_refuses, submit_refuses, take_completed_refuses};
+ghost use Rattle.model.specs.CallRefusals.{
+  ack_in_refuses,
+  local_open_refuses,
+  reopen_refuses,
+  resync_next_refuses,
+  send_refuses,
+  submit_refuses,
+  take_completed_refuses,
+};
 ghost use Rattle.model.specs.Contents.{IsRead, extent_of, is_range};
 ghost use Rattle.model.specs.LocalRuns.{Closes, Opens, Sends, Submits, primary_after};
 ghost use Rattle.model.specs.Primary.{PrimaryHistory, local_map, next_local, primary_opening};

@@ -4,8 +4,10 @@
 
 mod comparison;
 mod image_options;
+mod listen;
 mod number;
 mod plan;
+mod queries;
 mod results;
 mod run_options;
 mod serve_options;
@@ -13,8 +15,10 @@ mod status;
 
 pub use comparison::Comparison;
 pub use image_options::{DumpFormat, ImageOptions, VerifyOptions};
+pub use listen::{ListenAt, ServerName};
 pub use number::{byte, decimal};
 pub use plan::{byte_of_turn, reconnect_words};
+pub use queries::{Asked, Awaited, Question, WaitOptions};
 pub use results::Results;
 pub use run_options::{Images, LiveOutput, Path, RunOptions};
 pub use serve_options::{FirstStart, MetadataFiles, ServeOptions};

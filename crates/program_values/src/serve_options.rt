@@ -1,6 +1,6 @@
 //! The options of a server.
+use crate::{ListenAt, ServerName};
 use blocks::Protocol;
-use std::net::SocketAddr;
 
 /// Where the metadata of a server's images is.
 #[derive(Clone, Copy, Debug, PartialEq, Eq)]
@@ -26,7 +26,7 @@ pub enum FirstStart {
 }
 
 /// The options of a server.
-#[derive(Clone, Copy, Debug, PartialEq, Eq)]
+#[derive(Drop)]
 pub struct ServeOptions<'a> {
     /// The image of the local disk.
     pub local: &'a str,
@@ -39,9 +39,11 @@ pub struct ServeOptions<'a> {
     /// When a write is completed.
     pub protocol: Protocol,
     /// Where clients connect.
-    pub listen: SocketAddr,
-    /// The port of the status page on 127.0.0.1, if there is one.
-    pub page_port: Option<u16>,
+    pub listen: Vec<ListenAt<'a>>,
+    /// Where clients of the status page connect.
+    pub pages: Vec<ListenAt<'a>>,
+    /// Its name, if it has one: then its folder has a socket for clients of the status page, too.
+    pub name: Option<ServerName<'a>>,
     /// The seconds after which the link is cut each time, if it is cut at all.
     pub cut_every: Option<u32>,
     /// What is done with the images at the start.

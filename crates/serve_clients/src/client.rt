@@ -1,14 +1,14 @@
 //! A client's connection, shared by the threads that answer its requests.
 ghost use Rattle.std.specs.Io.{ReadsAtMost};
 
+use crate::client_stream::ClientStream;
 use crate::reply_queue::ReplyQueue;
 use crate::request_budget::RequestBudget;
 use crate::timed_writer::{Outcome, is_passing};
 use crate::waiting::Waiting;
 use nbd::Reply;
 use std::alloc::Global;
-use std::io::Read;
-use std::net::{Shutdown, TcpStream};
+use std::net::Shutdown;
 use std::sync::atomic::{AtomicBool, Ordering};
 use std::sync::{Mutex, Wait};
 use std::time::{Clock, Duration, Instant};
@@ -38,7 +38,7 @@ const DISCARDED_BYTES: usize = 4096;
 /// thread writes at a time, without the lock, so that no other one waits for it.
 #[derive(Drop)]
 pub(crate) struct Client {
-    stream: TcpStream,
+    stream: ClientStream,
     // No thread writes to the socket, or frees places, while it holds this lock.
     waiting: Mutex<Waiting>,
     // Whether the connection failed. Then nothing more is written.
@@ -49,7 +49,7 @@ pub(crate) struct Client {
 
 impl Client {
     /// Creates the client at the other end of a socket.
-    pub(crate) fn new(alloc: Global, stream: TcpStream) -> Client {
+    pub(crate) fn new(alloc: Global, stream: ClientStream) -> Client {
         Client {
             stream,
             waiting: Mutex::new(Waiting::new(alloc)),
@@ -61,9 +61,8 @@ impl Client {
 
     /// Makes the socket send without delay, and limits how long a read waits.
     pub(crate) fn prepare(&self) -> io::Result<()> {
-        self.stream.set_nodelay(true)?;
-        self.stream
-            .set_read_timeout(Some(Duration::from_millis(LOOK_MS)))
+        self.stream.send_without_delay()?;
+        self.stream.limit_reads(Duration::from_millis(LOOK_MS))
     }
 
     /// Holds a reply, and the data that follow it, until the next `send_held`; its request has `places` places. If much
@@ -221,8 +220,7 @@ impl Client {
     pub(crate) fn read(&self, buffer: &mut [u8]) -> io::Result<usize>
         ensures bound { ReadsAtMost result buffer.new }
     {
-        let mut stream = &self.stream;
-        stream.read(buffer)
+        self.stream.read_some(buffer)
     }
 
     /// Ends the connection once all replies are written. For the client's own thread.

@@ -125,9 +125,9 @@ impl KeptLink {
         progress: &Progress,
         most: u32,
     ) -> StatusReport {
-        let primary = progress.primary.line;
-        let marks = progress.primary.marks;
-        let resync = match primary.words.link {
+        let Progress { primary, secondary } = *progress;
+        let marks = primary.marks;
+        let resync = match primary.line.words.link {
             LinkState::SyncSource => Some(Resync {
                 left: marks,
                 all: most,
@@ -138,7 +138,8 @@ impl KeptLink {
         };
         StatusReport {
             primary,
-            secondary: progress.secondary.line,
+            secondary,
+            blocks: service.blocks,
             start: service.start(),
             resync,
             is_peer_failed: service.requests.is_peer_failed(),

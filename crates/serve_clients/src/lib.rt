@@ -3,14 +3,18 @@
 #![tactic(auto)]
 
 mod accept;
+mod address;
 mod answer;
 mod client;
+mod client_stream;
 mod copying;
 mod housekeeper;
 mod job;
 mod keeper;
 mod limited_stream;
+mod listener;
 mod listeners;
+mod lists;
 mod page;
 mod piece;
 mod quit;
@@ -19,6 +23,7 @@ mod reply_queue;
 mod reports;
 mod request_budget;
 mod service;
+mod socket_file;
 mod standstill;
 mod sync_queue;
 mod threads;
@@ -26,8 +31,11 @@ mod timed_writer;
 mod waiting;
 mod workers;
 
-pub use listeners::{ListenFault, Listeners};
+pub use address::Address;
+pub use listener::ListenFault;
+pub use listeners::Listeners;
 pub use serve_page::StartedAfter;
 pub use service::Service;
+pub use socket_file::SocketFiles;
 pub use threads::{StartFault, start_threads};
 pub use workers::work;

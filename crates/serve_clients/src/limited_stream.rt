@@ -1,7 +1,7 @@
 //! A stream that is read and written for a limited time.
+use crate::client_stream::ClientStream;
 use std::io;
 use std::io::{ErrorKind, Read, Write};
-use std::net::TcpStream;
 use std::time::{Clock, Duration, Instant};
 
 /// The stream of a client that has some time for all that is read from it and written to it. A time for each read would
@@ -9,7 +9,7 @@ use std::time::{Clock, Duration, Instant};
 #[derive(Drop)]
 pub(crate) struct LimitedStream<'a, R> {
     rt: &'a R,
-    stream: &'a TcpStream,
+    stream: &'a ClientStream,
     start: Instant,
     limit: Duration,
 }
@@ -18,7 +18,7 @@ impl<'a, R: Clock> LimitedStream<'a, R> {
     /// Creates the stream of a client whose time began at `start`.
     pub(crate) fn new(
         rt: &'a R,
-        stream: &'a TcpStream,
+        stream: &'a ClientStream,
         start: Instant,
         limit: Duration,
     ) -> LimitedStream<'a, R> {
@@ -43,17 +43,15 @@ impl<'a, R: Clock> LimitedStream<'a, R> {
 
 impl<R: Clock> Read for LimitedStream<'_, R> {
     fn read(&mut self, buffer: &mut [u8]) -> io::Result<usize> {
-        self.stream.set_read_timeout(Some(self.left()?))?;
-        let mut stream = self.stream;
-        stream.read(buffer)
+        self.stream.limit_reads(self.left()?)?;
+        self.stream.read_some(buffer)
     }
 }
 
 impl<R: Clock> Write for LimitedStream<'_, R> {
     fn write(&mut self, bytes: &[u8]) -> io::Result<usize> {
-        self.stream.set_write_timeout(Some(self.left()?))?;
-        let mut stream = self.stream;
-        stream.write(bytes)
+        self.stream.limit_writes(self.left()?)?;
+        self.stream.write_some(bytes)
     }
 
     fn flush(&mut self) -> io::Result<()> {

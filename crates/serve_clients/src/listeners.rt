@@ -1,81 +1,103 @@
-//! The addresses that a server listens at.
-use std::net::{Ipv4Addr, Net, SocketAddr, TcpListener, TcpStream};
-use std::{fmt, io};
+//! All addresses that a server listens at.
+use crate::address::Address;
+use crate::listener::{ListenFault, Listener};
+use crate::lists::append;
+use crate::socket_file::SocketFiles;
+use program_values::{ListenAt, ServerName};
+use std::alloc::{AllocError, Global};
+use std::fs;
+use std::net::{Net, TcpListener, TcpStream};
+use std::rt::Files;
 
-/// An address at which nothing can listen, and why.
-#[derive(Drop)]
-pub struct ListenFault {
-    address: SocketAddr,
-    error: io::Error,
-}
-
-impl fmt::Display for ListenFault {
-    fn fmt<W: fmt::Write>(&self, f: &mut fmt::Formatter<W>) -> fmt::Result {
-        let ListenFault { address, error } = self;
-        write!(f, "cannot listen at {address}: {error}")
-    }
-}
-
-/// A socket that listens, and its address.
-#[derive(Drop)]
-pub(crate) struct Listener {
-    pub(crate) socket: TcpListener,
-    pub(crate) address: SocketAddr,
-}
-
-impl Listener {
-    // Listens at this address; for port 0 the system picks one.
-    fn at<H: Net<Listener = TcpListener, Stream = TcpStream>>(
-        rt: &H,
-        address: SocketAddr,
-    ) -> Result<Listener, ListenFault> {
-        match bound(rt, address) {
-            Ok((socket, address)) => Ok(Listener { socket, address }),
-            Err(error) => Err(ListenFault { address, error }),
-        }
-    }
-}
-
-// Returns a socket that listens at this address, and the address that it has.
-fn bound<H: Net<Listener = TcpListener, Stream = TcpStream>>(
-    rt: &H,
-    address: SocketAddr,
-) -> io::Result<(TcpListener, SocketAddr)> {
-    let socket = TcpListener::bind(rt, address)?;
-    let address = socket.local_addr()?;
-    Ok((socket, address))
-}
-
-/// The listener for block clients, and that of the status page if there is one.
+/// The listeners for block clients, and those of the status page.
 #[derive(Drop)]
 pub struct Listeners {
-    pub(crate) clients: Listener,
-    pub(crate) page: Option<Listener>,
+    pub(crate) clients: Vec<Listener>,
+    pub(crate) pages: Vec<Listener>,
 }
 
 impl Listeners {
-    /// Listens at this address for block clients and, if a port is given, at that port of 127.0.0.1 for clients of the
-    /// status page; for port 0 the system picks one.
-    pub fn open<H: Net<Listener = TcpListener, Stream = TcpStream>>(
+    /// Listens at these places for block clients and for clients of the status page, and for the latter also at the socket
+    /// `status` in the folder of a server that has a name: the folder is made if it is not there. Also returns the files of
+    /// the Unix sockets, which are to be removed at the end. What a dead server left at their paths is removed before.
+    ///
+    /// `InUse` if a server answers at a path, `NoSocket` if something else is there, `NoFolder` if there is no folder and none
+    /// can be made, and `Unbound` for any other fault of an address. Then nothing listens, and no socket is left.
+    pub fn open<H: Files + Net<Listener = TcpListener, Stream = TcpStream> + AllocGlobal>(
         rt: &H,
-        clients: SocketAddr,
-        page: Option<u16>,
-    ) -> Result<Listeners, ListenFault> {
-        let clients = Listener::at(rt, clients)?;
-        let page = match page {
-            Some(port) => Some(Listener::at(rt, SocketAddr::from((Ipv4Addr::LOCALHOST, port)))?),
-            None => None,
-        };
-        Ok(Listeners { clients, page })
+        clients: &[ListenAt<'_>],
+        pages: &[ListenAt<'_>],
+        name: Option<ServerName<'_>>,
+    ) -> Result<(Listeners, SocketFiles), ListenFault> {
+        let mut files = SocketFiles::none(rt.alloc());
+        match open_all(rt, clients, pages, name, &mut files) {
+            Ok(listeners) => Ok((listeners, files)),
+            Err(fault) => {
+                files.remove(rt);
+                Err(fault)
+            }
+        }
     }
 
-    /// Returns the address at which block clients connect.
-    pub fn client_address(&self) -> SocketAddr {
-        self.clients.address
+    /// Returns a line for each address, for a device of this many blocks.
+    pub fn lines(&self, alloc: Global, blocks: u32) -> Result<String, AllocError> {
+        let mut lines = String::new(alloc);
+        for listener in self.clients.iter() {
+            let address = &listener.address;
+            let line = format!(in alloc; "{address} is an export of {blocks} blocks\n")?;
+            lines.push_str(line.as_str())?;
+        }
+        for listener in self.pages.iter() {
+            let line = match &listener.address {
+                Address::Ip(address) => format!(in alloc; "http://{address}/ tells its status\n")?,
+                Address::Unix(path) => format!(in alloc; "unix:{path} tells its status\n")?,
+            };
+            lines.push_str(line.as_str())?;
+        }
+        Ok(lines)
     }
+}
 
-    /// Returns the address of the status page, if there is one.
-    pub fn page_address(&self) -> Option<SocketAddr> {
-        self.page.as_ref().map(|listener| listener.address)
+// Listens at all places. The files of Unix sockets are added to `files`.
+fn open_all<H: Files + Net<Listener = TcpListener, Stream = TcpStream> + AllocGlobal>(
+    rt: &H,
+    clients: &[ListenAt<'_>],
+    pages: &[ListenAt<'_>],
+    name: Option<ServerName<'_>>,
+    files: &mut SocketFiles,
+) -> Result<Listeners, ListenFault> {
+    let clients = open_each(rt, clients, files)?;
+    let mut pages = open_each(rt, pages, files)?;
+    if let Some(name) = name {
+        append(&mut pages, open_named(rt, name, files)?)?;
     }
+    Ok(Listeners { clients, pages })
+}
+
+// Listens at these places.
+fn open_each<H: Files + Net<Listener = TcpListener, Stream = TcpStream> + AllocGlobal>(
+    rt: &H,
+    places: &[ListenAt<'_>],
+    files: &mut SocketFiles,
+) -> Result<Vec<Listener>, ListenFault> {
+    let mut listeners = Vec::new(rt.alloc());
+    for place in places {
+        append(&mut listeners, Listener::open(rt, *place, files)?)?;
+    }
+    Ok(listeners)
+}
+
+// Listens at the status socket of a server that has a name.
+fn open_named<H: Files + Net<Listener = TcpListener, Stream = TcpStream> + AllocGlobal>(
+    rt: &H,
+    server: ServerName<'_>,
+    files: &mut SocketFiles,
+) -> Result<Listener, ListenFault> {
+    let ServerName { name, run_folder } = server;
+    let folder = format!(in rt.alloc(); "{run_folder}/{name}")?;
+    if let Err(error) = fs::create_dir_all(rt, folder.as_str()) {
+        return Err(ListenFault::NoFolder(folder, error));
+    }
+    let path = format!(in rt.alloc(); "{folder}/status")?;
+    Listener::open(rt, ListenAt::Unix(path.as_str()), files)
 }

@@ -1,25 +1,35 @@
-//! The thread of the status page.
+//! The threads of the status page: one for each address, and one for each client.
+use crate::client_stream::ClientStream;
 use crate::limited_stream::LimitedStream;
+use crate::listener::Socket;
 use crate::service::Service;
-use serve_page::answer_one;
+use blocks::Refusal;
+use serve_page::{ReportSource, StatusReport, answer_one};
+use session_api::Runtime;
+use std::alloc::Global;
 use std::hash::RandomState;
-use std::net::{TcpListener, TcpStream};
-use std::sync::Wait;
+use std::sync::{Arc, Wait};
 use std::time::{Clock, Duration, Instant};
 use std::{io, thread};
 
-/// How long a client of the page may take to ask and to read the answer, in seconds.
-const PATIENCE_S: u64 = 2;
+/// The most clients of the page at a time. Further ones are closed at once.
+const MAX_CLIENTS: u32 = 64;
+
+/// How long a client of the page may take to ask, in seconds.
+const QUESTION_S: u64 = 2;
+
+/// How long after it came it may still read the answer, in seconds: it has two to ask and two to read, and a report may take two.
+const ANSWER_S: u64 = 6;
 
 /// How long the thread waits after a failure, in milliseconds.
 const PAUSE_MS: u64 = 100;
 
-/// Answers the clients of the page, one after another, until the server ends.
-pub(crate) fn serve_page<R: Wait + Clock>(
-    rt: &R,
-    service: &Service,
+/// Answers the clients of the page at an address, each in a thread of its own, until the server ends.
+pub(crate) fn serve_page<R: Runtime>(
+    rt: R,
+    service: &Arc<Service, Global>,
     keys: RandomState,
-    listener: &TcpListener,
+    listener: &Socket,
 ) {
     for _ in rt.forever() {
         let accepted = listener.accept();
@@ -27,11 +37,47 @@ pub(crate) fn serve_page<R: Wait + Clock>(
             break;
         }
         match accepted {
-            Ok((stream, _)) => {
-                let _ = answer_client(rt, service, keys, &stream);
+            Ok(stream) => {
+                let _ = welcome(rt, service, keys, stream);
             }
-            Err(_) => thread::sleep(rt, Duration::from_millis(PAUSE_MS)),
+            Err(_) => thread::sleep(&rt, Duration::from_millis(PAUSE_MS)),
         }
+    }
+}
+
+// Starts the thread of a client.
+fn welcome<R: Runtime>(
+    rt: R,
+    service: &Arc<Service, Global>,
+    keys: RandomState,
+    stream: ClientStream,
+) -> Result<(), Refusal> {
+    let shared = Arc::try_clone(service)?;
+    if shared.enter_page() >= MAX_CLIENTS {
+        shared.leave_page();
+        return Ok(());
+    }
+    let started = thread::spawn(&rt, move || {
+        let _ = answer_client(&rt, &shared, keys, &stream);
+        shared.leave_page();
+    });
+    if started.is_err() {
+        service.leave_page();
+        return Err(Refusal::NoMemory);
+    }
+    Ok(())
+}
+
+/// What a client of the page is told: a report of the moment at which its question is there.
+#[derive(Drop)]
+struct Asking<'a, R> {
+    rt: &'a R,
+    service: &'a Service,
+}
+
+impl<R: Wait + Clock> ReportSource for Asking<'_, R> {
+    fn report(&mut self) -> Option<StatusReport> {
+        self.service.reports.ask(self.rt)
     }
 }
 
@@ -40,17 +86,11 @@ fn answer_client<R: Wait + Clock>(
     rt: &R,
     service: &Service,
     keys: RandomState,
-    stream: &TcpStream,
+    stream: &ClientStream,
 ) -> io::Result<()> {
-    let report = service.reports.ask(rt);
-    let (start, limit) = (Instant::now(rt)?, Duration::from_secs(PATIENCE_S));
-    let mut reader = LimitedStream::new(rt, stream, start, limit);
-    let mut writer = LimitedStream::new(rt, stream, start, limit);
-    answer_one(
-        service.alloc,
-        keys,
-        report.as_ref(),
-        &mut reader,
-        &mut writer,
-    )
+    let start = Instant::now(rt)?;
+    let mut reader = LimitedStream::new(rt, stream, start, Duration::from_secs(QUESTION_S));
+    let mut writer = LimitedStream::new(rt, stream, start, Duration::from_secs(ANSWER_S));
+    let source = Asking { rt, service };
+    answer_one(service.alloc, keys, source, &mut reader, &mut writer)
 }

@@ -1,7 +1,8 @@
 //! The thread that waits for the order to end.
+use crate::address::Address;
 use crate::service::Service;
 use std::io::{ErrorKind, Read};
-use std::net::{Net, SocketAddr, TcpStream};
+use std::net::{Net, TcpStream};
 use std::sync::Wait;
 use std::time::{Clock, Duration};
 use std::{str, thread};
@@ -74,16 +75,15 @@ pub(crate) fn wait_for_quit<R: Wait + Clock + Net<Stream = TcpStream>, I: Read +
     rt: &R,
     service: &Service,
     input: I,
-    addresses: (SocketAddr, Option<SocketAddr>),
+    addresses: &[Address],
 ) {
     if !reads_quit(rt, input) {
         return;
     }
     service.end();
     // The threads that wait for clients look at each client, and so at these, whether the server ends.
-    let _ = TcpStream::connect(rt, addresses.0);
-    if let Some(page) = addresses.1 {
-        let _ = TcpStream::connect(rt, page);
+    for address in addresses {
+        address.visit(rt);
     }
 }
 

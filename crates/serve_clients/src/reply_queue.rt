@@ -1,9 +1,9 @@
 //! The bytes that wait to be written to a client.
+use crate::client_stream::ClientStream;
 use crate::piece::Piece;
 use crate::timed_writer::{Outcome, TimedWriter};
 use std::alloc::{AllocError, Global};
 use std::mem;
-use std::net::TcpStream;
 use std::sync::Wait;
 use std::time::Clock;
 
@@ -93,7 +93,7 @@ impl ReplyQueue {
     pub(crate) fn write<R: Wait + Clock>(
         &mut self,
         rt: &R,
-        stream: &TcpStream,
+        stream: &ClientStream,
         ms_per_mib: u16,
     ) -> Outcome {
         let Ok(mut writer) = TimedWriter::new(rt, stream, ms_per_mib) else {

@@ -36,6 +36,8 @@ pub struct Service {
     pub requests: Requests,
     stop: AtomicBool,
     clients: AtomicU32,
+    // Clients of the status page.
+    askers: AtomicU32,
     next_word: AtomicU64,
     // The most blocks that were marked since none was.
     most_marks: AtomicU32,
@@ -59,18 +61,18 @@ impl Service {
         ensures { IfOk result (λ service. (service.protocol ≡ protocol) × (service.blocks ≡ blocks)) }
     {
         let (jobs, queue) = bounded(alloc, QUEUE)?;
-        let reports = Reports::new(alloc)?;
         Ok(Service {
             alloc,
             blocks,
             protocol,
             jobs,
             queue,
-            reports,
+            reports: Reports::new(),
             syncs: SyncQueue::new(alloc),
             requests,
             stop: AtomicBool::new(false),
             clients: AtomicU32::new(0),
+            askers: AtomicU32::new(0),
             next_word: AtomicU64::new(first_word),
             most_marks: AtomicU32::new(0),
             after,
@@ -106,6 +108,16 @@ impl Service {
     /// Returns how many clients there are.
     pub fn clients(&self) -> u32 {
         self.clients.load(Ordering::SeqCst)
+    }
+
+    /// Counts a client of the status page that comes. Returns how many there were before.
+    pub(crate) fn enter_page(&self) -> u32 {
+        self.askers.fetch_add(1, Ordering::SeqCst)
+    }
+
+    /// Counts a client of the status page that goes.
+    pub(crate) fn leave_page(&self) {
+        self.askers.fetch_sub(1, Ordering::SeqCst);
     }
 
     /// Takes the number of marked blocks at a moment. Returns the most that were marked since none was, over all sessions.

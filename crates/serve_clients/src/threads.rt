@@ -1,6 +1,9 @@
 //! The start of a server's threads.
 use crate::accept::accept_clients;
-use crate::listeners::{Listener, Listeners};
+use crate::address::Address;
+use crate::listener::Listener;
+use crate::listeners::Listeners;
+use crate::lists::append;
 use crate::page::serve_page;
 use crate::quit::wait_for_quit;
 use crate::service::Service;
@@ -40,9 +43,9 @@ impl From<AllocError> for StartFault {
     }
 }
 
-/// Starts the threads of a server that outlast its sessions: the one that lets clients in, the one that answers clients
-/// of the status page, and the one that waits for the order to end. If one cannot be started, those that were started
-/// go on.
+/// Starts the threads of a server that outlast its sessions: those that let clients in and those that answer clients of the status
+/// page, one for each address, and the one that waits for the order to end. If one cannot be started, those that were started go
+/// on.
 pub fn start_threads<
     H: Runtime + Net<Listener = TcpListener, Stream = TcpStream> + RandomSource,
     I: Read + Drop + Send + 'static,
@@ -53,36 +56,55 @@ pub fn start_threads<
     input: I,
 ) -> Result<(), StartFault> {
     let rt = *rt;
-    let addresses = (listeners.client_address(), listeners.page_address());
-    let Listeners { clients, page } = listeners;
-    if let Some(page) = page {
-        start_page(&rt, service, page)?;
+    let Listeners { clients, pages } = listeners;
+    let mut addresses = Vec::new(service.alloc);
+    if !pages.is_empty() {
+        let keys = match RandomState::new(&rt) {
+            Ok(keys) => keys,
+            Err(error) => return Err(StartFault::NoKeys(error)),
+        };
+        for page in pages {
+            append(&mut addresses, start_page(rt, service, keys, page)?)?;
+        }
+    }
+    for listener in clients {
+        append(&mut addresses, start_letting(rt, service, listener)?)?;
     }
     let waiting = Arc::try_clone(service)?;
-    let letting = Arc::try_clone(service)?;
-    if thread::spawn(&rt, move || wait_for_quit(&rt, &waiting, input, addresses)).is_err() {
-        return Err(StartFault::Unthreaded);
-    }
-    if thread::spawn(&rt, move || accept_clients(rt, &letting, &clients.socket)).is_err() {
+    let started = thread::spawn(&rt, move || {
+        wait_for_quit(&rt, &waiting, input, addresses.as_slice());
+    });
+    if started.is_err() {
         return Err(StartFault::Unthreaded);
     }
     Ok(())
 }
 
-// Starts the thread of the status page.
-fn start_page<H: Runtime + RandomSource>(
-    rt: &H,
+// Starts the thread that lets block clients in at an address, which this returns.
+fn start_letting<H: Runtime>(
+    rt: H,
     service: &Arc<Service, Global>,
-    page: Listener,
-) -> Result<(), StartFault> {
-    let rt = *rt;
-    let keys = match RandomState::new(&rt) {
-        Ok(keys) => keys,
-        Err(error) => return Err(StartFault::NoKeys(error)),
-    };
+    listener: Listener,
+) -> Result<Address, StartFault> {
+    let Listener { socket, address } = listener;
     let service = Arc::try_clone(service)?;
-    if thread::spawn(&rt, move || serve_page(&rt, &service, keys, &page.socket)).is_err() {
+    if thread::spawn(&rt, move || accept_clients(rt, &service, &socket)).is_err() {
         return Err(StartFault::Unthreaded);
     }
-    Ok(())
+    Ok(address)
+}
+
+// Starts the thread of the status page at an address, which this returns.
+fn start_page<H: Runtime>(
+    rt: H,
+    service: &Arc<Service, Global>,
+    keys: RandomState,
+    listener: Listener,
+) -> Result<Address, StartFault> {
+    let Listener { socket, address } = listener;
+    let service = Arc::try_clone(service)?;
+    if thread::spawn(&rt, move || serve_page(rt, &service, keys, &socket)).is_err() {
+        return Err(StartFault::Unthreaded);
+    }
+    Ok(address)
 }

@@ -1,9 +1,9 @@
 //! Writing to a client for as long as it takes bytes fast enough.
+use crate::client_stream::ClientStream;
 use crate::piece::Piece;
 use serve_requests::time_left;
 use std::io;
-use std::io::{ErrorKind, Write};
-use std::net::TcpStream;
+use std::io::ErrorKind;
 use std::sync::Wait;
 use std::time::{Clock, Instant};
 
@@ -22,7 +22,7 @@ pub(crate) enum Outcome {
 /// write is that of all bytes since the writer was made.
 #[derive(Drop)]
 pub(crate) struct TimedWriter<'a> {
-    stream: &'a TcpStream,
+    stream: &'a ClientStream,
     ms_per_mib: u16,
     start: Instant,
     written: u64,
@@ -32,7 +32,7 @@ impl<'a> TimedWriter<'a> {
     /// Creates a writer whose time begins now.
     pub(crate) fn new<R: Clock>(
         rt: &R,
-        stream: &'a TcpStream,
+        stream: &'a ClientStream,
         ms_per_mib: u16,
     ) -> io::Result<TimedWriter<'a>> {
         Ok(TimedWriter {
@@ -65,11 +65,10 @@ impl<'a> TimedWriter<'a> {
         let Some(left) = time_left(self.ms_per_mib, self.written, elapsed) else {
             return Err(Outcome::Late);
         };
-        if self.stream.set_write_timeout(Some(left)).is_err() {
+        if self.stream.limit_writes(left).is_err() {
             return Err(Outcome::Failed);
         }
-        let mut stream = self.stream;
-        match stream.write(bytes) {
+        match self.stream.write_some(bytes) {
             Ok(0) => Err(Outcome::Failed),
             Ok(count) => {
                 self.written = self.written.saturating_add(count as u64);

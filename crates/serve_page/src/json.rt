@@ -6,15 +6,17 @@ use std::alloc::{AllocError, Global};
 
 impl StatusReport {
     /// Returns the report as a JSON text: an object for each node, with a member for each word and number of its status
-    /// line; `start`; `resync`, which is null if no resync goes on; and `peer_sync_failed`.
+    /// line; `size_kib`; `start`; `resync`, which is null if no resync goes on; and `peer_sync_failed`.
     pub fn json(&self, alloc: Global) -> Result<String, AllocError> {
-        let primary = primary_value(alloc, &self.primary)?;
-        let secondary = secondary_value(alloc, &self.secondary)?;
+        let primary = primary_value(alloc, &self.primary.line)?;
+        let secondary = secondary_value(alloc, &self.secondary.line)?;
         let start = start_value(alloc, self.start)?;
         let resync = progress(alloc, self.resync)?;
+        let size = self.size_kib();
         let report = json!(in alloc; {
             "primary": primary,
             "secondary": secondary,
+            "size_kib": size,
             "start": start,
             "resync": resync,
             "peer_sync_failed": self.is_peer_failed

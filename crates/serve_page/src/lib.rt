@@ -6,6 +6,6 @@ mod page;
 mod report;
 mod start;
 
-pub use page::answer_one;
+pub use page::{ReportSource, answer_one};
 pub use report::{Resync, StatusReport};
 pub use start::{ServerStart, StartedAfter};

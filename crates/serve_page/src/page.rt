@@ -15,14 +15,20 @@ const NO_REPORT: &str =
 /// The text for a client that asks for another page.
 const NO_SUCH_PAGE: &str = "there is no such page: this server has / and /status.json\n";
 
-/// The page that a client gets, with a report, or none if there is none now.
-#[derive(Drop)]
-struct Page<'a> {
-    alloc: Global,
-    report: Option<&'a StatusReport>,
+/// Gives reports.
+pub trait ReportSource {
+    /// Returns a report of this moment, or `None` if there is none now.
+    fn report(&mut self) -> Option<StatusReport>;
 }
 
-impl Service for Page<'_> {
+/// The page that a client gets, with a report from this source.
+#[derive(Drop)]
+struct Page<S: Drop> {
+    alloc: Global,
+    source: S,
+}
+
+impl<S: ReportSource + Drop> Service for Page<S> {
     ghost answers = { λ old request response new. Unit {0} };
 
     fn call(
@@ -35,23 +41,40 @@ impl Service for Page<'_> {
             response.status = StatusCode::METHOD_NOT_ALLOWED;
             return response.add_header(header::ALLOW, HeaderValue::from_static("GET, HEAD"));
         }
-        let Some(report) = self.report else {
+        match request.uri().path() {
+            "/" => self.fill(response, Form::Lines),
+            "/status.json" => self.fill(response, Form::Json),
+            _ => {
+                response.status = StatusCode::NOT_FOUND;
+                fill_text(response, NO_SUCH_PAGE)
+            }
+        }
+    }
+}
+
+/// How a report is written.
+#[derive(Clone, Copy)]
+enum Form {
+    Lines,
+    Json,
+}
+
+impl<S: ReportSource + Drop> Page<S> {
+    // Gives a response a report of this moment, or says that there is none.
+    fn fill(&mut self, response: &mut Response, form: Form) -> Result<(), AllocError> {
+        let Some(report) = self.source.report() else {
             response.status = StatusCode::SERVICE_UNAVAILABLE;
             return fill_text(response, NO_REPORT);
         };
-        match request.uri().path() {
-            "/" => fill_text(response, &report.text(self.alloc)?),
-            "/status.json" => {
+        match form {
+            Form::Lines => fill_text(response, &report.text(self.alloc)?),
+            Form::Json => {
                 let json = report.json(self.alloc)?;
                 fill(
                     response,
                     HeaderValue::from_static("application/json"),
                     &json,
                 )
-            }
-            _ => {
-                response.status = StatusCode::NOT_FOUND;
-                fill_text(response, NO_SUCH_PAGE)
             }
         }
     }
@@ -73,16 +96,17 @@ fn fill(response: &mut Response, kind: HeaderValue, body: &str) -> Result<(), Al
     Ok(())
 }
 
-/// Answers one request of a client with this report: the status lines at `/`, the same as JSON at `/status.json`. Then
-/// the connection is to be closed. Without a report, the answer says that there is none now (503).
-pub fn answer_one<R: Read, W: Write>(
+/// Answers one request of a client with a report of this source: the status lines at `/`, the same as JSON at `/status.json`. The
+/// source is asked once the request is there. Then the connection is to be closed. Without a report, the answer says that there is
+/// none now (503).
+pub fn answer_one<S: ReportSource + Drop, R: Read, W: Write>(
     alloc: Global,
     keys: RandomState,
-    report: Option<&StatusReport>,
+    source: S,
     reader: &mut R,
     writer: &mut W,
 ) -> io::Result<()> {
-    let mut page = Page { alloc, report };
+    let mut page = Page { alloc, source };
     let mut connection = Connection::new(alloc, keys, Config::default());
     serve(&mut connection, &mut page, reader, writer)
 }

@@ -2,7 +2,7 @@
 ghost use Rattle.std.specs.Prelude.{◌≡◌, ◌-◌, ◌*◌, ◌/◌, None, Some};
 
 use crate::ServerStart;
-use status_lines::{PrimaryLine, SecondaryLine};
+use node_lines::{PrimaryProgress, SecondaryProgress};
 use std::alloc::{AllocError, Global};
 use std::fmt;
 
@@ -75,20 +75,28 @@ impl fmt::Display for Resync {
     }
 }
 
-/// The state of a server's nodes: what the status line of each shows, how the server began, the progress of a resync, if one goes on,
-/// and whether the peer's disk is left out, since a sync of it has failed.
-#[derive(Clone, Copy, Debug, PartialEq, Eq)]
+/// The state of a server's nodes: how far each has come, with its status line, the blocks of the device, how the server began, the progress of a
+/// resync, if one goes on, and whether the peer's disk is left out, since a sync of it has failed.
+#[derive(Clone, Copy, Debug)]
 pub struct StatusReport {
-    pub primary: PrimaryLine,
-    pub secondary: SecondaryLine,
+    pub primary: PrimaryProgress,
+    pub secondary: SecondaryProgress,
+    pub blocks: u32,
     pub start: ServerStart,
     pub resync: Option<Resync>,
     pub is_peer_failed: bool,
 }
 
 impl StatusReport {
-    /// Returns both lines, the primary's first, then a line of how the server began, one of a resync that goes on, and one if the peer's
-    /// disk is left out. Each is ended by a newline.
+    /// Returns how many KiB the device has.
+    pub fn size_kib(&self) -> u64
+        ensures { result ≡ 4 * self.now.blocks }
+    {
+        BLOCK_KIB * u64::from(self.blocks)
+    }
+
+    /// Returns both lines, the primary's first, then a line of the device's size, one of how the server began, one of a resync that goes
+    /// on, and one if the peer's disk is left out. Each is ended by a newline.
     pub fn text(&self, alloc: Global) -> Result<String, AllocError> {
         let resync = match self.resync {
             Some(resync) => format!(in alloc; "{resync}\n")?,
@@ -96,8 +104,11 @@ impl StatusReport {
         };
         let further = if self.is_peer_failed { PEER_FAILED } else { "" };
         format!(in alloc;
-            "{}\n{}\n{}\n{resync}{further}",
-            self.primary, self.secondary, self.start
+            "{}\n{}\nsize: {} KiB\n{}\n{resync}{further}",
+            self.primary.line,
+            self.secondary.line,
+            self.size_kib(),
+            self.start
         )
     }
 }

@@ -7,7 +7,7 @@ use Rattle.blocks.specs.declared.range.Range.{Range}
 use Rattle.nbd.specs.Pieces.{pair_of}
 use Rattle.session_api.specs.Begun.{BegunState}
 use Rattle.serve_requests.specs.Reads.{AreHeld}
-use Rattle.serve_requests.specs.Receipts.{BeginsOne, HasMore, IsWhole, IsZeros, begun_bytes, span_of}
+use Rattle.serve_requests.specs.Receipts.{BeginsOne, HasMore, IsWhole, IsZeroes, begun_bytes, span_of}
 
 -- those of some ranges, and then that of one more
 pub one-more : {A B C : Type 0} (of : A → C) (asked : B → C) (yielded : List B) (last : B) (old before new : List A)
@@ -50,11 +50,11 @@ pub whole-one : (range : ℕ × ℕ) (bytes : List ℕ) (before new : List Begun
 whole-one range bytes before new one whole =
     each-one IsWhole range bytes before new one (ap length one.contents ∙ whole ∙ ap (λ (r : ℕ × ℕ). r.1 * 4096) (sym one.span))
 
--- one more with zeros
-pub zeros-one : (range : ℕ × ℕ) (bytes : List ℕ) (before new : List BegunState) → BeginsOne range bytes before new → bytes ≡ replicate (range.1 * 4096) 0
-    → All IsZeros before → All IsZeros new
-zeros-one range bytes before new one zeros =
-    each-one IsZeros range bytes before new one (one.contents ∙ zeros ∙ ap (λ (r : ℕ × ℕ). replicate (r.1 * 4096) 0) (sym one.span))
+-- one more with zeroes
+pub zeroes-one : (range : ℕ × ℕ) (bytes : List ℕ) (before new : List BegunState) → BeginsOne range bytes before new → bytes ≡ replicate (range.1 * 4096) 0
+    → All IsZeroes before → All IsZeroes new
+zeroes-one range bytes before new one zeroes =
+    each-one IsZeroes range bytes before new one (one.contents ∙ zeroes ∙ ap (λ (r : ℕ × ℕ). replicate (r.1 * 4096) 0) (sym one.span))
 
 -- what was held in some ranges, and then in one more
 pub held-one : (holds : ℕ → ℕ → List ℕ → Type 0) (yielded : List Range) (range : Range) (before bytes new : List ℕ) → AreHeld holds (map pair_of yielded) before

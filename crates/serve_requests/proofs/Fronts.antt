@@ -8,7 +8,7 @@ use Rattle.nbd.specs.declared.command.NbdCommand.TheVariants as command
 use Rattle.nbd.specs.declared.errno.Errno.{Errno}
 use Rattle.nbd.specs.declared.request.Request.{Request}
 use Rattle.session_api.specs.Begun.{BegunState}
-use Rattle.serve_requests.specs.Receipts.{Begins, HasBegun, IsFrontOf, IsWhole, IsZeros}
+use Rattle.serve_requests.specs.Receipts.{Begins, HasBegun, IsFrontOf, IsWhole, IsZeroes}
 
 -- nothing is a front of what any request writes
 pub nothing-begun : (request : Request) (begun : List BegunState) → begun ≡ [] → IsFrontOf request begun
@@ -17,7 +17,7 @@ nothing-begun request begun empty = subst (IsFrontOf request) (sym empty) (recor
   contents = λ _. (request.payload, refl);
   whole = λ _. All-nil IsWhole;
   zeroed = λ _. (pieces request.first_block request.block_count, refl);
-  zeros = λ _. All-nil IsZeros;
+  zeroes = λ _. All-nil IsZeroes;
   nothing = λ _. refl;
 })
 

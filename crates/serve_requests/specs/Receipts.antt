@@ -26,9 +26,9 @@ begun_bytes begun = flat_map (λ b. b.contents) begun
 abbrev pub IsWhole : BegunState → Type 0
 IsWhole begun = length begun.contents ≡ begun.count * 4096
 
--- A write that was begun fills its blocks with zeros.
-abbrev pub IsZeros : BegunState → Type 0
-IsZeros begun = begun.contents ≡ replicate (begun.count * 4096) 0
+-- A write that was begun fills its blocks with zeroes.
+abbrev pub IsZeroes : BegunState → Type 0
+IsZeroes begun = begun.contents ≡ replicate (begun.count * 4096) 0
 
 -- One write of this range and these bytes was appended, and nothing else.
 pub record BeginsOne (range : ℕ × ℕ) (bytes : List ℕ) (old new : List BegunState) : Type 0 where
@@ -55,22 +55,22 @@ pub record HasFront {A B : Type 0} (of : A → B) (wanted : List B) (old new : L
   pub each : map of more ++ rest ≡ wanted
 
 -- What was begun is all that a WRITE or WRITE_ZEROES writes: each range has its part of the payload, one after another from
--- its front, or zeros.
+-- its front, or zeroes.
 pub record HasBegun (request : Request) (begun : List BegunState) : Type 0 where
   pub written : request.command ≡ command.Write → map span_of begun ≡ pieces request.first_block request.block_count
   pub contents : request.command ≡ command.Write → (rest : List ℕ) × (begun_bytes begun ++ rest ≡ request.payload)
   pub whole : request.command ≡ command.Write → All IsWhole begun
   pub zeroed : request.command ≡ command.WriteZeroes → map span_of begun ≡ pieces request.first_block request.block_count
-  pub zeros : request.command ≡ command.WriteZeroes → All IsZeros begun
+  pub zeroes : request.command ≡ command.WriteZeroes → All IsZeroes begun
 
 -- What was begun for a request, all of it or a front: of a WRITE its first ranges, each with its part of the payload, and of a
--- WRITE_ZEROES the first ones with zeros. Any other command writes nothing.
+-- WRITE_ZEROES the first ones with zeroes. Any other command writes nothing.
 pub record IsFrontOf (request : Request) (begun : List BegunState) : Type 0 where
   pub written : request.command ≡ command.Write → (more : List (ℕ × ℕ)) × (map span_of begun ++ more ≡ pieces request.first_block request.block_count)
   pub contents : request.command ≡ command.Write → (rest : List ℕ) × (begun_bytes begun ++ rest ≡ request.payload)
   pub whole : request.command ≡ command.Write → All IsWhole begun
   pub zeroed : request.command ≡ command.WriteZeroes → (more : List (ℕ × ℕ)) × (map span_of begun ++ more ≡ pieces request.first_block request.block_count)
-  pub zeros : request.command ≡ command.WriteZeroes → All IsZeros begun
+  pub zeroes : request.command ≡ command.WriteZeroes → All IsZeroes begun
   pub nothing : (request.command ≡ command.Read) ⊎ ((request.command ≡ command.Flush) ⊎ (request.command ≡ command.Disconnect)) → begun ≡ []
 
 -- What was begun, and whether all was: a front of it if not. A FLUSH and a DISC begin nothing, and that is not refused.

@@ -13,7 +13,7 @@ mod requests;
 mod stable_storage;
 mod syncs;
 mod under_way;
-mod zeros;
+mod zeroes;
 
 pub use answer::Answer;
 pub use ended::Ended;

@@ -4,11 +4,11 @@ ghost use Rattle.blocks.specs.declared.refusal.Refusal.TheVariants.{BadRange, No
 ghost use Rattle.nbd.specs.Pieces.{pair_of};
 ghost use Rattle.nbd.specs.declared.errno.Errno.TheVariants as errno;
 ghost use Rattle.serve_requests.specs.Reads.{AreHeld};
-ghost use Rattle.serve_requests.specs.Receipts.{BeginsOne, HasFront, HasMore, IsAccepted, IsWhole, IsZeros, begun_bytes, span_of};
+ghost use Rattle.serve_requests.specs.Receipts.{BeginsOne, HasFront, HasMore, IsAccepted, IsWhole, IsZeroes, begun_bytes, span_of};
 
 use crate::payload::front;
 use crate::requests::Requests;
-use crate::zeros::Zeros;
+use crate::zeroes::Zeroes;
 use blocks::{BLOCK_BYTES, Range, Refusal};
 use bytes::Bytes;
 use nbd::{Errno, Ranges};
@@ -75,7 +75,7 @@ pub(crate) fn begin_write<D: Device>(
     Ok(())
 }
 
-/// Begins to write zeros to these ranges, which have `count` blocks together, until one is refused.
+/// Begins to write zeroes to these ranges, which have `count` blocks together, until one is refused.
 pub(crate) fn begin_zeroes<D: Device>(
     requests: &Requests,
     device: &D,
@@ -85,12 +85,12 @@ pub(crate) fn begin_zeroes<D: Device>(
 ) -> Result<(), Errno>
     ensures ranges { OnOk result (HasMore span_of ranges begun.old.items begun.new.items) }
     ensures front { HasFront span_of ranges begun.old.items begun.new.items }
-    ensures zeros { All IsZeros begun.old.items → All IsZeros begun.new.items }
+    ensures zeroes { All IsZeroes begun.old.items → All IsZeroes begun.new.items }
     ensures accepted { All (IsAccepted D.accepts) begun.old.items → All (IsAccepted D.accepts) begun.new.items }
 {
-    let zeros = Zeros::new(requests.alloc, count)?;
+    let zeroes = Zeroes::new(requests.alloc, count)?;
     for range in ranges {
-        let bytes = zeros.front(range.count)?;
+        let bytes = zeroes.front(range.count)?;
         begin_range(requests, device, range, bytes, begun)?;
     }
     Ok(())

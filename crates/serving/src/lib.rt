@@ -19,6 +19,6 @@ mod totals;
 
 pub use file_store::{AnyContents, OpeningContents};
 pub use image_metadata::{AnyBytes, OpeningBytes};
-pub use program_values::{FirstStart, MetadataFiles, ServeOptions};
+pub use program_values::{FirstStart, ListenAt, MetadataFiles, ServeOptions, ServerName};
 pub use server::serve;
 pub use volume::Host;

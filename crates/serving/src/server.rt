@@ -1,5 +1,5 @@
 //! A server, from its images to the lines that it prints.
-ghost use Rattle.std.specs.Prelude.{◌≡◌, ◌||◌, false, nat_le, is_some, Err, IfOk, OnOk};
+ghost use Rattle.std.specs.Prelude.{◌≡◌, ◌||◌, false, nat_le, is_some, Err, IfOk, IfSome, OnOk};
 ghost use Rattle.blocks.specs.SettingsRange.{standard};
 ghost use Rattle.blocks.specs.declared.refusal.Refusal.TheVariants.{BadSetting};
 ghost use Rattle.program_values.specs.declared.status.SessionStatus.TheVariants as status;
@@ -121,7 +121,7 @@ fn serve_sized<
     served?.print(out, err)
 }
 
-// Serves both images. Returns how this ended.
+// Serves both images at all addresses. Returns how this ended. The files of its Unix sockets are removed at the end.
 fn serve_locked<
     'a,
     X: OpeningContents + Send + 'static,
@@ -141,7 +141,41 @@ fn serve_locked<
     ensures { IfOk result (HasEnded options.now X.OpeningContents.local X.OpeningContents.peer) }
 {
     let blocks = blocks_of(options, &locks.local)?;
-    let listeners = Listeners::open(rt, options.listen, options.page_port)?;
+    let (listeners, files) = Listeners::open(
+        rt,
+        options.listen.as_slice(),
+        options.pages.as_slice(),
+        options.name,
+    )?;
+    let served = serve_listening::<X, M, N, H, I, E>(
+        rt, options, blocks, locks, listeners, input, err,
+    );
+    files.remove(rt);
+    served
+}
+
+// Serves both images, of `blocks` blocks, to the clients of these listeners. Returns how this ended.
+fn serve_listening<
+    'a,
+    X: OpeningContents + Send + 'static,
+    M: OpeningBytes + Send + 'static,
+    N: OpeningBytes + Send + 'static,
+    H: Host + Files<File = File> + Net<Listener = TcpListener, Stream = TcpStream> + RandomSource,
+    I: Read + Drop + Send + 'static,
+    E: Write,
+>(
+    rt: &H,
+    options: &ServeOptions<'a>,
+    blocks: u32,
+    locks: &PerDisk<ImageLock>,
+    listeners: Listeners,
+    input: I,
+    err: &mut E,
+) -> Result<End<'a>, ServeFault<'a>>
+    requires range { AreInRange options.now }
+    requires asked { IfSome options.now.blocks (λ asked. blocks ≡ asked) }
+    ensures { IfOk result (HasEnded options.now X.OpeningContents.local X.OpeningContents.peer) }
+{
     match open_both::<H, X>(rt, options, blocks) {
         Ok((disks, syncs)) => {
             let numbers = fresh_numbers(rt)?;
@@ -198,12 +232,11 @@ fn start_service<
         first_word,
         after,
     )?)?;
-    let (clients, page) = (listeners.client_address(), listeners.page_address());
+    let lines = listeners
+        .lines(rt.alloc(), blocks)
+        .map_err(|_| Refusal::NoMemory)?;
     start_threads(rt, &service, listeners, input)?;
-    let _ = writeln!(err, "{clients} is an export of {blocks} blocks");
-    if let Some(page) = page {
-        let _ = writeln!(err, "http://{page}/ tells its status");
-    }
+    let _ = err.write_all(lines.as_bytes());
     Ok(service)
 }
 

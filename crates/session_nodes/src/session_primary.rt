@@ -1,12 +1,40 @@
 //! The primary under its lock.
-ghost use Rattle.std.specs.Prelude.{◌≡◌, ◌<◌, ◌≤◌, ◌*◌, ◌⊎◌, true, false, IsTrue, None, Some, Err, if◌then◌else◌, slice_get, unwrap_or, vec_len, IfOk, IfErr, IfSome, OnOk};
+ghost use Rattle.std.specs.Prelude.{
+  ◌≡◌,
+  ◌<◌,
+  ◌≤◌,
+  ◌*◌,
+  ◌⊎◌,
+  true,
+  false,
+  IsTrue,
+  None,
+  Some,
+  Err,
+  if◌then◌else◌,
+  slice_get,
+  unwrap_or,
+  vec_len,
+  IfOk,
+  IfErr,
+  IfSome,
+  OnOk,
+};
 ghost use Rattle.blocks.specs.declared.outcome.Reply.{Reply};
 ghost use Rattle.blocks.specs.declared.outcome.Reply.TheVariants as reply;
 ghost use Rattle.blocks.specs.declared.outcome.What.TheVariants as what;
 ghost use Rattle.blocks.specs.declared.refusal.Refusal.TheVariants.{BadRange, NoMemory, NotConnected, NothingThere, ReadFault};
 ghost use Rattle.endpoint.specs.Calls as link;
 ghost use Rattle.endpoint.specs.Calls.{IsNewIn, IsNewOut, has_room, is_out_of_memory};
-ghost use Rattle.model.specs.CallRefusals.{ack_in_refuses, local_open_refuses, reopen_refuses, resync_next_refuses, send_refuses, submit_refuses, take_completed_refuses};
+ghost use Rattle.model.specs.CallRefusals.{
+  ack_in_refuses,
+  local_open_refuses,
+  reopen_refuses,
+  resync_next_refuses,
+  send_refuses,
+  submit_refuses,
+  take_completed_refuses,
+};
 ghost use Rattle.model.specs.Contents.{IsRead, is_range};
 ghost use Rattle.model.specs.LocalRuns.{Closes, Opens, Sends, Submits, primary_after};
 ghost use Rattle.model.specs.Primary.{PrimaryHistory, local_map, next_local, primary_opening};

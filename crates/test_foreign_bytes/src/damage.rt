@@ -75,8 +75,7 @@ fn fronts(alloc: Global, bytes: &Vec<u8>) -> Result<Vec<usize>, AllocError> {
 }
 
 // Flips a bit of the byte at this place.
-fn changed<G: Rng>(bytes: Vec<u8>, at: usize, random: &mut G) -> Vec<u8> {
-    let mut bytes = bytes;
+fn changed<G: Rng>(mut bytes: Vec<u8>, at: usize, random: &mut G) -> Vec<u8> {
     if let Some(byte) = bytes.get_mut(at) {
         *byte ^= 1u8 << (random.next_u64() % 8);
     }
@@ -102,8 +101,7 @@ fn doubled(alloc: Global, bytes: &Vec<u8>, at: usize, count: usize) -> Result<Ve
 }
 
 // Swaps two bytes, if both are inside.
-fn swapped(bytes: Vec<u8>, at: usize, distance: usize) -> Vec<u8> {
-    let mut bytes = bytes;
+fn swapped(mut bytes: Vec<u8>, at: usize, distance: usize) -> Vec<u8> {
     let other = at.saturating_add(distance);
     if at < bytes.len() && other < bytes.len() {
         bytes.swap(at, other);

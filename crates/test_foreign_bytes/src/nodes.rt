@@ -50,7 +50,8 @@ pub(crate) struct RowEnds<R: Wait + Drop> {
     pub(crate) to_take: PieceOut<R>,
 }
 
-// Makes two rows. Returns the node's ends, and the other ends.
+// Makes two rows. Returns the node's ends, and the other ends. Here and below a `match` stands where `?` would do: each `?` beside ends
+// or a node is a way out that drops them, and that they can be dropped is proved once more on each such way.
 fn rows<R: Wait + Copy + Drop>(
     rt: R,
     alloc: Global,
@@ -102,12 +103,10 @@ pub(crate) fn submit<R: Wait + Drop>(
     if write >= WRITES {
         return Ok(write);
     }
-    match contents(alloc, write) {
-        Ok(bytes) => match node.submit(write * 5 % 12, &bytes) {
-            Ok(_) => Ok(write + 1),
-            Err(_) => Ok(write),
-        },
-        Err(refusal) => Err(refusal),
+    let bytes = contents(alloc, write)?;
+    match node.submit(write * 5 % 12, &bytes) {
+        Ok(_) => Ok(write + 1),
+        Err(_) => Ok(write),
     }
 }
 

@@ -1,6 +1,8 @@
 //! Tests of a client over a socket. Its bytes and the server's are written out by hand from the protocol document.
 use blocks::Protocol;
-use serving::{AnyBytes, AnyContents, FirstStart, Host, MetadataFiles, ServeOptions, serve};
+use serving::{
+    AnyBytes, AnyContents, FirstStart, Host, ListenAt, MetadataFiles, ServeOptions, serve,
+};
 use std::alloc::{AllocError, Global};
 use std::fs::File;
 use std::io::{Read, Write};
@@ -79,9 +81,9 @@ impl<R: Wait + Clock + Drop> Read for Order<R> {
 }
 
 // Sends bytes. Returns whether the wanted ones come back.
-pub(crate) fn exchange(
+pub(crate) fn exchange<S: Read + Write>(
     alloc: Global,
-    stream: &mut TcpStream,
+    stream: &mut S,
     asked: &[&[u8]],
     wanted: &[&[u8]],
 ) -> io::Result<bool> {
@@ -97,7 +99,7 @@ pub(crate) fn exchange(
 }
 
 // Returns whether these bytes come.
-fn arrives(alloc: Global, stream: &mut TcpStream, wanted: &[u8]) -> io::Result<bool> {
+fn arrives<S: Read>(alloc: Global, stream: &mut S, wanted: &[u8]) -> io::Result<bool> {
     let mut came = Vec::from_elem(alloc, 0u8, wanted.len())?;
     stream.read_exact(&mut came)?;
     Ok(came.as_slice() == wanted)
@@ -117,8 +119,8 @@ pub(crate) fn connect<R: Net<Stream = TcpStream> + Clock>(
     TcpStream::connect(rt, address)
 }
 
-// Does what a client does. Returns whether each answer is right.
-fn talk(alloc: Global, stream: &mut TcpStream) -> io::Result<bool> {
+/// Does what a client does. Returns whether each answer is right.
+pub(crate) fn talk<S: Read + Write>(alloc: Global, stream: &mut S) -> io::Result<bool> {
     let is_open = exchange(alloc, stream, &[&FLAGS, &GO], &[&GREETING, &GO_ANSWER])?;
     let is_changed = change(alloc, stream)?;
     let is_read = exchange(
@@ -134,7 +136,7 @@ fn talk(alloc: Global, stream: &mut TcpStream) -> io::Result<bool> {
 }
 
 // Writes, zeroes and flushes. Returns whether each answer is right.
-fn change(alloc: Global, stream: &mut TcpStream) -> io::Result<bool> {
+fn change<S: Read + Write>(alloc: Global, stream: &mut S) -> io::Result<bool> {
     let write = ask(1, 1, [0x10, 0], [0x20, 0]);
     let zero = ask(6, 2, [0x20, 0], [0x10, 0]);
     let flush = ask(3, 3, [0, 0], [0, 0]);
@@ -150,7 +152,7 @@ fn change(alloc: Global, stream: &mut TcpStream) -> io::Result<bool> {
 }
 
 // Asks for what is refused: a part of a block with EINVAL, a write past the end with ENOSPC.
-fn overstep(alloc: Global, stream: &mut TcpStream) -> io::Result<bool> {
+fn overstep<S: Read + Write>(alloc: Global, stream: &mut S) -> io::Result<bool> {
     let part = ask(0, 5, [0, 1], [0x10, 0]);
     let past = ask(1, 6, [0x80, 0], [0x10, 0]);
     let is_part_refused = exchange(alloc, stream, &[&part], &[&reply(22, 5)])?;
@@ -160,7 +162,7 @@ fn overstep(alloc: Global, stream: &mut TcpStream) -> io::Result<bool> {
 
 // Asks for two writes of the same block and a read of another before any reply has come. Returns whether each is
 // answered once, in whatever order.
-fn burst(alloc: Global, stream: &mut TcpStream) -> io::Result<bool> {
+fn burst<S: Read + Write>(alloc: Global, stream: &mut S) -> io::Result<bool> {
     let asked = asked_at_once(alloc)?;
     stream.write_all(asked.as_slice())?;
     let mut seen = [false; 3];
@@ -185,9 +187,9 @@ fn asked_at_once(alloc: Global) -> Result<Vec<u8>, AllocError> {
 }
 
 // Returns whether the next reply is right for one of these requests, whose reply did not come before.
-fn is_one_answered(
+fn is_one_answered<S: Read>(
     alloc: Global,
-    stream: &mut TcpStream,
+    stream: &mut S,
     seen: &mut [bool; 3],
 ) -> io::Result<bool> {
     let mut header = [0u8; 16];
@@ -215,8 +217,8 @@ const PAGE_ANSWER: &[u8] = b"HTTP/1.1 200 OK\r\n";
 
 const PAGE_LINE: &[u8] = b"\r\n\r\ncs:Connected ro:Primary/Secondary ds:UpToDate/UpToDate pr:";
 
-// Returns whether the status page says that both nodes are connected.
-fn is_answered(alloc: Global, stream: &mut TcpStream) -> io::Result<bool> {
+/// Returns whether the status page says that both nodes are connected.
+pub(crate) fn is_answered<S: Read + Write>(alloc: Global, stream: &mut S) -> io::Result<bool> {
     stream.write_all(PAGE)?;
     let mut came = Vec::new(alloc);
     stream.read_to_end(&mut came)?;
@@ -261,10 +263,13 @@ pub(crate) fn free_addresses<R: Abort + Net<Listener = TcpListener, Stream = Tcp
 
 // Returns the options under which the images are served.
 pub(crate) fn options_of(
+    rt: &(impl Abort + AllocGlobal),
     protocol: Protocol,
     listen: SocketAddr,
     page: SocketAddr,
 ) -> ServeOptions<'static> {
+    let listen = Vec::from_array(rt.alloc(), [ListenAt::Ip(listen)]).expect(rt, "memory");
+    let pages = Vec::from_array(rt.alloc(), [ListenAt::Ip(page)]).expect(rt, "memory");
     ServeOptions {
         local: "serving_local",
         peer: "serving_peer",
@@ -272,7 +277,8 @@ pub(crate) fn options_of(
         metadata: MetadataFiles::Unkept,
         protocol,
         listen,
-        page_port: Some(page.port()),
+        pages,
+        name: None,
         cut_every: None,
         first: FirstStart::Compare,
         compare: false,
@@ -314,7 +320,7 @@ fn serve_one<
     let alloc = rt.alloc();
     let (address, page) = free_addresses(&rt);
     let is_done = Arc::new(alloc, AtomicBool::new(false)).expect(&rt, "memory");
-    let options = options_of(protocol, address, page);
+    let options = options_of(&rt, protocol, address, page);
     let (is_right, status) = thread::join(
         &rt,
         || -> bool {

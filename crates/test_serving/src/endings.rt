@@ -110,7 +110,7 @@ fn serve_to_the_end<
     let options = ServeOptions {
         local: "ending_local",
         peer: "ending_peer",
-        ..options_of(Protocol::C, address, page)
+        ..options_of(&rt, Protocol::C, address, page)
     };
     let mut out = Vec::new(alloc);
     let (_, status) = thread::join(

@@ -31,7 +31,7 @@ fn serve_from<
         local: "first_local",
         peer: "first_peer",
         first,
-        ..options_of(Protocol::C, address, page)
+        ..options_of(&rt, Protocol::C, address, page)
     };
     let mut out = Vec::new(alloc);
     let status = serve_until(rt, &options, &is_done, &mut out);

@@ -1,5 +1,5 @@
 //! Tests of what a FLUSH and a request with FUA wait for, over a device whose writes are released late.
-use crate::page::resync_lines;
+use crate::page::resync_progress;
 use blocks::{BLOCK_BYTES, ConnectionWords, Protocol, Refusal};
 use bytes::Bytes;
 use image_store::{PerDisk, open_image};
@@ -7,7 +7,7 @@ use nbd::{NbdCommand, Request};
 use primary::Receipt;
 use serve_requests::Requests;
 use serving::AnyContents;
-use session_api::{Begun, ConnectionItems, Device, PrimaryProgress, Progress, SecondaryProgress};
+use session_api::{Begun, Device, PrimaryProgress, Progress};
 use std::alloc::Global;
 use std::fs::{self, File, Files, OpenFile};
 use std::process::Abort;
@@ -107,30 +107,14 @@ impl Device for LateDevice {
 
     fn progress(&self) -> Progress {
         let (accepted, released) = self.look();
-        let (primary, secondary) = resync_lines();
-        let none = ConnectionItems {
-            connection: 1,
-            items: 0,
-        };
+        let Progress { primary, secondary } = resync_progress();
         Progress {
             primary: PrimaryProgress {
-                line: primary,
                 accepted,
                 released,
-                marks: 0,
-                sent: none,
-                is_quiet: true,
-                has_unfinished: false,
-                is_metadata_broken: false,
+                ..primary
             },
-            secondary: SecondaryProgress {
-                line: secondary,
-                is_open: true,
-                taken: none,
-                applied: 0,
-                has_unfinished: false,
-                is_metadata_broken: false,
-            },
+            secondary,
         }
     }
 

@@ -6,7 +6,7 @@ use blocks::{Protocol, Refusal};
 use primary::Receipt;
 use serve_clients::{Listeners, Service, start_threads, work};
 use serve_page::StartedAfter;
-use serving::Host;
+use serving::{Host, ListenAt};
 use std::alloc::Global;
 use std::fs::File;
 use std::io::{Read, Write};
@@ -86,7 +86,7 @@ fn serve_device<
 >(rt: H) {
     let alloc = rt.alloc();
     let (address, _) = free_addresses(&rt);
-    let listeners = Listeners::open(&rt, address, None)
+    let (listeners, _) = Listeners::open(&rt, &[ListenAt::Ip(address)], &[], None)
         .ok()
         .expect(&rt, "a listener");
     let requests = requests_under(&rt, Protocol::A, "flushed_held");

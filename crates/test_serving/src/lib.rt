@@ -17,6 +17,10 @@ mod images;
 #[cfg(test)]
 mod page;
 #[cfg(test)]
+mod silent_askers;
+#[cfg(test)]
 mod slow_asker;
 #[cfg(test)]
 mod slow_reader;
+#[cfg(test)]
+mod unix_sockets;

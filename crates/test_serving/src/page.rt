@@ -1,13 +1,45 @@
 //! Tests of the texts of the status page, written out by hand.
 use blocks::Protocol;
-use serve_page::{Resync, ServerStart, StartedAfter, StatusReport, answer_one};
+use serve_page::{ReportSource, Resync, ServerStart, StartedAfter, StatusReport, answer_one};
+use session_api::{ConnectionItems, PrimaryProgress, Progress, SecondaryProgress};
 use status_lines::{DiskState, LinkState, PrimaryLine, Role, SecondaryLine, Words};
 use std::hash::RandomState;
 use std::process::Abort;
 use std::random::RandomSource;
 
-/// Returns what both nodes' lines show while a resync has copied one of four blocks.
-pub(crate) fn resync_lines() -> (PrimaryLine, SecondaryLine) {
+/// Returns how far both nodes have come when a resync has copied one of four blocks.
+pub(crate) fn resync_progress() -> Progress {
+    let (primary, secondary) = resync_lines();
+    Progress {
+        primary: PrimaryProgress {
+            line: primary,
+            accepted: 3,
+            released: 0,
+            marks: 3,
+            sent: ConnectionItems {
+                connection: 2,
+                items: 5,
+            },
+            is_quiet: false,
+            has_unfinished: true,
+            is_metadata_broken: false,
+        },
+        secondary: SecondaryProgress {
+            line: secondary,
+            is_open: true,
+            taken: ConnectionItems {
+                connection: 2,
+                items: 4,
+            },
+            applied: 1,
+            has_unfinished: true,
+            is_metadata_broken: false,
+        },
+    }
+}
+
+// Returns what both nodes' lines show then.
+fn resync_lines() -> (PrimaryLine, SecondaryLine) {
     let primary = PrimaryLine {
         words: Words {
             link: LinkState::SyncSource,
@@ -39,16 +71,26 @@ pub(crate) fn resync_lines() -> (PrimaryLine, SecondaryLine) {
 }
 
 const LINES: &str =
-    "cs:SyncSource ro:Primary/Secondary ds:UpToDate/Inconsistent pr:C pe:0 ap:1 ep:2 oos:12\ncs:SyncTarget ro:Secondary/Primary ds:Inconsistent/UpToDate pr:C pending:3 use:No whole:1\nstart: the last server was killed, 16 KiB to copy\nresync: 25% done, 12 KiB left, 2 KiB/s, 6 s to go\n";
+    "cs:SyncSource ro:Primary/Secondary ds:UpToDate/Inconsistent pr:C pe:0 ap:1 ep:2 oos:12\ncs:SyncTarget ro:Secondary/Primary ds:Inconsistent/UpToDate pr:C pending:3 use:No whole:1\nsize: 20 KiB\nstart: the last server was killed, 16 KiB to copy\nresync: 25% done, 12 KiB left, 2 KiB/s, 6 s to go\n";
 
 const JSON: &str =
-    "{\"peer_sync_failed\":false,\"primary\":{\"connection\":\"SyncSource\",\"disk\":\"UpToDate\",\"open_epochs\":2,\"open_writes\":1,\"out_of_sync_kib\":12,\"peer_disk\":\"Inconsistent\",\"peer_role\":\"Secondary\",\"protocol\":\"C\",\"role\":\"Primary\",\"unanswered_writes\":0},\"resync\":{\"kib_per_second\":2,\"left_kib\":12,\"percent\":25,\"seconds_left\":6},\"secondary\":{\"connection\":\"SyncTarget\",\"disk\":\"Inconsistent\",\"is_consistent\":false,\"peer_disk\":\"UpToDate\",\"peer_role\":\"Primary\",\"pending_items\":3,\"protocol\":\"C\",\"role\":\"Secondary\",\"whole_epoch\":1},\"start\":{\"after\":\"killed\",\"to_copy_kib\":16}}";
+    "{\"peer_sync_failed\":false,\"primary\":{\"connection\":\"SyncSource\",\"disk\":\"UpToDate\",\"open_epochs\":2,\"open_writes\":1,\"out_of_sync_kib\":12,\"peer_disk\":\"Inconsistent\",\"peer_role\":\"Secondary\",\"protocol\":\"C\",\"role\":\"Primary\",\"unanswered_writes\":0},\"resync\":{\"kib_per_second\":2,\"left_kib\":12,\"percent\":25,\"seconds_left\":6},\"secondary\":{\"connection\":\"SyncTarget\",\"disk\":\"Inconsistent\",\"is_consistent\":false,\"peer_disk\":\"UpToDate\",\"peer_role\":\"Primary\",\"pending_items\":3,\"protocol\":\"C\",\"role\":\"Secondary\",\"whole_epoch\":1},\"size_kib\":20,\"start\":{\"after\":\"killed\",\"to_copy_kib\":16}}";
 
 const LEFT_OUT: &str =
-    "cs:SyncSource ro:Primary/Secondary ds:UpToDate/Inconsistent pr:C pe:0 ap:1 ep:2 oos:12\ncs:SyncTarget ro:Secondary/Primary ds:Inconsistent/UpToDate pr:C pending:3 use:No whole:1\nstart: no metadata is kept, 0 KiB to copy\na sync of the peer's image failed: the link stays down until the server ends\n";
+    "cs:SyncSource ro:Primary/Secondary ds:UpToDate/Inconsistent pr:C pe:0 ap:1 ep:2 oos:12\ncs:SyncTarget ro:Secondary/Primary ds:Inconsistent/UpToDate pr:C pending:3 use:No whole:1\nsize: 20 KiB\nstart: no metadata is kept, 0 KiB to copy\na sync of the peer's image failed: the link stays down until the server ends\n";
 
 const LEFT_OUT_JSON: &str =
-    "{\"peer_sync_failed\":true,\"primary\":{\"connection\":\"SyncSource\",\"disk\":\"UpToDate\",\"open_epochs\":2,\"open_writes\":1,\"out_of_sync_kib\":12,\"peer_disk\":\"Inconsistent\",\"peer_role\":\"Secondary\",\"protocol\":\"C\",\"role\":\"Primary\",\"unanswered_writes\":0},\"resync\":null,\"secondary\":{\"connection\":\"SyncTarget\",\"disk\":\"Inconsistent\",\"is_consistent\":false,\"peer_disk\":\"UpToDate\",\"peer_role\":\"Primary\",\"pending_items\":3,\"protocol\":\"C\",\"role\":\"Secondary\",\"whole_epoch\":1},\"start\":{\"after\":\"no-metadata\",\"to_copy_kib\":0}}";
+    "{\"peer_sync_failed\":true,\"primary\":{\"connection\":\"SyncSource\",\"disk\":\"UpToDate\",\"open_epochs\":2,\"open_writes\":1,\"out_of_sync_kib\":12,\"peer_disk\":\"Inconsistent\",\"peer_role\":\"Secondary\",\"protocol\":\"C\",\"role\":\"Primary\",\"unanswered_writes\":0},\"resync\":null,\"secondary\":{\"connection\":\"SyncTarget\",\"disk\":\"Inconsistent\",\"is_consistent\":false,\"peer_disk\":\"UpToDate\",\"peer_role\":\"Primary\",\"pending_items\":3,\"protocol\":\"C\",\"role\":\"Secondary\",\"whole_epoch\":1},\"size_kib\":20,\"start\":{\"after\":\"no-metadata\",\"to_copy_kib\":0}}";
+
+/// A source that has this report, or none.
+#[derive(Clone, Copy)]
+struct Held<'a>(Option<&'a StatusReport>);
+
+impl ReportSource for Held<'_> {
+    fn report(&mut self) -> Option<StatusReport> {
+        self.0.copied()
+    }
+}
 
 /// Checks that a client that asks this gets this status and this body.
 fn check_answer(
@@ -64,7 +106,7 @@ fn check_answer(
     let keys = RandomState::new(rt).expect(rt, "keys");
     let mut reader = request.as_bytes();
     let mut writer = Vec::new(alloc);
-    answer_one(alloc, keys, report, &mut reader, &mut writer).expect(rt, "an answer");
+    answer_one(alloc, keys, Held(report), &mut reader, &mut writer).expect(rt, "an answer");
     let answer = writer.as_slice();
     assert!(rt; answer.starts_with(status.as_bytes()), "{asked}");
     assert!(rt; answer.ends_with(body.as_bytes()), "{asked}");
@@ -72,10 +114,11 @@ fn check_answer(
 
 #[test]
 fn a_client_is_answered(rt: HostRuntime) {
-    let (primary, secondary) = resync_lines();
+    let Progress { primary, secondary } = resync_progress();
     let report = StatusReport {
         primary,
         secondary,
+        blocks: 5,
         start: ServerStart {
             after: StartedAfter::Kill,
             to_copy: 4,
@@ -111,10 +154,11 @@ fn a_client_is_answered(rt: HostRuntime) {
 
 #[test]
 fn a_client_is_told_that_the_peer_is_left_out(rt: HostRuntime) {
-    let (primary, secondary) = resync_lines();
+    let Progress { primary, secondary } = resync_progress();
     let report = StatusReport {
         primary,
         secondary,
+        blocks: 5,
         start: ServerStart {
             after: StartedAfter::NoMetadata,
             to_copy: 0,

@@ -76,7 +76,7 @@ fn serve_page_to_both<
     let options = ServeOptions {
         local: "asked_local",
         peer: "asked_peer",
-        ..options_of(Protocol::C, address, page)
+        ..options_of(&rt, Protocol::C, address, page)
     };
     let mut out = Vec::new(alloc);
     let (is_in_time, status) = thread::join(

@@ -128,7 +128,7 @@ fn serve_both<
     let options = ServeOptions {
         local: "slow_local",
         peer: "slow_peer",
-        ..options_of(Protocol::C, address, page)
+        ..options_of(&rt, Protocol::C, address, page)
     };
     let (_, status) = thread::join(
         &rt,

@@ -78,10 +78,8 @@ fn write(
     let range = Range::new(first, count, disk.blocks()).expect(rt, "a range");
     let length = range.count as usize * BLOCK_BYTES;
     let bytes = Vec::from_elem(alloc, byte, length).expect(rt, "memory");
-    match disk.write(range, &bytes) {
-        Ok(()) => Ok(true),
-        Err(fault) => Err(fault),
-    }
+    disk.write(range, &bytes)?;
+    Ok(true)
 }
 
 fn read(
@@ -92,10 +90,8 @@ fn read(
 ) -> Result<bool, StoreFault> {
     assert!(rt; block < u64::from(disk.blocks()));
     let mut bytes = Vec::from_elem(alloc, 1u8, BLOCK_BYTES).expect(rt, "memory");
-    match disk.read(Block(block), &mut bytes) {
-        Ok(()) => Ok(bytes.iter().all(|x| *x == byte)),
-        Err(fault) => Err(fault),
-    }
+    disk.read(Block(block), &mut bytes)?;
+    Ok(bytes.iter().all(|x| *x == byte))
 }
 
 fn goes(rt: &impl Abort, alloc: Global, disk: &mut impl Store, rows: &'static [Row]) {

@@ -1,0 +1,104 @@
+//! The files of Unix sockets at which a server listens.
+use crate::listener::ListenFault;
+use crate::lists::append;
+use std::alloc::Global;
+use std::fs::Permissions;
+use std::io::ErrorKind;
+use std::net::Net;
+use std::os::unix::fs::{FileTypeExt, MetadataExt, PermissionsExt};
+use std::os::unix::net::{UnixListener, UnixStream};
+use std::rt::Files;
+use std::{fs, io};
+
+/// The mode of the file of a socket: its owner and group may connect.
+const MODE: u32 = 0o660;
+
+/// The file of a socket at which this server listens.
+#[derive(Drop)]
+struct SocketFile {
+    path: String,
+    device: u64,
+    inode: u64,
+}
+
+/// The files of the Unix sockets at which a server listens. They stay when the sockets are closed.
+#[derive(Drop)]
+pub struct SocketFiles {
+    files: Vec<SocketFile>,
+}
+
+impl SocketFiles {
+    /// Creates a list of none.
+    pub(crate) fn none(alloc: Global) -> SocketFiles {
+        SocketFiles {
+            files: Vec::new(alloc),
+        }
+    }
+
+    /// Listens at this path, and keeps its file in mind. What a dead server left there is removed before.
+    pub(crate) fn listen<R: Files + Net + AllocGlobal>(
+        &mut self,
+        rt: &R,
+        path: &str,
+    ) -> Result<UnixListener, ListenFault> {
+        make_room(rt, path)?;
+        match bind(rt, path) {
+            Ok((socket, metadata)) => {
+                let file = SocketFile {
+                    path: String::from_str(rt.alloc(), path)?,
+                    device: metadata.dev(),
+                    inode: metadata.ino(),
+                };
+                append(&mut self.files, file)?;
+                Ok(socket)
+            }
+            Err(error) => Err(ListenFault::at_path(rt.alloc(), path, error)),
+        }
+    }
+
+    /// Removes the files that are still those of this server.
+    pub fn remove<R: Files>(&self, rt: &R) {
+        for file in self.files.iter() {
+            let is_ours = match fs::symlink_metadata(rt, file.path.as_str()) {
+                Ok(found) => found.dev() == file.device && found.ino() == file.inode,
+                Err(_) => false,
+            };
+            if is_ours {
+                let _ = fs::remove_file(rt, file.path.as_str());
+            }
+        }
+    }
+}
+
+// Listens at a path at which nothing is. Returns the socket, and what the system says of its file.
+fn bind<R: Files + Net>(rt: &R, path: &str) -> io::Result<(UnixListener, fs::Metadata)> {
+    let socket = UnixListener::bind(rt, path)?;
+    fs::set_permissions(rt, path, Permissions::from_mode(MODE))?;
+    let metadata = fs::symlink_metadata(rt, path)?;
+    Ok((socket, metadata))
+}
+
+// Removes the socket of a server that is gone. `InUse` if a server answers there, `NoSocket` if something else is there.
+fn make_room<R: Files + Net + AllocGlobal>(rt: &R, path: &str) -> Result<(), ListenFault> {
+    match fs::symlink_metadata(rt, path) {
+        Ok(found) if !found.file_type().is_socket() => {
+            Err(ListenFault::NoSocket(String::from_str(rt.alloc(), path)?))
+        }
+        Ok(_) => remove_dead(rt, path),
+        // Listening tells of any other error.
+        Err(_) => Ok(()),
+    }
+}
+
+// Removes a socket if no server answers there.
+fn remove_dead<R: Files + Net + AllocGlobal>(rt: &R, path: &str) -> Result<(), ListenFault> {
+    match UnixStream::connect(rt, path) {
+        Ok(_) => Err(ListenFault::InUse(String::from_str(rt.alloc(), path)?)),
+        Err(error) if error.kind() == ErrorKind::ConnectionRefused => {
+            // Listening tells of it if this fails.
+            let _ = fs::remove_file(rt, path);
+            Ok(())
+        }
+        Err(error) => Err(ListenFault::at_path(rt.alloc(), path, error)),
+    }
+}

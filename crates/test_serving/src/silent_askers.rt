@@ -1,0 +1,79 @@
+//! Test of a client of the status page beside others that say nothing.
+use crate::clients::{connect, free_addresses, is_answered, options_of, put_image, serve_until};
+use blocks::Protocol;
+use serving::{Host, ServeOptions};
+use std::alloc::Global;
+use std::fs::File;
+use std::net::{Net, SocketAddr, TcpListener, TcpStream};
+use std::process::Abort;
+use std::random::RandomSource;
+use std::rt::Files;
+use std::sync::Arc;
+use std::sync::atomic::{AtomicBool, Ordering};
+use std::time::{Clock, Duration, Instant};
+use std::{fs, io, thread};
+
+/// Clients that connect and say nothing.
+const SILENT: usize = 20;
+
+/// The time within which the other one has its answer: less than a silent client keeps its place, which is two seconds.
+const PATIENCE_MS: u64 = 1500;
+
+// Has silent clients, and one behind them that asks, in time too. Returns whether its answer is right.
+fn ask_behind<R: Abort + Clock + Net<Stream = TcpStream>>(
+    rt: &R,
+    alloc: Global,
+    page: SocketAddr,
+) -> io::Result<bool> {
+    // The server has both nodes connected by then.
+    let mut first = connect(rt, page)?;
+    let is_first_right = is_answered(alloc, &mut first)?;
+    let mut silent = Vec::new(alloc);
+    for _ in 0..SILENT {
+        silent.push(connect(rt, page)?).ok().expect(rt, "memory");
+    }
+    let start = Instant::now(rt)?;
+    let mut asker = connect(rt, page)?;
+    let is_right = is_answered(alloc, &mut asker)?;
+    Ok(is_first_right && is_right && start.elapsed(rt)? < Duration::from_millis(PATIENCE_MS))
+}
+
+// Serves two images and their page. Returns the server's status, and whether the client that asks has its answer in time.
+fn serve_page_to_many<
+    H: Abort
+        + Host
+        + Files<File = File>
+        + Net<Listener = TcpListener, Stream = TcpStream>
+        + RandomSource,
+>(rt: H) -> (u8, bool) {
+    let alloc = rt.alloc();
+    let (address, page) = free_addresses(&rt);
+    let is_done = Arc::new(alloc, AtomicBool::new(false)).expect(&rt, "memory");
+    let options = ServeOptions {
+        local: "silent_local",
+        peer: "silent_peer",
+        ..options_of(&rt, Protocol::C, address, page)
+    };
+    let mut out = Vec::new(alloc);
+    let (answer, status) = thread::join(
+        &rt,
+        || -> io::Result<bool> {
+            let answer = ask_behind(&rt, alloc, page);
+            is_done.store(true, Ordering::SeqCst);
+            answer
+        },
+        || -> u8 { serve_until(rt, &options, &is_done, &mut out) },
+    );
+    (status, answer.expect(&rt, "an answer"))
+}
+
+#[test]
+fn a_client_of_the_page_waits_for_no_silent_ones(rt: HostRuntime) {
+    for file in ["silent_local", "silent_peer"] {
+        put_image(&rt, file);
+    }
+    assert_eq!(rt; serve_page_to_many(rt), (0, true));
+    for file in ["silent_local", "silent_peer"] {
+        fs::remove_file(&rt, file).expect(&rt, "an image");
+    }
+}
