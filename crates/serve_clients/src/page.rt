@@ -76,7 +76,7 @@ struct Asking<'a, R> {
 }
 
 impl<R: Wait + Clock> ReportSource for Asking<'_, R> {
-    fn report(&mut self) -> Option<StatusReport> {
+    fn report(&self) -> Option<StatusReport> {
         self.service.reports.ask(self.rt)
     }
 }

@@ -18,7 +18,7 @@ const NO_SUCH_PAGE: &str = "there is no such page: this server has / and /status
 /// Gives reports.
 pub trait ReportSource {
     /// Returns a report of this moment, or `None` if there is none now.
-    fn report(&mut self) -> Option<StatusReport>;
+    fn report(&self) -> Option<StatusReport>;
 }
 
 /// The page that a client gets, with a report from this source.
@@ -61,7 +61,7 @@ enum Form {
 
 impl<S: ReportSource + Drop> Page<S> {
     // Gives a response a report of this moment, or says that there is none.
-    fn fill(&mut self, response: &mut Response, form: Form) -> Result<(), AllocError> {
+    fn fill(&self, response: &mut Response, form: Form) -> Result<(), AllocError> {
         let Some(report) = self.source.report() else {
             response.status = StatusCode::SERVICE_UNAVAILABLE;
             return fill_text(response, NO_REPORT);

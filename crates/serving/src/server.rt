@@ -232,9 +232,9 @@ fn start_service<
         first_word,
         after,
     )?)?;
-    let lines = listeners
-        .lines(rt.alloc(), blocks)
-        .map_err(|_| Refusal::NoMemory)?;
+    let Ok(lines) = listeners.lines(rt.alloc(), blocks) else {
+        return Err(ServeFault::Refused(Refusal::NoMemory));
+    };
     start_threads(rt, &service, listeners, input)?;
     let _ = err.write_all(lines.as_bytes());
     Ok(service)

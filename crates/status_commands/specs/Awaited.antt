@@ -1,5 +1,5 @@
 -- What a command waits for.
-use Rattle.std.specs.Prelude.{◌≡◌, ◌×◌, ◌⊎◌}
+use Rattle.std.specs.Prelude.{◌≡◌, ◌⊎◌}
 use Rattle.program_values.specs.declared.queries.Awaited.{Awaited}
 use Rattle.program_values.specs.declared.queries.Awaited.TheVariants as awaited
 use Rattle.status_lines.specs.declared.lines.PrimaryLine.{PrimaryLine}

@@ -2,14 +2,14 @@
 #![tactic(auto)]
 
 mod answer;
-mod ask;
+mod asking;
 mod drbd_json;
 mod end;
 mod names;
 mod server;
 mod told;
-mod wait;
+mod waiting;
 
-pub use ask::ask;
+pub use asking::ask;
 pub use end::QueryEnd;
-pub use wait::wait;
+pub use waiting::wait;

@@ -12,8 +12,8 @@ use std::{fmt, io};
 /// The question for the lines of a status page.
 const QUESTION: &[u8] = b"GET / HTTP/1.1\r\nhost: localhost\r\nconnection: close\r\n\r\n";
 
-/// How long a server may take for its answer: it gives one within two seconds, or says that it has none.
-pub(crate) const PATIENCE: Duration = Duration::from_secs(5);
+/// How long a server may take for its answer, in seconds: it gives one within two, or says that it has none.
+pub(crate) const PATIENCE_S: u64 = 5;
 
 /// The most bytes of an answer.
 const MOST_BYTES: usize = 65_536;

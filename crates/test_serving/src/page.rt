@@ -87,7 +87,7 @@ const LEFT_OUT_JSON: &str =
 struct Held<'a>(Option<&'a StatusReport>);
 
 impl ReportSource for Held<'_> {
-    fn report(&mut self) -> Option<StatusReport> {
+    fn report(&self) -> Option<StatusReport> {
         self.0.copied()
     }
 }

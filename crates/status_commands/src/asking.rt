@@ -2,7 +2,7 @@
 use crate::drbd_json;
 use crate::end::QueryEnd;
 use crate::names::names_in;
-use crate::server::{NoAnswer, PATIENCE, ask_server};
+use crate::server::{NoAnswer, PATIENCE_S, ask_server};
 use crate::told::Told;
 use program_values::{Asked, Question};
 use std::alloc::{AllocError, Global};
@@ -11,7 +11,7 @@ use std::io::Write;
 use std::net::Net;
 use std::rt::Files;
 use std::sync::Wait;
-use std::time::Clock;
+use std::time::{Clock, Duration};
 
 /// Asks one server or all, and prints what it tells on `out`: for all of them in the order of their names. A line on `err` tells of each
 /// that gives no status. Returns how it ended:
@@ -83,7 +83,8 @@ fn part_of<R: Net + Clock + Wait + AllocGlobal>(
     name: &str,
     question: Question,
 ) -> Result<String, NoAnswer> {
-    let told = ask_server(rt, rt.alloc(), run_folder, name, PATIENCE)?;
+    let patience = Duration::from_secs(PATIENCE_S);
+    let told = ask_server(rt, rt.alloc(), run_folder, name, patience)?;
     Ok(shown(rt.alloc(), question, name, &told)?)
 }
 

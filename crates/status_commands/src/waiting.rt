@@ -1,6 +1,6 @@
 //! The commands that wait for a server.
 use crate::end::QueryEnd;
-use crate::server::{NoAnswer, PATIENCE, ask_server};
+use crate::server::{NoAnswer, PATIENCE_S, ask_server};
 use crate::told::is_reached;
 use program_values::WaitOptions;
 use std::io::Write;
@@ -55,12 +55,12 @@ pub fn wait<R: Net + Clock + Wait + AllocGlobal, E: Write>(
 // Returns how long the next answer may take, in a wait that began at `start`: not at all if its time is up.
 fn patience_of<R: Clock>(rt: &R, start: Instant, limit: Option<u32>) -> Duration {
     let Some(seconds) = limit else {
-        return PATIENCE;
+        return Duration::from_secs(PATIENCE_S);
     };
     match start.elapsed(rt) {
         Ok(elapsed) => Duration::from_secs(u64::from(seconds))
             .saturating_sub(elapsed)
-            .min(PATIENCE),
+            .min(Duration::from_secs(PATIENCE_S)),
         Err(_) => Duration::ZERO,
     }
 }
