@@ -57,6 +57,7 @@ fn open_primary<O: FrameOut + Drop, I: FrameIn + Drop, F: StableFile>(
     link: (O, I),
     metadata: Option<Metadata<F>>,
 ) -> Result<Primary<O, I, F>, Refusal>
+    requires some { 0 < blocks }
     requires few { blocks ≤ 262144 }
     requires outward { IsNewOut (O.state link.0) }
     requires inward { IsNewIn (I.state link.1) }
@@ -85,6 +86,7 @@ fn open_secondary<O: FrameOut + Drop, I: FrameIn + Drop>(
     blocks: u32,
     link: (O, I),
 ) -> Result<Secondary<O, I>, Refusal>
+    requires some { 0 < blocks }
     requires few { blocks ≤ 262144 }
     requires outward { IsNewOut (O.state link.0) }
     requires inward { IsNewIn (I.state link.1) }

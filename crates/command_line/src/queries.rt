@@ -40,7 +40,7 @@ Asks servers for the state of their links, as drbdadm cstate prints it: a line f
 each server, in the order of their names.
   StandAlone           the link is down
   WFReportParams       it is up, and the nodes have not agreed yet
-  Connected            both nodes have what clients write
+  Connected            the link is up, and writes go to both nodes
   SyncSource           marked blocks are copied to the peer
 
   drbdpair cstate r0
@@ -65,14 +65,15 @@ failed; 2 wrong usage; 10 a server does not answer, or gives no status now.
 
 /// What `wait-sync` waits for.
 const WAIT_SYNC: &str = "\
-Waits until the peer's disk has all that the local one has: the link is Connected,
-both disks are UpToDate and no block is marked. A server that gives no status
-yet, as while it compares its images, is waited for. It prints nothing.
+Waits until nothing is left to copy to the peer's disk: the link is Connected,
+both disks are UpToDate and no block is marked. It waits for no write that is
+under way. A server that gives no status yet, as while it compares its images, is
+waited for. It prints nothing.
 
   drbdpair wait-sync r0 --wfc-timeout 600
 
-Exit statuses: 0 it has; 1 memory failed; 2 wrong usage; 5 it had not when the
-time was up; 10 no server of that name answers.
+Exit statuses: 0 nothing is left; 1 memory failed; 2 wrong usage; 5 something was
+left when the time was up; 10 no server of that name answers.
 ";
 
 /// What `wait-connect` waits for.
@@ -127,7 +128,7 @@ pub(crate) fn wait_sync<'a>(alloc: Global) -> Result<Command<'a>, Error> {
     waiting(
         alloc,
         "wait-sync",
-        "Waits until a server's peer has all blocks",
+        "Waits until nothing is left to copy to a server's peer",
         WAIT_SYNC,
     )
 }

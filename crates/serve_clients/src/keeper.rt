@@ -48,7 +48,7 @@ pub(crate) fn keep<R: Wait + Clock>(
         if service.reports.is_asked(rt) {
             service
                 .reports
-                .give(rt, link.report(rt, service, &progress, most));
+                .give(rt, link.report(rt, service, &device.progress(), most));
         }
         thread::sleep(rt, Duration::from_millis(LOOK_MS));
         link.looks = link.looks.saturating_add(1);

@@ -17,8 +17,27 @@ const MODE: u32 = 0o660;
 #[derive(Drop)]
 struct SocketFile {
     path: String,
+    identity: Identity,
+}
+
+/// What tells a file from one that took its place: a number of a file is used again, and so its time of change is kept, too.
+#[derive(Clone, Copy, PartialEq, Eq)]
+struct Identity {
     device: u64,
     inode: u64,
+    changed_s: i64,
+    changed_ns: i64,
+}
+
+impl Identity {
+    fn of(metadata: &fs::Metadata) -> Identity {
+        Identity {
+            device: metadata.dev(),
+            inode: metadata.ino(),
+            changed_s: metadata.ctime(),
+            changed_ns: metadata.ctime_nsec(),
+        }
+    }
 }
 
 /// The files of the Unix sockets at which a server listens. They stay when the sockets are closed.
@@ -46,8 +65,7 @@ impl SocketFiles {
             Ok((socket, metadata)) => {
                 let file = SocketFile {
                     path: String::from_str(rt.alloc(), path)?,
-                    device: metadata.dev(),
-                    inode: metadata.ino(),
+                    identity: Identity::of(&metadata),
                 };
                 append(&mut self.files, file)?;
                 Ok(socket)
@@ -60,7 +78,7 @@ impl SocketFiles {
     pub fn remove<R: Files>(&self, rt: &R) {
         for file in self.files.iter() {
             let is_ours = match fs::symlink_metadata(rt, file.path.as_str()) {
-                Ok(found) => found.dev() == file.device && found.ino() == file.inode,
+                Ok(found) => Identity::of(&found) == file.identity,
                 Err(_) => false,
             };
             if is_ours {

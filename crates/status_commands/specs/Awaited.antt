@@ -6,7 +6,7 @@ use Rattle.status_lines.specs.declared.lines.PrimaryLine.{PrimaryLine}
 use Rattle.status_lines.specs.declared.words.DiskState.TheVariants as disk
 use Rattle.status_lines.specs.declared.words.LinkState.TheVariants as link
 
--- the primary's line says that it has come: both nodes are connected, or the peer's disk has all that the local one has
+-- the primary's line says that it has come: both nodes are connected, or nothing is left to copy to the peer's disk
 abbrev pub IsReached : Awaited → PrimaryLine → Type 0
 IsReached awaited.Connection line = (line.words.link ≡ link.Connected) ⊎ (line.words.link ≡ link.SyncSource) ⊎ (line.words.link ≡ link.SyncTarget)
 IsReached awaited.Sync line =

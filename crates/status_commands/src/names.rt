@@ -36,11 +36,12 @@ pub(crate) fn names_in<R: Files + AllocGlobal + Clone + Drop>(
     Ok(names)
 }
 
-// Returns whether the server of this name has a status socket.
+// Returns whether the server of this name has a status socket. An error if its folder may not be searched: there may be one.
 fn has_socket<R: Files + AllocGlobal>(rt: &R, run_folder: &str, name: &str) -> io::Result<bool> {
     let path = format!(in rt.alloc(); "{run_folder}/{name}/status")?;
     match fs::metadata(rt, path.as_str()) {
         Ok(found) => Ok(found.file_type().is_socket()),
+        Err(error) if error.kind() == ErrorKind::PermissionDenied => Err(error),
         Err(_) => Ok(false),
     }
 }
