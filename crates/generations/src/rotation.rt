@@ -39,6 +39,17 @@ impl Generations {
         self.into_history(0);
     }
 
+    /// Records that a resync starts at its target, which SYNC_UUID tells: makes `word` the current identifier. The
+    /// data are of no generation until the resync ends.
+    pub fn sync_target_start(&mut self, word: u64)
+        ensures { self.new.tuple ≡ record self.old.tuple { current = word } }
+    {
+        self.tuple = Tuple {
+            current: word,
+            ..self.tuple
+        };
+    }
+
     /// Takes over the source's tuple, as the target's resync has ended.
     pub fn adopt(&mut self, tuple: Tuple)
         ensures { self.new.tuple ≡ tuple }

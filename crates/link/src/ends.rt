@@ -4,6 +4,7 @@ ghost use Rattle.link.specs.Ends.{OutEnd, InEnd, with_sent, with_taken};
 ghost use Rattle.link.specs.Past.{ended};
 ghost use Rattle.link.specs.Taking.{TakesFirst};
 ghost use Rattle.packets.specs.Cutting.{IsCut};
+ghost use Rattle.packets.specs.declared.fixed_part.TheConstants.{FIXED_BYTES};
 ghost use Rattle.blocks.specs.declared.refusal.Refusal.TheVariants.{LinkFull, NoMemory, NothingThere};
 
 use blocks::Refusal;
@@ -80,8 +81,8 @@ pub trait FrameIn {
         // If it knows its queue, it takes the first frame of it, and refuses exactly if the queue is empty.
         ensures exact { TakesFirst (state self.old).queued result (state self.new).queued }
 
-        // A frame of at most 40 bytes leaves the room for a longer one.
-        ensures still_ready { IfOk result (λ frame. length frame ≤ 40 → (state self.new).is_ready ≡ true) }
+        // A frame that is stored inline leaves the room for a longer one.
+        ensures still_ready { IfOk result (λ frame. length frame ≤ FIXED_BYTES → (state self.new).is_ready ≡ true) }
 
         ensures refused { IfErr result (λ e. e ≡ NothingThere) }
         ensures unchanged { OnErr result (state self.new ≡ state self.old) };

@@ -5,9 +5,8 @@ ghost use Rattle.nbd.specs.Requests.{Spells, header_at, request_magic};
 ghost use Rattle.nbd.specs.declared.header.RequestHeader.{RequestHeader};
 ghost use Rattle.blocks.specs.declared.refusal.Refusal.TheVariants.{BadMagic};
 
-use crate::Short;
-use crate::numbers::{put_u16, put_u32, put_u64, u16_at, u32_at, u64_at};
 use blocks::Refusal;
+use packets::{FixedPart, put_u16, put_u32, put_u64, u16_at, u32_at, u64_at};
 
 /// NBD_REQUEST_MAGIC, which begins each request.
 const REQUEST_MAGIC: u32 = 0x2560_9513;
@@ -34,10 +33,10 @@ pub struct RequestHeader {
 impl RequestHeader {
     /// Returns the 28 bytes that spell the header.
     #[tactic(auto, unfolding(crate::specs::Requests::spelling))]
-    pub fn encode(&self) -> Short
+    pub fn encode(&self) -> FixedPart
         ensures { Spells self.now result }
     {
-        let mut out = Short::new();
+        let mut out = FixedPart::new();
         put_u32(&mut out, REQUEST_MAGIC);
         put_u16(&mut out, self.flags);
         put_u16(&mut out, self.kind);

@@ -5,7 +5,8 @@ ghost use Rattle.std.specs.List.{AllByRecursion};
 ghost use Rattle.blocks.specs.Ranges.{IsRange};
 ghost use Rattle.nbd.specs.Exports.{Exported};
 ghost use Rattle.nbd.specs.Machine.{Machine, fed, then_fed};
-ghost use Rattle.nbd.specs.Messages.{ClientOption, FitsOption, IsMessage, Message, Parses, answer, answers, at_option, at_request, message_bytes, option_answer, option_bytes, stream_of};
+ghost use Rattle.nbd.specs.Messages.{ClientOption, FitsOption, IsMessage, Message, Parses, answer, answers, at_option, at_request, message_bytes};
+ghost use Rattle.nbd.specs.Messages.{option_answer, option_bytes, stream_of};
 ghost use Rattle.nbd.specs.Pieces.{Joins, pieces};
 
 /// It does not matter how the bytes are cut: two pieces, one after the other, have the output of both

@@ -9,14 +9,12 @@ mod errno;
 mod export;
 mod header;
 mod laws;
-mod numbers;
 mod options;
 mod output;
 mod phase;
 mod ranges;
 mod reply;
 mod request;
-mod short;
 mod step;
 
 pub use command::NbdCommand;
@@ -30,7 +28,7 @@ pub use laws::{
 };
 pub use options::greeting;
 pub use output::Output;
+pub use packets::FixedPart;
 pub use ranges::Ranges;
 pub use reply::{REPLY_BYTES, Reply};
 pub use request::Request;
-pub use short::Short;

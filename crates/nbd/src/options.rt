@@ -1,13 +1,15 @@
 //! The handshake: the greeting, and the reply to each option.
 ghost use Rattle.std.specs.Prelude.{◌≡◌, ◌+◌, ◌≤◌, ◌++◌, [], length, IfOk, OnOk};
 ghost use Rattle.std.specs.Option.{option_copied};
-ghost use Rattle.nbd.specs.Options.{greeting, option_reply, size_and_flags, info_export, info_block_size, is_named, asked_name, export_name, listed, informed, informed_of, option_replied, replies};
+ghost use Rattle.nbd.specs.Options.{greeting, option_reply, size_and_flags, info_export, info_block_size, is_named, asked_name, export_name, listed, informed};
+ghost use Rattle.nbd.specs.Options.{informed_of, option_replied, replies};
 ghost use Rattle.nbd.specs.Steps.{IsReplied};
+ghost use Rattle.packets.specs.declared.fixed_part.TheConstants.{FIXED_BYTES};
 
+use crate::Export;
 use crate::command::MAX_REQUEST_BYTES;
-use crate::numbers::{put_u16, put_u32, put_u64, u16_at, u32_at};
-use crate::{Export, Short};
 use blocks::{BLOCK_BYTES, Refusal};
+use packets::{FixedPart, put_u16, put_u32, put_u64, u16_at, u32_at};
 use std::alloc::{AllocError, Global};
 
 /// NBDMAGIC, which begins the greeting.
@@ -80,10 +82,10 @@ pub(crate) struct OptionReply {
 
 /// Returns the 18 bytes that a server sends first (NBD protocol, "Fixed newstyle negotiation").
 #[tactic(auto, unfolding(crate::specs::Options::greeting))]
-pub fn greeting() -> Short
+pub fn greeting() -> FixedPart
     ensures { result ≡ greeting }
 {
-    let mut out = Short::new();
+    let mut out = FixedPart::new();
     put_u64(&mut out, GREETING_MAGIC);
     put_u64(&mut out, OPTION_MAGIC);
     put_u16(&mut out, HANDSHAKE_FLAGS);
@@ -139,7 +141,7 @@ fn put_reply(out: &mut Vec<u8>, option: u32, kind: u32, bytes: &[u8]) -> Result<
     requires { length bytes.now ≤ 4100 }
     ensures { OnOk result (out.new.items ≡ out.old.items ++ option_reply option kind bytes.now) }
 {
-    let mut head = Short::new();
+    let mut head = FixedPart::new();
     put_u64(&mut head, REPLY_MAGIC);
     put_u32(&mut head, option);
     put_u32(&mut head, kind);
@@ -151,8 +153,8 @@ fn put_reply(out: &mut Vec<u8>, option: u32, kind: u32, bytes: &[u8]) -> Result<
 
 /// Appends the device's size in bytes and the transmission flags.
 #[tactic(auto, unfolding(crate::specs::Options::size_and_flags))]
-fn put_size_and_flags(out: &mut Short, export: &Export)
-    requires { length out.old + 10 ≤ 28 }
+fn put_size_and_flags(out: &mut FixedPart, export: &Export)
+    requires { length out.old + 10 ≤ FIXED_BYTES }
     ensures { out.new ≡ out.old ++ size_and_flags export.now }
 {
     put_u64(out, export.bytes());
@@ -176,7 +178,7 @@ fn export_name(
             next: Next::Close,
         });
     }
-    let mut head = Short::new();
+    let mut head = FixedPart::new();
     put_size_and_flags(&mut head, export);
     sent.extend_from_slice(head.as_slice())?;
     if !no_zeroes {
@@ -203,7 +205,7 @@ fn list(alloc: Global, export: &Export, bytes: &[u8]) -> Result<OptionReply, Ref
         return refuse(alloc, OPT_LIST, REP_ERR_INVALID);
     }
     let name = export.name().as_bytes();
-    let mut length = Short::new();
+    let mut length = FixedPart::new();
     put_u32(&mut length, name.len() as u32);
     let mut server = Vec::new(alloc);
     server.extend_from_slice(length.as_slice())?;
@@ -260,7 +262,7 @@ fn asked_name(bytes: &[u8]) -> Option<&[u8]>
 fn informed(alloc: Global, export: &Export, option: u32) -> Result<Vec<u8>, AllocError>
     ensures { IfOk result (λ sent. sent.items ≡ (informed export.now option Next.Negotiate).sent) }
 {
-    let mut size = Short::new();
+    let mut size = FixedPart::new();
     put_u16(&mut size, INFO_EXPORT);
     put_size_and_flags(&mut size, export);
     let mut sent = Vec::new(alloc);
@@ -272,10 +274,10 @@ fn informed(alloc: Global, export: &Export, option: u32) -> Result<Vec<u8>, Allo
 
 /// Returns the least, preferred and most bytes of a request.
 #[tactic(auto, unfolding(crate::specs::Options::info_block_size))]
-fn block_sizes() -> Short
+fn block_sizes() -> FixedPart
     ensures { result ≡ info_block_size }
 {
-    let mut out = Short::new();
+    let mut out = FixedPart::new();
     put_u16(&mut out, INFO_BLOCK_SIZE);
     put_u32(&mut out, BLOCK_BYTES as u32);
     put_u32(&mut out, BLOCK_BYTES as u32);

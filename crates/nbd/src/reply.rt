@@ -3,9 +3,9 @@ ghost use Rattle.std.specs.Prelude.{◌≡◌, ℕ, length, Ok, IfOk, IfErr, Opt
 ghost use Rattle.nbd.specs.Replies.{IsReplyFault, SpellsReply, reply_at};
 ghost use Rattle.nbd.specs.declared.reply.Reply.{Reply};
 
-use crate::numbers::{put_u32, put_u64, u32_at, u64_at};
-use crate::{Errno, Short};
+use crate::Errno;
 use blocks::Refusal;
+use packets::{FixedPart, put_u32, put_u64, u32_at, u64_at};
 
 /// NBD_SIMPLE_REPLY_MAGIC, which begins each reply.
 const REPLY_MAGIC: u32 = 0x6744_6698;
@@ -25,10 +25,10 @@ pub struct Reply {
 impl Reply {
     /// Returns the 16 bytes that spell the reply.
     #[tactic(auto, unfolding(crate::specs::Replies::reply_spelling))]
-    pub fn encode(&self) -> Short
+    pub fn encode(&self) -> FixedPart
         ensures { SpellsReply self.now result }
     {
-        let mut out = Short::new();
+        let mut out = FixedPart::new();
         put_u32(&mut out, REPLY_MAGIC);
         put_u32(&mut out, self.error.map_or(0, Errno::number));
         put_u64(&mut out, self.cookie);

@@ -4,11 +4,11 @@ ghost use Rattle.blocks.specs.declared.refusal.Refusal.TheVariants.{NoMemory};
 ghost use Rattle.nbd.specs.Exports.{Exported};
 ghost use Rattle.nbd.specs.Machine.{Waits};
 ghost use Rattle.nbd.specs.Replies.{reply_spelling};
-ghost use Rattle.nbd.specs.Steps.{after_flags, after_header, after_option, after_reply, begins, failure, gives, goes_on, refuses, sends, skipped, step, view, wanted};
+ghost use Rattle.nbd.specs.Steps.{after_flags, after_header, after_option, after_reply, begins, failure, gives, goes_on, refuses, sends, skipped, step, view};
+ghost use Rattle.nbd.specs.Steps.{wanted};
 ghost use Rattle.nbd.specs.declared.phase.Phase.TheVariants as phase;
 ghost use Rattle.nbd.specs.declared.phase.Part.TheVariants as part;
 
-use crate::numbers::{u32_at, u64_at};
 use crate::options::{
     Next, OPT_EXPORT_NAME, OPTION_MAGIC, OptionReply, REP_ERR_TOO_BIG, refuse, reply_to_option,
 };
@@ -16,6 +16,7 @@ use crate::phase::{Part, Phase, Refused};
 use crate::{Errno, Export, NbdCommand, Reply, Request, RequestHeader};
 use blocks::Refusal;
 use bytes::Bytes;
+use packets::{u32_at, u64_at};
 use std::alloc::Global;
 use std::mem;
 

@@ -5,5 +5,5 @@ use Rattle.packets.specs.declared.frame.Held.TheVariants.{Inline, Shared}
 
 -- the bytes that are held
 abbrev pub held_bytes : Held → List ℕ
-held_bytes (Inline short) = short
+held_bytes (Inline part) = part
 held_bytes (Shared bytes) = bytes

@@ -5,14 +5,17 @@ ghost use Rattle.packets.specs.Cutting.{cut_after};
 
 use crate::header::{HEADER_BYTES, Header};
 
+/// Bytes of the longest frame, a write of 32 blocks.
+pub const MAX_FRAME_BYTES: usize = 131_104;
+
 /// Returns how many bytes a reader cuts off as one frame, by the first 8 of them: the header and its payload, or
-/// these 8 alone if the header is faulty. At most 131,104, those of the longest frame.
+/// these 8 alone if the header is faulty. At most those of the longest frame.
 #[tactic(auto, using(crate::proofs::Rows::header_most))]
 pub fn cut_length(header: &[u8]) -> usize
     requires { 8 ≤ length header.now }
     ensures cut { result ≡ cut_after (header_at header.now) }
     ensures least { 8 ≤ result }
-    ensures most { result ≤ 131104 }
+    ensures most { result ≤ MAX_FRAME_BYTES }
 {
     match Header::judge(header) {
         Ok(header) => HEADER_BYTES + header.len as usize,

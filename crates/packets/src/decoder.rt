@@ -2,14 +2,14 @@
 ghost use Rattle.std.specs.Prelude.{◌≡◌, ◌≢◌, ◌+◌, ◌<◌, ◌≤◌, ◌++◌, [], length, take, Option, Some, None, Err, IfErr, OnErr, OnOk, IfOk};
 ghost use Rattle.packets.specs.Stream.{IsPart, IsFront, Gives, Stops};
 ghost use Rattle.packets.specs.Steps.{IsJudged, Advances, Adds, left_of};
+ghost use Rattle.packets.specs.declared.cutting.TheConstants.{MAX_FRAME_BYTES};
 ghost use Rattle.blocks.specs.declared.refusal.Refusal.{Refusal};
 ghost use Rattle.blocks.specs.declared.refusal.Refusal.TheVariants.{NoMemory};
 
 use crate::header::{HEADER_BYTES, Header};
 use crate::reading::packet_of;
-use crate::short::{SHORT_BYTES, Short};
 use crate::writing::joined;
-use crate::{Frame, Packet};
+use crate::{FIXED_BYTES, FixedPart, Frame, Packet};
 use blocks::Refusal;
 use bytes::BytesMut;
 use std::alloc::Global;
@@ -72,7 +72,7 @@ impl Decoder {
             → (result ≡ Err e) × (self.new ≡ self.old) × (out.new.items ≡ out.old.items) }
         ensures no_memory { IfErr result (λ e. e ≡ NoMemory
             → (self.new ≡ self.old) × (out.new.items ≡ out.old.items)) }
-        ensures bounded { length self.new.rest ≤ 131103 }
+        ensures bounded { length self.new.rest < MAX_FRAME_BYTES }
     {
         if let Some(fault) = self.fault {
             return Err(fault);
@@ -99,7 +99,7 @@ impl Decoder {
             → Stops (self.old.rest ++ piece.now) out.old.items out.new.items e) }
         ensures err { OnErr result (self.new ≡ self.old) }
         ensures added { Adds out.old.items out.new.items }
-        ensures bounded { length self.new.rest ≤ 131103 }
+        ensures bounded { length self.new.rest < MAX_FRAME_BYTES }
     {
         let left = whole_frames(self.alloc, self.rest.as_slice(), self.header, piece, out)?;
         self.rest.reserve(left.piece.len())?;
@@ -235,11 +235,11 @@ fn frame_of(alloc: Global, front: &[u8], end: &[u8]) -> Result<Frame, Refusal>
     ensures joined { IfOk result (λ frame. frame ≡ front.now ++ end.now) }
     ensures refused { IfErr result (λ e. e ≡ NoMemory) }
 {
-    if front.len().saturating_add(end.len()) > SHORT_BYTES {
+    if front.len().saturating_add(end.len()) > FIXED_BYTES {
         return Ok(Frame::new(joined(alloc, front, end)?));
     }
-    let mut short = Short::new();
-    short.put(front);
-    short.put(end);
-    Ok(Frame::of(short))
+    let mut part = FixedPart::new();
+    part.put(front);
+    part.put(end);
+    Ok(Frame::of(part))
 }

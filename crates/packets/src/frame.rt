@@ -1,7 +1,8 @@
 //! Frames, the units that go over a link.
 ghost use Rattle.std.specs.Prelude.{◌≡◌, ◌<◌, ◌≤◌, length};
+ghost use Rattle.packets.specs.declared.fixed_part.TheConstants.{FIXED_BYTES};
 
-use crate::short::Short;
+use crate::FixedPart;
 use bytes::Bytes;
 use std::marker::Model;
 
@@ -17,7 +18,7 @@ pub struct Frame {
 /// The storage of a frame's bytes.
 #[derive(Debug, Drop)]
 enum Held {
-    Inline(Short),
+    Inline(FixedPart),
     Shared(Bytes),
 }
 
@@ -43,20 +44,20 @@ impl Frame {
 
     /// Returns a frame of at most 40 bytes. It takes no memory.
     pub fn inline(bytes: &[u8]) -> Frame
-        requires { length bytes.now ≤ 40 }
+        requires { length bytes.now ≤ FIXED_BYTES }
         ensures { result ≡ bytes.now }
     {
-        let mut short = Short::new();
-        short.put(bytes);
-        Frame::of(short)
+        let mut part = FixedPart::new();
+        part.put(bytes);
+        Frame::of(part)
     }
 
     /// Returns a frame of bytes that are inline already.
-    pub(crate) fn of(short: Short) -> Frame
-        ensures { result ≡ short }
+    pub(crate) fn of(part: FixedPart) -> Frame
+        ensures { result ≡ part }
     {
         Frame {
-            held: Held::Inline(short),
+            held: Held::Inline(part),
         }
     }
 
@@ -65,20 +66,20 @@ impl Frame {
         ensures { result.now ≡ self.now }
     {
         match &self.held {
-            Held::Inline(short) => short.as_slice(),
+            Held::Inline(part) => part.as_slice(),
             Held::Shared(bytes) => bytes.as_slice(),
         }
     }
 
     /// Returns the bytes of a frame of more than 40, in the same buffer. It takes no memory.
     pub fn into_bytes(self) -> Bytes
-        requires { 40 < length self }
+        requires { FIXED_BYTES < length self }
         ensures { result ≡ self }
     {
         match self.held {
-            Held::Inline(short) => {
+            Held::Inline(part) => {
                 // Proof hint: brings the fact that inline bytes are at most 40 into scope.
-                let _ = short.as_slice();
+                let _ = part.as_slice();
                 unreachable!()
             }
             Held::Shared(bytes) => bytes,

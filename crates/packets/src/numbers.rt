@@ -1,13 +1,23 @@
-//! Numbers in bytes, the highest byte first.
+//! Numbers in bytes, the highest byte first. No call takes memory.
 ghost use Rattle.std.specs.Prelude.{◌≡◌, ◌+◌, ◌≤◌, ◌++◌, length};
 ghost use Rattle.packets.specs.Numbers.{number_in, number_bytes};
+ghost use Rattle.packets.specs.declared.fixed_part.TheConstants.{FIXED_BYTES};
 
-use crate::short::Short;
+use crate::FixedPart;
 use byteorder::{BigEndian, ByteOrder};
+
+/// Returns the number in the two bytes at a place.
+#[tactic(auto, unfolding(crate::specs::Numbers::number_in))]
+pub fn u16_at(bytes: &[u8], place: usize) -> u16
+    requires { place + 2 ≤ length bytes.now }
+    ensures { result ≡ number_in 2 place bytes.now }
+{
+    BigEndian::read_u16(&bytes[place..])
+}
 
 /// Returns the number in the four bytes at a place.
 #[tactic(auto, unfolding(crate::specs::Numbers::number_in))]
-pub(crate) fn u32_at(bytes: &[u8], place: usize) -> u32
+pub fn u32_at(bytes: &[u8], place: usize) -> u32
     requires { place + 4 ≤ length bytes.now }
     ensures { result ≡ number_in 4 place bytes.now }
 {
@@ -16,17 +26,17 @@ pub(crate) fn u32_at(bytes: &[u8], place: usize) -> u32
 
 /// Returns the number in the eight bytes at a place.
 #[tactic(auto, unfolding(crate::specs::Numbers::number_in))]
-pub(crate) fn u64_at(bytes: &[u8], place: usize) -> u64
+pub fn u64_at(bytes: &[u8], place: usize) -> u64
     requires { place + 8 ≤ length bytes.now }
     ensures { result ≡ number_in 8 place bytes.now }
 {
     BigEndian::read_u64(&bytes[place..])
 }
 
-/// Puts the two bytes of a number at the end.
+/// Appends the two bytes of a number.
 #[tactic(auto, unfolding(crate::specs::Numbers::number_bytes))]
-pub(crate) fn put_u16(out: &mut Short, number: u16)
-    requires { length out.old + 2 ≤ 40 }
+pub fn put_u16(out: &mut FixedPart, number: u16)
+    requires { length out.old + 2 ≤ FIXED_BYTES }
     ensures written { out.new ≡ out.old ++ number_bytes 2 number }
     ensures len { length out.new ≡ length out.old + 2 }
 {
@@ -35,10 +45,10 @@ pub(crate) fn put_u16(out: &mut Short, number: u16)
     out.put(&bytes);
 }
 
-/// Puts the four bytes of a number at the end.
+/// Appends the four bytes of a number.
 #[tactic(auto, unfolding(crate::specs::Numbers::number_bytes))]
-pub(crate) fn put_u32(out: &mut Short, number: u32)
-    requires { length out.old + 4 ≤ 40 }
+pub fn put_u32(out: &mut FixedPart, number: u32)
+    requires { length out.old + 4 ≤ FIXED_BYTES }
     ensures written { out.new ≡ out.old ++ number_bytes 4 number }
     ensures len { length out.new ≡ length out.old + 4 }
 {
@@ -47,10 +57,10 @@ pub(crate) fn put_u32(out: &mut Short, number: u32)
     out.put(&bytes);
 }
 
-/// Puts the eight bytes of a number at the end.
+/// Appends the eight bytes of a number.
 #[tactic(auto, unfolding(crate::specs::Numbers::number_bytes))]
-pub(crate) fn put_u64(out: &mut Short, number: u64)
-    requires { length out.old + 8 ≤ 40 }
+pub fn put_u64(out: &mut FixedPart, number: u64)
+    requires { length out.old + 8 ≤ FIXED_BYTES }
     ensures written { out.new ≡ out.old ++ number_bytes 8 number }
     ensures len { length out.new ≡ length out.old + 8 }
 {

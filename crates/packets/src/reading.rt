@@ -5,6 +5,7 @@ ghost use Rattle.packets.specs.Frames.{IsFrameFault, frame_read, in_hello, is_fa
 ghost use Rattle.packets.specs.Table.{has_blocks, is_length};
 ghost use Rattle.packets.specs.Headed.{IsHeaded, is_awaited, named};
 ghost use Rattle.packets.specs.Reading.{payload_at, protocol_at, uuids_at, data_at, rs_data_at, barrier_at, acknowledgement_at, names_write, names_resync};
+ghost use Rattle.packets.specs.declared.fixed_part.TheConstants.{FIXED_BYTES};
 ghost use Rattle.packets.specs.declared.packet.Packet.{Packet};
 ghost use Rattle.packets.specs.declared.packet.Packet.TheVariants as packet;
 ghost use Rattle.blocks.specs.declared.refusal.Refusal.TheVariants.{BadField, NoMemory};
@@ -45,7 +46,7 @@ pub fn read(frame: Frame, hello: Option<Command>) -> Result<Packet, Refusal>
     ensures spellable { IfOk result IsSpellable }
     ensures faults { IfErr result (λ e. is_fault e ≡ true) }
     // A packet without blocks has a short frame.
-    ensures short { IfOk result (λ p. has_blocks p ≡ false → length frame ≤ 40) }
+    ensures short { IfOk result (λ p. has_blocks p ≡ false → length frame ≤ FIXED_BYTES) }
 {
     // A fault that comes before the fields is returned, whatever command a hello expects.
     let header = whole_header(&frame)?;
@@ -127,7 +128,7 @@ pub(crate) fn packet_of(header: Header, frame: Frame) -> Result<Packet, Refusal>
 
 /// Returns the payload of a frame with blocks, in the frame's buffer.
 fn payload_of(frame: Frame) -> Bytes
-    requires { 40 < length frame }
+    requires { FIXED_BYTES < length frame }
     ensures { result ≡ drop 8 frame }
 {
     let mut bytes = frame.into_bytes();

@@ -1,6 +1,7 @@
 //! Encoding of packets into frames.
 ghost use Rattle.std.specs.Prelude.{◌≡◌, ◌*◌, ◌^◌, ◌<◌, ◌≤◌, ◌++◌, true, false, length, IsOk, IfOk, IfErr, MatchOption};
-ghost use Rattle.packets.specs.Spelling.{payload, protocol_number, acknowledgement_bytes, data_numbers, NamesWrite, FitsAcknowledgement, FitsFields, IsSpellable, Spells};
+ghost use Rattle.packets.specs.Spelling.{payload, protocol_number, acknowledgement_bytes, data_numbers, NamesWrite, FitsAcknowledgement, FitsFields};
+ghost use Rattle.packets.specs.Spelling.{IsSpellable, Spells};
 ghost use Rattle.packets.specs.Table.{has_blocks};
 ghost use Rattle.packets.specs.Written.{front, numbers, blocks_in};
 ghost use Rattle.blocks.specs.declared.refusal.Refusal.TheVariants.{NoMemory};
@@ -9,8 +10,7 @@ ghost use Rattle.packets.specs.declared.packet.Packet.TheVariants as packet;
 use crate::header::{DATA_NUMBERS, MAGIC, command_number};
 use crate::numbers::{put_u16, put_u32, put_u64};
 use crate::reading::BLOCK_SECTORS;
-use crate::short::Short;
-use crate::{Acknowledgement, Frame, Packet};
+use crate::{Acknowledgement, FixedPart, Frame, Packet};
 use blocks::{BLOCK_BYTES, Block, Protocol, Refusal, Tuple};
 use bytes::Bytes;
 use std::alloc::Global;
@@ -55,12 +55,12 @@ pub(crate) fn joined(alloc: Global, front: &[u8], end: &[u8]) -> Result<Bytes, R
 }
 
 /// Returns the front of a packet's frame: its header, and the numbers of its payload.
-fn front_of(packet: &Packet) -> Short
+fn front_of(packet: &Packet) -> FixedPart
     requires { IsSpellable packet.now }
     ensures front { result ≡ front packet.now }
     ensures fields { FitsFields packet.now }
 {
-    let mut out = Short::new();
+    let mut out = FixedPart::new();
     put_u16(&mut out, MAGIC);
     put_u16(&mut out, command_number(packet.command()));
     put_u32(&mut out, payload_len(packet));
@@ -89,7 +89,7 @@ fn payload_len(packet: &Packet) -> u32
 }
 
 /// Puts the numbers of a packet's payload at the end of its header.
-fn put_numbers(out: &mut Short, packet: &Packet)
+fn put_numbers(out: &mut FixedPart, packet: &Packet)
     requires spellable { IsSpellable packet.now }
     requires room { length out.old ≡ 8 }
     ensures written { out.new ≡ out.old ++ numbers packet.now }
@@ -134,7 +134,7 @@ fn protocol_word(protocol: Protocol) -> u32
 }
 
 /// Puts a tuple's four words at the end.
-fn put_tuple(out: &mut Short, tuple: &Tuple)
+fn put_tuple(out: &mut FixedPart, tuple: &Tuple)
     requires { length out.old ≡ 8 }
     ensures written { out.new ≡ out.old ++ payload (packet.Uuids tuple.now) }
     ensures fields { FitsFields (packet.Uuids tuple.now) }
@@ -146,7 +146,7 @@ fn put_tuple(out: &mut Short, tuple: &Tuple)
 }
 
 /// Puts the numbers of a write or of a resync block at the end, flags among them.
-fn put_data(out: &mut Short, first: Block, number: u64, place: u32)
+fn put_data(out: &mut FixedPart, first: Block, number: u64, place: u32)
     requires sector { 8 * first.0 < 2 ^ 64 }
     requires room { length out.old ≡ 8 }
     ensures { out.new ≡ out.old ++ data_numbers first.0 number place }
@@ -158,7 +158,7 @@ fn put_data(out: &mut Short, first: Block, number: u64, place: u32)
 }
 
 /// Puts the fields of an acknowledgement at the end.
-fn put_acknowledgement(out: &mut Short, ack: &Acknowledgement)
+fn put_acknowledgement(out: &mut FixedPart, ack: &Acknowledgement)
     requires sector { 8 * ack.now.first.0 < 2 ^ 64 }
     requires few { ack.now.count ≤ 32 }
     requires room { length out.old ≡ 8 }

@@ -19,7 +19,7 @@ abbrev pub core_of : Inside → CoreState
 core_of c = record {
   state = record {
     settings = c.settings;
-    tuple = c.tuple;
+    tuple = c.generations.tuple;
     consistent = c.is_consistent;
     number = c.number;
     intake = c.inbox;

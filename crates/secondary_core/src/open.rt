@@ -22,7 +22,7 @@ impl SecondaryCore {
         self.items_applied = 0;
         self.failed = None;
         self.connection = Some(Connection {
-            handshake: Handshake::new(self.tuple),
+            handshake: Handshake::new(self.generations.tuple),
             outbox: Outbox::new(self.alloc),
         });
         self.is_ready = false;

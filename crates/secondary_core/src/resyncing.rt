@@ -20,7 +20,7 @@ impl SecondaryCore {
             return Err(Refusal::BadField);
         }
         self.inbox.resync(true);
-        self.tuple.current = word;
+        self.generations.sync_target_start(word);
         self.is_consistent = false;
         self.is_ready = false;
         Ok(What::Frame(Command::SyncUuid, Some(0)))
@@ -54,7 +54,7 @@ impl SecondaryCore {
         }
         let place = self.inbox.places();
         self.inbox.resync(false);
-        self.tuple = tuple;
+        self.generations.adopt(tuple);
         self.is_consistent = true;
         self.is_ready = false;
         Ok(What::Frame(Command::Uuids, Some(place)))

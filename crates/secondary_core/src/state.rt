@@ -8,6 +8,7 @@ use crate::connection::Connection;
 use crate::inbox::Inbox;
 use crate::item::PendingItem;
 use blocks::{Refusal, Settings, Tuple};
+use generations::Generations;
 use peerdisk::PeerDisk;
 use std::alloc::Global;
 use std::marker::Model;
@@ -27,7 +28,7 @@ use std::marker::Model;
 pub struct SecondaryCore {
     pub(crate) alloc: Global,
     pub(crate) settings: Settings,
-    pub(crate) tuple: Tuple,
+    pub(crate) generations: Generations,
     pub(crate) is_consistent: bool,
     pub(crate) number: u32,
     pub(crate) inbox: Inbox,
@@ -62,7 +63,7 @@ impl SecondaryCore {
         Ok(SecondaryCore {
             alloc,
             settings,
-            tuple,
+            generations: Generations { tuple },
             is_consistent: tuple.current != 0,
             number: 0,
             inbox: Inbox::new(alloc, settings.blocks)?,

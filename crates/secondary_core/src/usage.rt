@@ -48,7 +48,7 @@ impl SecondaryCore {
     pub fn tuple(&self) -> Tuple
         ensures { result ≡ self.now.state.tuple }
     {
-        self.tuple
+        self.generations.tuple
     }
 
     /// Returns whether the end is open.

@@ -12,7 +12,7 @@ use std::alloc::Global;
 use std::sync::Wait;
 
 /// Pieces of the longest frame.
-const FRAME_PIECES: usize = 94;
+pub const FRAME_PIECES: usize = 94;
 
 /// Creates one direction of a link, over a row for `link` of the longest frames; its ends are on a first connection.
 /// `NoMemory` (7) if there is no memory for it.
@@ -24,7 +24,7 @@ pub fn ruled<R: Wait + Copy>(
     requires { 0 < link }
     ensures outward { IfOk result (λ ends. ends.0 ≡ unused_out ends.0.row) }
     ensures inward { IfOk result (λ ends. ends.1 ≡ unused_in ends.0.row) }
-    ensures room { IfOk result (λ ends. ends.0.row.slots ≡ 94 * link) }
+    ensures room { IfOk result (λ ends. ends.0.row.slots ≡ FRAME_PIECES * link) }
     ensures refused { IfErr result (λ e. e ≡ NoMemory) }
 {
     with_invariant::<R, NoInvariant>(rt, alloc, link)
@@ -40,7 +40,7 @@ pub fn with_invariant<R: Wait + Copy, M: RingInvariant>(
     requires first { M.holds [] [] }
     ensures outward { IfOk result (λ ends. ends.0 ≡ unused_out ends.0.row) }
     ensures inward { IfOk result (λ ends. ends.1 ≡ unused_in ends.0.row) }
-    ensures room { IfOk result (λ ends. ends.0.row.slots ≡ 94 * link) }
+    ensures room { IfOk result (λ ends. ends.0.row.slots ≡ FRAME_PIECES * link) }
     ensures refused { IfErr result (λ e. e ≡ NoMemory) }
 {
     let (outward, inward) = row_with_invariant::<R, M>(rt, alloc, FRAME_PIECES * link as usize)?;

@@ -1,28 +1,24 @@
 //! The buffer that gathers the bytes of a frame.
 ghost use Rattle.std.specs.Prelude.{◌≡◌, ◌+◌, ◌<◌, ◌≤◌, ◌++◌, [], length, take, drop, true, IfOk, IfErr, OnOk, OnErr, MatchOption};
 ghost use Rattle.packets.specs.Cutting.{IsCut};
+ghost use Rattle.packets.specs.declared.cutting.TheConstants.{MAX_FRAME_BYTES};
+ghost use Rattle.packets.specs.declared.fixed_part.TheConstants.{FIXED_BYTES};
 ghost use Rattle.thread_link.specs.Carried.{BeginsNoCut};
 ghost use Rattle.blocks.specs.declared.refusal.Refusal.TheVariants.{NoMemory};
 
 use blocks::Refusal;
 use bytes::{Bytes, BytesMut};
-use packets::{Frame, cut_length};
+use packets::{FIXED_BYTES, Frame, MAX_FRAME_BYTES, cut_length};
 use std::alloc::Global;
 use std::marker::Model;
 use std::sync::Wait;
 use std::{mem, thread};
 
-/// Bytes of the longest frame, a write of 32 blocks.
-const LONGEST_FRAME: usize = 131_104;
-
 /// Bytes of a chunk: 1 MiB plus the longest frame, so that each frame that begins in the first MiB has room.
-const CHUNK_BYTES: usize = 1_048_576 + LONGEST_FRAME;
+const CHUNK_BYTES: usize = 1_048_576 + MAX_FRAME_BYTES;
 
 /// Bytes of a header.
 const HEADER_BYTES: usize = 8;
-
-/// The most bytes of a frame that is stored inline.
-const SHORT_FRAME: usize = 40;
 
 /// The bytes of the next frame that arrived so far, in a chunk that frames are cut off.
 #[derive(Drop)]
@@ -139,19 +135,19 @@ impl Gathered {
     pub(crate) fn cut<R: Wait>(&mut self, rt: &R) -> Option<Frame>
         ensures { MatchOption result ((self.new ≡ self.old) × BeginsNoCut self.old.bytes)
             (λ frame. IsCut frame × (frame ≡ self.old.bytes) × (self.new.bytes ≡ [])
-            × (length frame ≤ 40 → self.new.is_ready ≡ self.old.is_ready)) }
+            × (length frame ≤ FIXED_BYTES → self.new.is_ready ≡ self.old.is_ready)) }
     {
         if self.buffer.len() < self.whole {
             return None;
         }
         self.whole = HEADER_BYTES;
-        if self.buffer.len() <= SHORT_FRAME {
+        if self.buffer.len() <= FIXED_BYTES {
             let frame = Frame::inline(self.buffer.as_slice());
             self.buffer.clear();
             return Some(frame);
         }
         let bytes = frozen(rt, &mut self.buffer);
-        self.is_ready = LONGEST_FRAME <= self.buffer.capacity();
+        self.is_ready = MAX_FRAME_BYTES <= self.buffer.capacity();
         Some(Frame::new(bytes))
     }
 }
@@ -160,7 +156,7 @@ impl Gathered {
 fn renew(chunk: &mut BytesMut, alloc: Global) -> Result<(), Refusal>
     requires { chunk.old.items ≡ [] }
     ensures empty { chunk.new.items ≡ [] }
-    ensures room { OnOk result (131104 ≤ chunk.new.spare) }
+    ensures room { OnOk result (MAX_FRAME_BYTES ≤ chunk.new.spare) }
     ensures refused { IfErr result (λ e. e ≡ NoMemory) }
 {
     widen(chunk, alloc)?;
@@ -171,7 +167,7 @@ fn renew(chunk: &mut BytesMut, alloc: Global) -> Result<(), Refusal>
 fn widen(chunk: &mut BytesMut, alloc: Global) -> Result<(), Refusal>
     requires { chunk.old.items ≡ [] }
     ensures empty { chunk.new.items ≡ [] }
-    ensures room { OnOk result (131104 < chunk.new.spare) }
+    ensures room { OnOk result (MAX_FRAME_BYTES < chunk.new.spare) }
     ensures refused { IfErr result (λ e. e ≡ NoMemory) }
 {
     if chunk.try_reclaim(CHUNK_BYTES + 1) {

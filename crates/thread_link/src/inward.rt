@@ -1,6 +1,7 @@
 //! The receiving end of a link between threads.
 ghost use Rattle.std.specs.Prelude.{◌≡◌, ◌<◌, ◌≤◌, [], ◌∷◌, ◌++◌, length, take, true, false, None, IfOk, OnOk, OnErr, IfErr, IfNone, IfSome, MatchOption, Some};
 ghost use Rattle.packets.specs.Cutting.{IsCut};
+ghost use Rattle.packets.specs.declared.fixed_part.TheConstants.{FIXED_BYTES};
 ghost use Rattle.thread_link.specs.Carried.{BeginsNoCut};
 ghost use Rattle.thread_link.specs.Moments.{WasEmpty};
 ghost use Rattle.thread_link.specs.Pieces.{bytes_if};
@@ -70,7 +71,7 @@ impl<R: Wait, M: RingInvariant> RuledIn<R, M> {
               is_ready = self.new.is_ready;
               front = [];
               rest = self.new.rest;
-            }) × IsCut frame × (length frame ≤ 40 → self.new.is_ready ≡ true)) }
+            }) × IsCut frame × (length frame ≤ FIXED_BYTES → self.new.is_ready ≡ true)) }
         // If there is none, no whole frame can be cut off the bytes in hand.
         ensures none { IfNone result (BeginsNoCut (in_hand self.old)) }
     {
@@ -92,7 +93,7 @@ impl<R: Wait, M: RingInvariant> RuledIn<R, M> {
           is_ready = self.new.is_ready;
           front = [];
           rest = self.new.rest;
-        }) × IsCut frame × (length frame ≤ 40 → self.new.is_ready ≡ true))) }
+        }) × IsCut frame × (length frame ≤ FIXED_BYTES → self.new.is_ready ≡ true))) }
         ensures none { IfOk result (λ found. IfNone found (self.new ≡ with_popped self.new self.old)) }
         // If no frame is whole, more bytes are in hand than before, and none of them lies behind the frame's end.
         ensures more { IfOk result (λ found. IfNone found (length (in_hand self.old) < length (in_hand self.new))) }
@@ -150,7 +151,7 @@ impl<R: Wait, M: RingInvariant> FrameIn for RuledIn<R, M> {
         requires { self.old.is_ready ≡ true }
         ensures next { IfOk result (λ frame. self.new ≡ with_taken frame self.new self.old) }
         ensures cut { IfOk result (λ frame. IsCut frame) }
-        ensures still_ready { IfOk result (λ frame. length frame ≤ 40 → self.new.is_ready ≡ true) }
+        ensures still_ready { IfOk result (λ frame. length frame ≤ FIXED_BYTES → self.new.is_ready ≡ true) }
         ensures refused { IfErr result (λ e. e ≡ NothingThere) }
         // The bytes then in hand begin with no whole frame.
         ensures nothing { OnErr result (BeginsNoCut (in_hand self.new)) }

@@ -18,7 +18,7 @@ mod sheet;
 mod stock;
 
 pub use both_ways::RuledLink;
-pub use ends::{join_ends, ruled, with_invariant};
+pub use ends::{FRAME_PIECES, join_ends, ruled, with_invariant};
 pub use inward::RuledIn;
 pub use named_in::NamedIn;
 pub use named_out::NamedOut;

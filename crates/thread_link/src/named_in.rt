@@ -1,6 +1,7 @@
 //! The receiving end with a name.
 ghost use Rattle.std.specs.Prelude.{◌≡◌, ◌<◌, ◌≤◌, length, true, false, IfOk, OnOk, OnErr, IfErr};
 ghost use Rattle.packets.specs.Cutting.{IsCut};
+ghost use Rattle.packets.specs.declared.fixed_part.TheConstants.{FIXED_BYTES};
 ghost use Rattle.thread_link.specs.Carried.{BeginsNoCut};
 ghost use Rattle.thread_link.specs.Moments.{WasEmpty};
 ghost use Rattle.thread_link.specs.Inward.{in_hand, is_later, taking, taking_anew, with_popped, with_taken};
@@ -71,7 +72,7 @@ impl<R: Wait, N: Named, M: RingInvariant> FrameIn for NamedIn<R, N, M> {
         requires { self.old.is_ready ≡ true }
         ensures next { IfOk result (λ frame. self.new ≡ with_taken frame self.new self.old) }
         ensures cut { IfOk result (λ frame. IsCut frame) }
-        ensures still_ready { IfOk result (λ frame. length frame ≤ 40 → self.new.is_ready ≡ true) }
+        ensures still_ready { IfOk result (λ frame. length frame ≤ FIXED_BYTES → self.new.is_ready ≡ true) }
         ensures refused { IfErr result (λ e. e ≡ NothingThere) }
         // The bytes then in hand begin with no whole frame.
         ensures nothing { OnErr result (BeginsNoCut (in_hand self.new)) }

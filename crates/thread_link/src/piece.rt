@@ -17,19 +17,20 @@ pub struct Piece {
 impl Model for Piece {
     ghost use Rattle.std.specs.Prelude.{◌<◌, ◌≤◌, take};
     ghost use Rattle.thread_link.specs.Pieces.{PieceState};
+    ghost use Rattle.thread_link.specs.declared.piece.TheConstants.{PIECE_BYTES};
 
     ghost Value = { PieceState };
 
     ghost view = { λ p. record { number = p.number; bytes = take p.len p.bytes } };
 
-    ghost invariant = { λ p. (0 < p.len) × (p.len ≤ 1400) };
+    ghost invariant = { λ p. (0 < p.len) × (p.len ≤ PIECE_BYTES) };
 }
 
 impl Piece {
     /// Creates a piece of a first connection.
     pub fn new(bytes: &[u8]) -> Piece
         requires some { 0 < length bytes.now }
-        requires few { length bytes.now ≤ 1400 }
+        requires few { length bytes.now ≤ PIECE_BYTES }
         ensures { result ≡ record { number = 1; bytes = bytes.now } }
     {
         Piece::of(1, bytes)
@@ -39,7 +40,7 @@ impl Piece {
     #[inline]
     pub(crate) fn of(number: u32, bytes: &[u8]) -> Piece
         requires some { 0 < length bytes.now }
-        requires few { length bytes.now ≤ 1400 }
+        requires few { length bytes.now ≤ PIECE_BYTES }
         ensures { result ≡ record { number = number; bytes = bytes.now } }
     {
         let mut held = [0; PIECE_BYTES];
@@ -55,7 +56,7 @@ impl Piece {
     #[inline]
     pub(crate) fn write(&mut self, number: u32, bytes: &[u8])
         requires some { 0 < length bytes.now }
-        requires few { length bytes.now ≤ 1400 }
+        requires few { length bytes.now ≤ PIECE_BYTES }
         ensures { self.new ≡ record { number = number; bytes = bytes.now } }
     {
         self.bytes[..bytes.len()].copy_from_slice(bytes);
@@ -79,7 +80,7 @@ impl Piece {
     pub fn bytes(&self) -> &[u8]
         ensures value { result.now ≡ self.now.bytes }
         ensures some { 0 < length self.now.bytes }
-        ensures few { length self.now.bytes ≤ 1400 }
+        ensures few { length self.now.bytes ≤ PIECE_BYTES }
     {
         &self.bytes[..self.len]
     }

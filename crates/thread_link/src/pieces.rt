@@ -3,6 +3,7 @@ ghost use Rattle.std.specs.Prelude.{◌≡◌, ◌<◌, ◌≤◌, List, [], ◌
 ghost use Rattle.std.specs.Bool.{OnTrue, OnFalse};
 ghost use Rattle.thread_link.specs.Moments.{WasEmpty, WasFull};
 ghost use Rattle.thread_link.specs.Pieces.{PieceState};
+ghost use Rattle.thread_link.specs.declared.piece.TheConstants.{PIECE_BYTES};
 ghost use Rattle.thread_link.specs.Inward.{IsDropped};
 
 use crate::sheet::Sheet;
@@ -215,7 +216,7 @@ impl<R: Wait, M: RingInvariant> PieceOut<R, M> {
     #[inline]
     pub(crate) fn push_bytes(&mut self, number: u32, bytes: &[u8]) -> bool
         requires some { 0 < length bytes.now }
-        requires few { length bytes.now ≤ 1400 }
+        requires few { length bytes.now ≤ PIECE_BYTES }
         ensures pushed { OnTrue result (self.new ≡ record self.old {
           pieces = self.old.pieces ++ record { number = number; bytes = bytes.now } ∷ [];
         }) }
@@ -270,15 +271,13 @@ impl<R: Wait, M: RingInvariant> PieceIn<R, M> {
             (λ piece. (number ≤ piece.number) × IsDropped number self.old self.new (piece ∷ [])) }
         ensures empty { IfNone result (WasEmpty M.holds self.new.pieces) }
     {
-        for _ in 0..u64::MAX {
-            let sheet = self.pop_sheet()?;
+        for _ in self.rt.forever() {
+            let sheet = self.row.pop_as::<Taken<M>, R>(&self.rt, &mut self.pass)?;
             if sheet.piece().number() >= number {
                 return Some(sheet);
             }
-            self.give_back(sheet);
+            self.returns.put(&self.rt, sheet);
         }
-        // No run drops 2^64 - 1 pieces.
-        for _ in self.rt.forever() {}
         unreachable!()
     }
 

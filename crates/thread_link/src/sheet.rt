@@ -1,5 +1,6 @@
 //! Sheets, the contents of the slots of a row.
 ghost use Rattle.std.specs.Prelude.{◌≡◌, ◌<◌, ◌≤◌, IfOk, length};
+ghost use Rattle.thread_link.specs.declared.piece.TheConstants.{PIECE_BYTES};
 
 use crate::Piece;
 use std::alloc::{AllocError, Global};
@@ -42,7 +43,7 @@ impl Sheet {
     #[inline]
     pub(crate) fn write(&mut self, number: u32, bytes: &[u8])
         requires some { 0 < length bytes.now }
-        requires few { length bytes.now ≤ 1400 }
+        requires few { length bytes.now ≤ PIECE_BYTES }
         ensures { self.new ≡ record { number = number; bytes = bytes.now } }
     {
         self.piece.write(number, bytes);

@@ -23,8 +23,8 @@ invariant_of-self g c =
       c.self.invariant.1,
     )
 
-pub returns-then-len-le-SHORT_FRAME : goal.returns-then-len-le-SHORT_FRAME
-returns-then-len-le-SHORT_FRAME g c =
+pub returns-then-len-le-FIXED_BYTES : goal.returns-then-len-le-FIXED_BYTES
+returns-then-len-le-FIXED_BYTES g c =
     let e = c.self.inside in
     let frame = c.inline-frame.ensures ∙ c.as_slice.ensures in
     let cut = gathered_cut e.buffer.items e.buffer.spare e.is_ready e.whole c.self.invariant.0 (omega (arith, c.len.ensures.value, c.if-len-self.false)) in (
@@ -50,5 +50,5 @@ returns g c =
       subst IsCut (sym frame) cut,
       frame ∙ ap (λ (s : GatheredState). s.bytes) c.self.view_is,
       c.frozen-bytes.ensures.rest,
-      λ short. absurd (omega (arith, ap length frame, short, c.len-2.ensures.value, c.if-len-le-SHORT_FRAME.false)),
+      λ short. absurd (omega (arith, ap length frame, short, c.len-2.ensures.value, c.if-len-le-FIXED_BYTES.false)),
     )
