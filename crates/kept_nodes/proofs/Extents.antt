@@ -1,5 +1,6 @@
 -- Each accepted write lies in one extent, so that a block of an extent that has no unreleased write is covered only if it is marked.
-use Rattle.std.proofs.Common.{ℕ, ◌≡◌, ◌+◌, ◌-◌, ◌≤◌, ◌<◌, ◌==◌, inl, inr, Bool, true, false, not, nat_lt, ◌&&◌, List, [], ◌∷◌, ◌++◌, length, map, filter, Option, Some, None, slice_get, refl}
+use Rattle.std.proofs.Common.{ℕ, ◌≡◌, ◌+◌, ◌-◌, ◌≤◌, ◌<◌, ◌==◌, inl, inr, Bool, true, false, not, nat_lt, ◌&&◌, List, [], ◌∷◌, ◌++◌, length, map, filter}
+use Rattle.std.proofs.Common.{Option, Some, None, slice_get, refl}
 use Rattle.std.proofs.Common.{sym, ◌∙◌, subst, arith}
 use Rattle.std.specs.Prelude.{nat_le}
 use Rattle.std.specs.List.{list_any}
@@ -15,7 +16,8 @@ use Rattle.laws.proofs.Primary.Writes.{keeps-outcome}
 use Rattle.model.specs.Acknowledgements.{begun_with}
 use Rattle.model.specs.Contents.{Write, covers, extent_of, is_range}
 use Rattle.model.specs.Headline.{is_covered, is_marked}
-use Rattle.model.specs.Primary.{Accepted, Failed, LocalOutcome, OnDisk, PrimaryHistory, is_established, is_released, is_waiting, primary_connection, primary_opening}
+use Rattle.model.specs.Primary.{Accepted, Failed, LocalOutcome, OnDisk, PrimaryHistory, is_established, is_released, is_waiting, primary_connection}
+use Rattle.model.specs.Primary.{primary_opening}
 use Rattle.model.specs.Primary.{unreleased}
 use Rattle.model.specs.PrimarySteps.{accepted_at, faulted, faulted_by, set_outcome, submission, submitted, submitted_with}
 use Rattle.model.specs.Stream.{within}

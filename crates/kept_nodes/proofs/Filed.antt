@@ -1,5 +1,6 @@
 -- Marks as bytes of a file.
-use Rattle.std.proofs.Common.{ℕ, ◌≡◌, ◌≢◌, ◌⊎◌, ◌+◌, ◌-◌, ◌*◌, ◌/◌, ◌<◌, ◌≤◌, ◌==◌, inl, inr, Bool, true, false, not, ◌||◌, ◌&&◌, List, length, take, drop, replicate, slice_index, refl, sym, ◌∙◌, ap, arith, length-take, get_or-take, get_or-drop}
+use Rattle.std.proofs.Common.{ℕ, ◌≡◌, ◌≢◌, ◌⊎◌, ◌+◌, ◌-◌, ◌*◌, ◌/◌, ◌<◌, ◌≤◌, ◌==◌, inl, inr, Bool, true, false, not, ◌||◌, ◌&&◌, List, length, take, drop}
+use Rattle.std.proofs.Common.{replicate, slice_index, refl, sym, ◌∙◌, ap, arith, length-take, get_or-take, get_or-drop}
 use Rattle.std.specs.Prelude.{nat_lt, min}
 use Rattle.std.proofs.lemmas.Bool.{cases_lt, cases_Bool, eqb-true}
 use Rattle.std.proofs.lemmas.List.{get_or_past, get_or-replicate, length-replicate}

@@ -1,5 +1,6 @@
 -- The calls of a metadata file lose nothing that a stop would have found.
-use Rattle.std.proofs.Common.{ℕ, ◌≡◌, ◌+◌, ◌-◌, ◌==◌, not, take, drop, get_or, ◌≤◌, ◌<◌, ◌⊎◌, inl, inr, Bool, true, false, List, length, Result, Ok, Err, refl, sym, ◌∙◌, ap, subst, arith}
+use Rattle.std.proofs.Common.{ℕ, ◌≡◌, ◌+◌, ◌-◌, ◌==◌, not, take, drop, get_or, ◌≤◌, ◌<◌, ◌⊎◌, inl, inr, Bool, true, false, List, length, Result, Ok, Err, refl}
+use Rattle.std.proofs.Common.{sym, ◌∙◌, ap, subst, arith}
 use Rattle.std.specs.Prelude.{IsOk, IsTrue, OnErr, OnOk, is_err, slice_index}
 use Rattle.std.proofs.lemmas.Bool.{both_ways, cases_Bool, cases_eq, cases_lt}
 use Rattle.std.proofs.lemmas.List.{get_or-drop, get_or-take}

@@ -25,6 +25,7 @@ ghost use Rattle.std.specs.Prelude.{
   IfSome,
   OnOk,
 };
+ghost use Rattle.blocks.specs.declared.block.TheConstants.{BLOCK_BYTES};
 ghost use Rattle.blocks.specs.declared.outcome.Reply.{Reply};
 ghost use Rattle.blocks.specs.declared.outcome.Reply.TheVariants as reply;
 ghost use Rattle.blocks.specs.declared.outcome.What.TheVariants as what;
@@ -189,7 +190,7 @@ impl<
         ensures falls { IsTrue self.new.node.faithful → IsTrue self.old.node.faithful }
         ensures known { ((store : S) → IsTrue (S.faithful store)) → IsTrue self.new.node.faithful }
         ensures within { OnOk result (is_range self.old.node.core.settings first count ≡ true) }
-        ensures length { IfOk result (λ bytes. vec_len bytes ≡ count * 4096) }
+        ensures length { IfOk result (λ bytes. vec_len bytes ≡ count * BLOCK_BYTES) }
         ensures refused { IfErr result (λ e. ((e ≡ BadRange) × (is_range self.old.node.core.settings first count ≡ false))
             ⊎ (((e ≡ NoMemory) × (is_range self.old.node.core.settings first count ≡ true))
             ⊎ ((e ≡ ReadFault) × (is_range self.old.node.core.settings first count ≡ true) × (self.old.node.faults < self.new.node.faults)))) }

@@ -3,9 +3,16 @@
 //! Each function does nothing, and its contract states theorems. `docs/PROOFS.md` says what the statements mean.
 #![tactic(auto)]
 
-ghost use Rattle.laws.specs.Statements.{PrimaryWritesOnce, PrimaryStreamsAreLawful, PrimaryExtentsAreFew, PrimaryReleasesInOrder, JournalIsOnDisk, PrimaryStaysClosed, PrimaryReflects, PrimaryMarksAtRest, SecondaryHoldsEarlierEpochs, SecondaryDrainsFirst, SecondaryStaysClosed, JoinedTakesABeginning, JoinedRunsKeepPromises, EveryRunIsJoined, EveryRunTakesABeginning, EveryRunStaysClosed, EveryRunHoldsEarlierEpochs, EveryRunKeepsPromises, EveryRunMarksDifferences, EveryStepIsHonest, RefusedStepsChangeNothing, RefusedFramesClose, RefusedFramesCloseThePrimary, RefusedFramesCloseTheSecondary, RefusedFramesLeaveTheItems, RefusedFramesLoseTheConnection};
-ghost use Rattle.laws.specs.Examples.{OpeningsAreMet, OneWriteIsMet, CoverIsMet, ReflectionIsMet, RestIsMet, OrderIsMet, WholeEpochIsMet, RefusedFramesAreMet, ReleasesAreMet};
-ghost use Rattle.model.specs.Theorems.{JoinedRunsHaveTheHeadline, JoinedRunsCoverDifferences, JoinedRunsSettle, JoinedRunsSettleAnyhow, JoinedRunsKeepWriteOrder, EveryRunHasTheHeadline, EveryRunCoversDifferences, EveryRunKeepsWriteOrder};
+ghost use Rattle.laws.specs.Statements.{PrimaryWritesOnce, PrimaryStreamsAreLawful, PrimaryExtentsAreFew, PrimaryReleasesInOrder, JournalIsOnDisk};
+ghost use Rattle.laws.specs.Statements.{PrimaryStaysClosed, PrimaryReflects, PrimaryMarksAtRest, SecondaryHoldsEarlierEpochs, SecondaryDrainsFirst};
+ghost use Rattle.laws.specs.Statements.{SecondaryStaysClosed, JoinedTakesABeginning, JoinedRunsKeepPromises, EveryRunIsJoined, EveryRunTakesABeginning};
+ghost use Rattle.laws.specs.Statements.{EveryRunStaysClosed, EveryRunHoldsEarlierEpochs, EveryRunKeepsPromises, EveryRunMarksDifferences, EveryStepIsHonest};
+ghost use Rattle.laws.specs.Statements.{RefusedStepsChangeNothing, RefusedFramesClose, RefusedFramesCloseThePrimary, RefusedFramesCloseTheSecondary};
+ghost use Rattle.laws.specs.Statements.{RefusedFramesLeaveTheItems, RefusedFramesLoseTheConnection};
+ghost use Rattle.laws.specs.Examples.{OpeningsAreMet, OneWriteIsMet, CoverIsMet, ReflectionIsMet, RestIsMet, OrderIsMet, WholeEpochIsMet, RefusedFramesAreMet};
+ghost use Rattle.laws.specs.Examples.{ReleasesAreMet};
+ghost use Rattle.model.specs.Theorems.{JoinedRunsHaveTheHeadline, JoinedRunsCoverDifferences, JoinedRunsSettle, JoinedRunsSettleAnyhow};
+ghost use Rattle.model.specs.Theorems.{JoinedRunsKeepWriteOrder, EveryRunHasTheHeadline, EveryRunCoversDifferences, EveryRunKeepsWriteOrder};
 
 /// States laws by its contract, and does nothing. A primary by itself, for any frames taken: each write has at most one
 /// place, on at most one connection; streams are lawful; a closed end stays as it is; the extents of unreleased writes

@@ -1,5 +1,6 @@
 -- What is kept of a file that an open takes.
-use Rattle.std.proofs.Common.{ℕ, ◌≡◌, ◌≢◌, ◌+◌, ◌<◌, ◌≤◌, ◌==◌, inl, inr, true, false, not, List, [], ◌∷◌, length, sym, ◌∙◌, ap, subst, arith, set, Option, None, length-set}
+use Rattle.std.proofs.Common.{ℕ, ◌≡◌, ◌≢◌, ◌+◌, ◌<◌, ◌≤◌, ◌==◌, inl, inr, true, false, not, List, [], ◌∷◌, length, sym, ◌∙◌, ap, subst, arith, set, Option}
+use Rattle.std.proofs.Common.{None, length-set}
 use Rattle.std.proofs.lemmas.Bool.{cases_lt, both_ways}
 use Rattle.std.proofs.lemmas.List.{get_or-set_same, get_or-set_other}
 use Rattle.metadata.specs.declared.header.Header.{Header}

@@ -1,5 +1,6 @@
 -- A file that is laid out is one that was created.
-use Rattle.std.proofs.Common.{ℕ, ◌≡◌, ◌⊎◌, ◌+◌, ◌/◌, ◌^◌, ◌<◌, ◌≤◌, ◌==◌, inl, inr, true, false, not, ◌&&◌, List, length, take, replicate, slice_index, refl, sym, ◌∙◌, ap, subst, arith, None, Ok, Err}
+use Rattle.std.proofs.Common.{ℕ, ◌≡◌, ◌⊎◌, ◌+◌, ◌/◌, ◌^◌, ◌<◌, ◌≤◌, ◌==◌, inl, inr, true, false, not, ◌&&◌, List, length, take, replicate, slice_index, refl}
+use Rattle.std.proofs.Common.{sym, ◌∙◌, ap, subst, arith, None, Ok, Err}
 use Rattle.std.specs.Prelude.{if◌then◌else◌}
 use Rattle.std.specs.Int.{w64, to_be_bytes}
 use Rattle.std.proofs.lemmas.Bool.{cases_lt, cases_Bool, eq-eqb, and_from, both_ways}

@@ -1,5 +1,6 @@
 -- What an open finds.
-use Rattle.std.proofs.Common.{ℕ, ◌≡◌, ◌⊎◌, ◌+◌, ◌<◌, ◌≤◌, ◌==◌, inl, inr, Bool, true, false, not, List, length, take, drop, slice_index, refl, sym, ◌∙◌, ap, arith, ◌/◌, ◌^◌, Option, None, Result, Ok, Err, get_or-take, get_or-drop}
+use Rattle.std.proofs.Common.{ℕ, ◌≡◌, ◌⊎◌, ◌+◌, ◌<◌, ◌≤◌, ◌==◌, inl, inr, Bool, true, false, not, List, length, take, drop, slice_index, refl, sym, ◌∙◌, ap}
+use Rattle.std.proofs.Common.{arith, ◌/◌, ◌^◌, Option, None, Result, Ok, Err, get_or-take, get_or-drop}
 use Rattle.std.specs.Prelude.{IfOk, IfErr, if◌then◌else◌, nat_lt}
 use Rattle.std.proofs.lemmas.Bool.Decides.{nat_tests}
 use Rattle.std.proofs.lemmas.Bool.{cases_Bool, eqb-true}

@@ -1,5 +1,6 @@
 -- What a sealed slot and a sealed header say.
-use Rattle.std.proofs.Common.{ℕ, ◌≡◌, ◌+◌, ◌^◌, ◌<◌, ◌==◌, Bool, true, false, not, List, length, take, slice_index, refl, sym, ◌∙◌, ap, arith, Option, Some, None, Ok, Err, get_or-drop}
+use Rattle.std.proofs.Common.{ℕ, ◌≡◌, ◌+◌, ◌^◌, ◌<◌, ◌==◌, Bool, true, false, not, List, length, take, slice_index, refl, sym, ◌∙◌, ap, arith, Option, Some}
+use Rattle.std.proofs.Common.{None, Ok, Err, get_or-drop}
 use Rattle.std.specs.Prelude.{if◌then◌else◌}
 use Rattle.std.proofs.lemmas.Bool.{eq-eqb}
 use Rattle.metadata.specs.declared.identifiers.Identifiers.{Identifiers}

@@ -1,5 +1,6 @@
 -- What the header and a slot say, and when each is refused.
-use Rattle.std.specs.Prelude.{ℕ, ◌+◌, ◌/◌, ◌^◌, ◌==◌, nat_le, nat_lt, Bool, true, not, ◌&&◌, if◌then◌else◌, List, [], ◌∷◌, take, bytes_eq, Option, Some, None, Result, Ok, Err}
+use Rattle.std.specs.Prelude.{ℕ, ◌+◌, ◌/◌, ◌^◌, ◌==◌, nat_le, nat_lt, Bool, true, not, ◌&&◌, if◌then◌else◌, List, [], ◌∷◌, take, bytes_eq, Option, Some, None}
+use Rattle.std.specs.Prelude.{Result, Ok, Err}
 use Rattle.std.specs.Int.{w64, to_be_bytes}
 use Rattle.blocks.specs.declared.block.TheConstants.{MAX_DEVICE_BLOCKS}
 use Rattle.metadata.specs.declared.layout.TheConstants.{MAGIC, VERSION, FORMAT, MARKS_AT}

@@ -52,8 +52,8 @@ pub record IsOnDisk (p : PrimaryHistory) (s : SecondaryHistory) (set : Blocks) :
 abbrev pub KeepsWriteOrder : PrimaryHistory → SecondaryHistory → Type 0
 KeepsWriteOrder p s = s.consistent ≡ true → (set : Blocks) × IsOnDisk p s set
 
--- The premises of the write order: no local write failed, each block that a resync copied was as the local disk had it, and if both nodes opened with the same current identifier,
--- the primary had nothing to resync.
+-- The premises of the write order: no local write failed, each block that a resync copied was as the local disk had it, and if both nodes opened with the same
+-- current identifier, the primary had nothing to resync.
 pub record IsUnharmed (p : PrimaryHistory) (s : SecondaryHistory) : Type 0 where
   pub faithful : IsTrue p.faithful
   pub local : list_any (λ accepted. is_failed accepted.outcome) p.writes ≡ false

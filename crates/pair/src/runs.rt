@@ -1,7 +1,8 @@
 //! Running a list of events.
 ghost use Rattle.std.specs.Prelude.{◌≡◌, false, length, map, All, IfOk, IfErr};
 ghost use Rattle.blocks.specs.declared.refusal.Refusal.TheVariants.{NoMemory};
-ghost use Rattle.model.specs.Headline.{CoversDifferences, HoldsEarlierEpochs, IsGrounded, KeepsPromises, MarksDifferences, StaysClosed, StaysClosedToo, TakesABeginning};
+ghost use Rattle.model.specs.Headline.{CoversDifferences, HoldsEarlierEpochs, IsGrounded, KeepsPromises, MarksDifferences, StaysClosed, StaysClosedToo};
+ghost use Rattle.model.specs.Headline.{TakesABeginning};
 ghost use Rattle.model.specs.Pair.{PairHistory, run};
 ghost use Rattle.model.specs.WriteOrder.{IsUnharmed, KeepsWriteOrder};
 ghost use Rattle.pair.specs.Events.{event_of};

@@ -2,8 +2,10 @@
 ghost use Rattle.std.specs.Prelude.{◌≡◌, false};
 ghost use Rattle.blocks.specs.declared.outcome.Reply.TheVariants as reply;
 ghost use Rattle.endpoint.specs.Calls as link;
-ghost use Rattle.model.specs.Headline.{CoversDifferences, HoldsEarlierEpochs, IsGrounded, KeepsPromises, MarksDifferences, StaysClosed, StaysClosedToo, TakesABeginning};
-ghost use Rattle.model.specs.Pair.{AckOutEvent, ClosePrimaryEvent, CloseSecondaryEvent, LocalEvent, LocalFaultEvent, PairHistory, PeerEvent, PeerFaultEvent, ResyncEvent, ResyncFaultEvent, SendEvent, SubmitEvent, step};
+ghost use Rattle.model.specs.Headline.{CoversDifferences, HoldsEarlierEpochs, IsGrounded, KeepsPromises, MarksDifferences, StaysClosed, StaysClosedToo};
+ghost use Rattle.model.specs.Headline.{TakesABeginning};
+ghost use Rattle.model.specs.Pair.{AckOutEvent, ClosePrimaryEvent, CloseSecondaryEvent, LocalEvent, LocalFaultEvent, PairHistory, PeerEvent, PeerFaultEvent};
+ghost use Rattle.model.specs.Pair.{ResyncEvent, ResyncFaultEvent, SendEvent, SubmitEvent, step};
 ghost use Rattle.model.specs.WriteOrder.{IsUnharmed, KeepsWriteOrder};
 ghost use Rattle.pair.specs.Events.{event_of};
 ghost use Rattle.pair.specs.Replies.{tells_protocol_error};

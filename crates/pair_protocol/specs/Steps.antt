@@ -52,8 +52,8 @@ AcknowledgesAreSteps =
     → ((one : Received) → frame ≡ Some one → (primary_of q).taken ≡ (primary_of p).taken ++ one ∷ []) → secondary_of p ≡ secondary_of q
     → IsPairStep AckInEvent (is_out_of_memory result) p (from_primary.replied reply.Ok result) q
 
--- What holds of every history that a list of events leads to: its resyncs copied what the local disk had, the headline clause by clause, the cover and the write
--- order, and that their premises are kept.
+-- What holds of every history that a list of events leads to: its resyncs copied what the local disk had, the headline clause by clause, the cover and the
+-- write order, and that their premises are kept.
 pub record HasClauses (h : PairHistory) : Type 0 where
   pub faithful : IsTrue h.primary.faithful
   pub beginning : TakesABeginning h.primary h.secondary

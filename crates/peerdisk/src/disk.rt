@@ -1,5 +1,6 @@
 //! The items that wait for the secondary's disk.
-ghost use Rattle.std.specs.Prelude.{◌≡◌, ◌+◌, ◌-◌, ◌<◌, ◌≤◌, [], true, false, nat_eq, nat_le, if◌then◌else◌, length, get_or, All, None, Some, Ok, Err, OnOk, OnErr, IsOk, IfOk, IfErr, is_some, option_map, slice_get, MatchResult};
+ghost use Rattle.std.specs.Prelude.{◌≡◌, ◌+◌, ◌-◌, ◌<◌, ◌≤◌, [], true, false, nat_eq, nat_le, if◌then◌else◌, length, get_or, All, None, Some, Ok, Err, OnOk};
+ghost use Rattle.std.specs.Prelude.{OnErr, IsOk, IfOk, IfErr, is_some, option_map, slice_get, MatchResult};
 ghost use Rattle.blocks.specs.declared.refusal.Refusal.TheVariants.{NoMemory, PendingFull};
 ghost use Rattle.peerdisk.specs.Pending.{after_fault, at_place, epoch_at, is_pending, is_out_of_memory, item_at, next, put, start, without};
 

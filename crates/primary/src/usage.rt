@@ -3,7 +3,8 @@ ghost use Rattle.std.specs.Prelude.{◌≡◌, ◌==◌, ℕ, filter, length, no
 ghost use Rattle.bitmap.specs.Marks.{marked};
 ghost use Rattle.model.specs.Contents.{extent_of};
 ghost use Rattle.model.specs.Headline.{is_marked};
-ghost use Rattle.model.specs.Primary.{PrimaryHistory, first_unreleased, items_sent, marked_blocks, primary_connection, resync_runs, is_established, unreleased, unsent};
+ghost use Rattle.model.specs.Primary.{PrimaryHistory, first_unreleased, items_sent, marked_blocks, primary_connection, resync_runs, is_established, unreleased};
+ghost use Rattle.model.specs.Primary.{unsent};
 ghost use Rattle.model.specs.Status.{incomplete, open_epochs, unanswered};
 ghost use Rattle.model.specs.Stopped.{stopped_tuple};
 ghost use Rattle.primary_protocol.specs.Node.{NodeHas};

@@ -1,7 +1,8 @@
 //! A primary's state in plain values, whose transitions are the model's steps. It has no code of a node.
 #![tactic(auto)]
 
-ghost use Rattle.primary_protocol.specs.Steps.{FreshIsOpening, OpensAgree, SubmitsAgree, WritesAgree, FaultsAgree, SendsAgree, TakesAgree, ResyncsAgree, ResyncFaultsAgree, ClosesAgree, ReceiptsAgree};
+ghost use Rattle.primary_protocol.specs.Steps.{FreshIsOpening, OpensAgree, SubmitsAgree, WritesAgree, FaultsAgree, SendsAgree, TakesAgree, ResyncsAgree};
+ghost use Rattle.primary_protocol.specs.Steps.{ResyncFaultsAgree, ClosesAgree, ReceiptsAgree};
 ghost use Rattle.primary_protocol.specs.Rows.{Synchronous, Asynchronous, Lost, Resynced, AmongWrites, Cleared, RefusedHello};
 
 /// States laws by its contract, and does nothing. On whichever history leaves the state, each transition returns what

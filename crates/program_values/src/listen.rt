@@ -1,4 +1,7 @@
 //! Where a server listens.
+ghost use Rattle.std.specs.Prelude.{◌≡◌, IsTrue, false};
+ghost use Rattle.program_values.specs.Names.{IsName, are_of_name, is_of_name};
+
 use std::net::SocketAddr;
 
 /// The most bytes of a server's name. The path of its socket has 107 at most.
@@ -24,19 +27,34 @@ pub struct ServerName<'a> {
 impl ServerName<'_> {
     /// Returns whether a word is the name of a server: 1 to 64 letters, digits, `-`, `_` and `.`, the first one a letter or a digit, and not
     /// `all`, which stands for all servers.
-    pub fn is_name(word: &str) -> bool {
+    pub fn is_name(word: &str) -> bool
+        ensures name { IsTrue result → IsName word.now }
+        ensures none { result ≡ false → IsName word.now → ⊥ }
+    {
         let bytes = word.as_bytes();
-        let begins = bytes
-            .first()
-            .is_some_and(|byte| byte.is_ascii_alphanumeric());
-        begins
-            && bytes.len() <= MOST_BYTES
-            && word != "all"
-            && bytes.iter().all(|byte| is_of_name(*byte))
+        let begins = match bytes {
+            [first, ..] => first.is_ascii_alphanumeric(),
+            [] => false,
+        };
+        begins && bytes.len() <= MOST_BYTES && word != "all" && are_of_name(bytes)
     }
 }
 
+// Returns whether each byte may stand in a name.
+fn are_of_name(bytes: &[u8]) -> bool
+    ensures { result ≡ are_of_name bytes.now }
+{
+    for byte in bytes {
+        if !is_of_name(*byte) {
+            return false;
+        }
+    }
+    true
+}
+
 // Returns whether a byte may stand in a name.
-fn is_of_name(byte: u8) -> bool {
+fn is_of_name(byte: u8) -> bool
+    ensures { result ≡ is_of_name byte }
+{
     byte.is_ascii_alphanumeric() || matches!(byte, b'-' | b'_' | b'.')
 }

@@ -77,23 +77,38 @@ impl SocketFiles {
     /// Removes the files that are still those of this server.
     pub fn remove<R: Files>(&self, rt: &R) {
         for file in self.files.iter() {
-            let is_ours = match fs::symlink_metadata(rt, file.path.as_str()) {
-                Ok(found) => Identity::of(&found) == file.identity,
-                Err(_) => false,
-            };
-            if is_ours {
-                let _ = fs::remove_file(rt, file.path.as_str());
-            }
+            remove_if_same(rt, file.path.as_str(), file.identity);
         }
+    }
+}
+
+// Removes the file at a path, unless another one has taken its place. Nothing is done where that fails: listening tells of it.
+fn remove_if_same<R: Files>(rt: &R, path: &str, identity: Identity) {
+    let is_same = match fs::symlink_metadata(rt, path) {
+        Ok(found) => Identity::of(&found) == identity,
+        Err(_) => false,
+    };
+    if is_same {
+        let _ = fs::remove_file(rt, path);
     }
 }
 
 // Listens at a path at which nothing is. Returns the socket, and what the system says of its file.
 fn bind<R: Files + Net>(rt: &R, path: &str) -> io::Result<(UnixListener, fs::Metadata)> {
     let socket = UnixListener::bind(rt, path)?;
+    match open_to_group(rt, path) {
+        Ok(metadata) => Ok((socket, metadata)),
+        Err(error) => {
+            let _ = fs::remove_file(rt, path);
+            Err(error)
+        }
+    }
+}
+
+// Lets the owner and the group of a socket's file connect. Returns what the system says of the file.
+fn open_to_group<R: Files>(rt: &R, path: &str) -> io::Result<fs::Metadata> {
     fs::set_permissions(rt, path, Permissions::from_mode(MODE))?;
-    let metadata = fs::symlink_metadata(rt, path)?;
-    Ok((socket, metadata))
+    fs::symlink_metadata(rt, path)
 }
 
 // Removes the socket of a server that is gone. `InUse` if a server answers there, `NoSocket` if something else is there.
@@ -102,19 +117,22 @@ fn make_room<R: Files + Net + AllocGlobal>(rt: &R, path: &str) -> Result<(), Lis
         Ok(found) if !found.file_type().is_socket() => {
             Err(ListenFault::NoSocket(String::from_str(rt.alloc(), path)?))
         }
-        Ok(_) => remove_dead(rt, path),
+        Ok(found) => remove_dead(rt, path, Identity::of(&found)),
         // Listening tells of any other error.
         Err(_) => Ok(()),
     }
 }
 
-// Removes a socket if no server answers there.
-fn remove_dead<R: Files + Net + AllocGlobal>(rt: &R, path: &str) -> Result<(), ListenFault> {
+// Removes a socket if no server answers there, and if no other server has taken its place meanwhile.
+fn remove_dead<R: Files + Net + AllocGlobal>(
+    rt: &R,
+    path: &str,
+    identity: Identity,
+) -> Result<(), ListenFault> {
     match UnixStream::connect(rt, path) {
         Ok(_) => Err(ListenFault::InUse(String::from_str(rt.alloc(), path)?)),
         Err(error) if error.kind() == ErrorKind::ConnectionRefused => {
-            // Listening tells of it if this fails.
-            let _ = fs::remove_file(rt, path);
+            remove_if_same(rt, path, identity);
             Ok(())
         }
         Err(error) => Err(ListenFault::at_path(rt.alloc(), path, error)),

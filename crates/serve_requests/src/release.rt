@@ -10,13 +10,13 @@ const PAUSE_MS: u64 = 1;
 /// Waits until each write that is accepted by now is released. Writes go on meanwhile, and so may a resync. If the link is
 /// lost, the writes have no connection any more, and are released once the local disk has done them.
 pub(crate) fn wait_for_release<R: Wait + Clock>(rt: &R, device: &impl Device) {
-    let mut primary = device.progress().primary;
+    let mut primary = device.primary_progress();
     let last = primary.accepted;
     for _ in rt.forever() {
         if primary.released >= last {
             break;
         }
         thread::sleep(rt, Duration::from_millis(PAUSE_MS));
-        primary = device.progress().primary;
+        primary = device.primary_progress();
     }
 }

@@ -1,5 +1,6 @@
 //! A write between its acceptance and its receipt.
 ghost use Rattle.std.specs.Prelude.{◌≡◌, ◌*◌, ◌/◌, ◌%◌, length, OnErr, IfErr, IfOk};
+ghost use Rattle.blocks.specs.declared.block.TheConstants.{BLOCK_BYTES};
 ghost use Rattle.blocks.specs.declared.refusal.Refusal.TheVariants.{UnknownJob};
 
 use blocks::{BLOCK_BYTES, Refusal};
@@ -27,9 +28,9 @@ impl Model for Begun {
 impl Begun {
     /// Creates the write that was accepted under this number, of these whole blocks from `first` on.
     pub fn new(number: u64, first: u64, contents: Bytes) -> Begun
-        requires whole { length contents % 4096 ≡ 0 }
+        requires whole { length contents % BLOCK_BYTES ≡ 0 }
         ensures number { result.number ≡ number }
-        ensures blocks { (result.first ≡ first) × (result.count * 4096 ≡ length contents) }
+        ensures blocks { (result.first ≡ first) × (result.count * BLOCK_BYTES ≡ length contents) }
         ensures contents { result.contents ≡ contents }
     {
         Begun {

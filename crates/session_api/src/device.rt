@@ -1,17 +1,20 @@
 //! A mirrored device, as its callers see it.
 ghost use Rattle.std.specs.Prelude.{◌≡◌, ◌⊎◌, ◌*◌, true, length, vec_len, IfErr, IfOk};
+ghost use Rattle.blocks.specs.declared.block.TheConstants.{BLOCK_BYTES};
 ghost use Rattle.blocks.specs.declared.refusal.Refusal.TheVariants.{BadRange, LocalFault, NoMemory, ReadFault};
 ghost use Rattle.model.specs.CallRefusals.{begin_refuses, complete_refuses, reconnect_refuses, write_refuses};
 
 use crate::{Begun, Progress};
 use blocks::{ConnectionWords, Refusal};
 use bytes::Bytes;
+use node_lines::PrimaryProgress;
 use primary::Receipt;
 
 /// A mirrored device, over any session. Any number of threads may call it at a time.
 pub trait Device {
     ghost use Rattle.std.specs.Prelude.{ℕ, List};
-    ghost use Rattle.session_api.specs.declared.progress.Progress.{Progress};
+    ghost use Rattle.node_lines.specs.declared.primary_progress.PrimaryProgress.{PrimaryProgress};
+    ghost use Rattle.node_lines.specs.declared.secondary_progress.SecondaryProgress.{SecondaryProgress};
 
     /// `accepts number first bytes`: the device accepted a write under this number, of these bytes from block `first` on.
     ghost accepts: { ℕ → ℕ → List ℕ → Type 0 };
@@ -19,8 +22,11 @@ pub trait Device {
     /// `holds first count bytes`: the local disk held these bytes in `count` blocks from block `first` on.
     ghost holds: { ℕ → ℕ → List ℕ → Type 0 };
 
-    /// `shows progress`: both nodes had come as far.
-    ghost shows: { Progress → Type 0 };
+    /// `primary_shows progress`: the primary had come as far.
+    ghost primary_shows: { PrimaryProgress → Type 0 };
+
+    /// `secondary_shows progress`: the secondary had come as far.
+    ghost secondary_shows: { SecondaryProgress → Type 0 };
 
     /// Writes whole blocks from `first` on, and returns the receipt once the write is completed as the protocol says.
     /// Any number of writers may call it at a time.
@@ -30,7 +36,7 @@ pub trait Device {
     /// (5), `StreamFull` (6), `NoMemory` (7), `LocalFault` (8), `NotConnected` (12), and `UnknownJob` (16), which a receipt
     /// of another range would be, too. It returns no other.
     fn write(&self, first: u64, bytes: &Bytes) -> Result<Receipt, Refusal>
-        ensures own { IfOk result (λ receipt. (receipt.first ≡ first) × (receipt.count * 4096 ≡ length bytes.now)) }
+        ensures own { IfOk result (λ receipt. (receipt.first ≡ first) × (receipt.count * BLOCK_BYTES ≡ length bytes.now)) }
         ensures accepted { IfOk result (λ receipt. accepts receipt.number first bytes.now) }
         ensures refused { IfErr result (λ e. write_refuses e ≡ true) };
 
@@ -41,7 +47,7 @@ pub trait Device {
     /// `Primary::submit`: `BadRange` (1), `JournalFull` (5), `StreamFull` (6), `NoMemory` (7), `NotConnected` (12); and
     /// `LocalFault` (8) if the metadata's file failed, and does not have the write's extent. It returns no other.
     fn begin(&self, first: u64, bytes: Bytes) -> Result<Begun, Refusal>
-        ensures range { IfOk result (λ begun. (begun.first ≡ first) × (begun.count * 4096 ≡ length bytes)) }
+        ensures range { IfOk result (λ begun. (begun.first ≡ first) × (begun.count * BLOCK_BYTES ≡ length bytes)) }
         ensures contents { IfOk result (λ begun. begun.contents ≡ bytes) }
         ensures accepted { IfOk result (λ begun. accepts begun.number first bytes) }
         ensures refused { IfErr result (λ e. (begin_refuses e ≡ true) ⊎ (e ≡ LocalFault)) };
@@ -62,7 +68,7 @@ pub trait Device {
     /// if the disk fails.
     fn read(&self, first: u64, count: u64) -> Result<Vec<u8>, Refusal>
         ensures held { IfOk result (λ bytes. holds first count bytes.items) }
-        ensures length { IfOk result (λ bytes. vec_len bytes ≡ count * 4096) }
+        ensures length { IfOk result (λ bytes. vec_len bytes ≡ count * BLOCK_BYTES) }
         ensures refused { IfErr result (λ e. (e ≡ BadRange) ⊎ ((e ≡ NoMemory) ⊎ (e ≡ ReadFault))) };
 
     /// Closes both ends of the link. Writers go on without it; writes under way are completed by the close.
@@ -79,9 +85,15 @@ pub trait Device {
     fn reconnect(&self, words: ConnectionWords) -> Result<u32, Refusal>
         ensures refused { IfErr result (λ e. reconnect_refuses e ≡ true) };
 
-    /// Returns how far both nodes have come, each at a moment of the call, the primary first.
+    /// Returns how far both nodes have come, each at a moment of the call, the primary first. It waits for a disk that writes under its
+    /// node's lock.
     fn progress(&self) -> Progress
-        ensures shown { shows result };
+        ensures primary { primary_shows result.primary }
+        ensures secondary { secondary_shows result.secondary };
+
+    /// Returns how far the primary has come. It asks the primary alone, so it does not wait for the peer's disk.
+    fn primary_progress(&self) -> PrimaryProgress
+        ensures shown { primary_shows result };
 
     /// Prepares extents of the metadata to leave, `most` at the most: their marks are written, and the file is synced. Returns how many
     /// are prepared now.

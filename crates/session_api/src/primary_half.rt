@@ -1,5 +1,6 @@
 //! The primary's half.
 ghost use Rattle.std.specs.Prelude.{◌≡◌, ◌⊎◌, ◌*◌, true, vec_len, IfErr, IfOk};
+ghost use Rattle.blocks.specs.declared.block.TheConstants.{BLOCK_BYTES};
 ghost use Rattle.blocks.specs.declared.refusal.Refusal.TheVariants.{BadRange, LocalFault, NoMemory, ReadFault};
 ghost use Rattle.model.specs.CallRefusals.{ack_in_refuses, reopen_refuses, send_refuses, submit_refuses, take_completed_refuses};
 
@@ -40,7 +41,7 @@ pub trait PrimaryHalf {
     /// Reads blocks of the local disk.
     fn read(&self, first: u64, count: u64) -> Result<Vec<u8>, Refusal>
         ensures held { IfOk result (λ bytes. holds first count bytes.items) }
-        ensures length { IfOk result (λ bytes. vec_len bytes ≡ count * 4096) }
+        ensures length { IfOk result (λ bytes. vec_len bytes ≡ count * BLOCK_BYTES) }
         ensures refused { IfErr result (λ e. (e ≡ BadRange) ⊎ ((e ≡ NoMemory) ⊎ (e ≡ ReadFault))) };
 
     /// Sends the next frame. Refuses with 7, 11, 12 and 13.

@@ -1,5 +1,5 @@
 //! How far both nodes of a session have come.
-ghost use Rattle.std.specs.Prelude.{◌≡◌, ◌&&◌, Bool};
+ghost use Rattle.std.specs.Prelude.{◌≡◌, ◌&&◌, ◌||◌, Bool};
 ghost use Rattle.model.specs.Primary.{PrimaryHistory};
 ghost use Rattle.model.specs.Secondary.{SecondaryHistory};
 ghost use Rattle.node_lines.specs.Progress.{PrimaryShows, SecondaryShows, has_taken, is_quiet, sent_items};
@@ -26,7 +26,9 @@ impl Progress {
 
     /// Returns whether a call of a metadata file has failed. Then the link is down and stays so, and writes to extents that are not
     /// entered are refused.
-    pub fn is_metadata_broken(&self) -> bool {
+    pub fn is_metadata_broken(&self) -> bool
+        ensures { result ≡ (self.now.primary.is_metadata_broken || self.now.secondary.is_metadata_broken) }
+    {
         self.primary.is_metadata_broken || self.secondary.is_metadata_broken
     }
 }

@@ -20,6 +20,7 @@ ghost use Rattle.std.specs.Prelude.{
   IfSome,
   OnOk,
 };
+ghost use Rattle.blocks.specs.declared.block.TheConstants.{BLOCK_BYTES};
 ghost use Rattle.blocks.specs.declared.outcome.Reply.{Reply};
 ghost use Rattle.blocks.specs.declared.outcome.Reply.TheVariants as reply;
 ghost use Rattle.blocks.specs.declared.outcome.What.TheVariants as what;
@@ -142,7 +143,7 @@ impl<B: Beginning, O: FrameOut + Drop, I: FrameIn + Drop, S: Store + Drop> Sessi
         ensures falls { IsTrue self.new.faithful → IsTrue self.old.faithful }
         ensures known { ((store : S) → IsTrue (S.faithful store)) → IsTrue self.new.faithful }
         ensures within { OnOk result (is_range self.old.core.settings first count ≡ true) }
-        ensures length { IfOk result (λ bytes. vec_len bytes ≡ count * 4096) }
+        ensures length { IfOk result (λ bytes. vec_len bytes ≡ count * BLOCK_BYTES) }
         ensures refused { IfErr result (λ e. ((e ≡ BadRange) × (is_range self.old.core.settings first count ≡ false))
             ⊎ (((e ≡ NoMemory) × (is_range self.old.core.settings first count ≡ true))
             ⊎ ((e ≡ ReadFault) × (is_range self.old.core.settings first count ≡ true) × (self.old.faults < self.new.faults)))) }

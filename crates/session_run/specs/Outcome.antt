@@ -64,10 +64,10 @@ pub record IsOpening (chosen : Settings) (local_image peer_image : List ℕ) (o 
   pub other : (local_image ≡ peer_image → ⊥) → o.peer_tuple ≡ unknown
   pub marks : (block : ℕ) → o.marks block ≡ false
 
--- What a run comes to: two runs of the model, one of each node, from the opening. Each receipt is that of a planned write, which the
--- primary accepted with the bytes of the plan, and each is that of an entry of the journal to which the primary's run leads, none given
--- twice. Both runs lead to rest. The report has the numbers of the settlement with all receipts, and the disks that the runs lead to. If the runs are joined, the settlement says all that the theorem on joined nodes says of one, and if no local write
--- failed besides, the peer's disk has an order of writes while it calls itself consistent.
+-- What a run comes to: two runs of the model, one of each node, from the opening. Each receipt is that of a planned write, which the primary accepted with the
+-- bytes of the plan, and each is that of an entry of the journal to which the primary's run leads, none given twice. Both runs lead to rest. The report has the
+-- numbers of the settlement with all receipts, and the disks that the runs lead to. If the runs are joined, the settlement says all that the theorem on joined
+-- nodes says of one, and if no local write failed besides, the peer's disk has an order of writes while it calls itself consistent.
 pub record IsOutcome (options : RunOptions) (o : Opening) (report : RunReport) : Type 0 where
   pub here : List PrimaryEvent
   pub there : List SecondaryEvent

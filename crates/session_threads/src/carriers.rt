@@ -5,6 +5,7 @@ ghost use Rattle.blocks.specs.declared.refusal.Refusal.TheVariants.{NoMemory};
 ghost use Rattle.endpoint.specs.Calls.{IsNewIn, IsNewOut};
 ghost use Rattle.thread_link.specs.Inward.{taking};
 ghost use Rattle.thread_link.specs.Outward.{sending};
+ghost use Rattle.thread_link.specs.declared.ends.TheConstants.{FRAME_PIECES};
 
 use crate::shared::Shared;
 use crate::way::{Sink, Source, Way};
@@ -18,10 +19,7 @@ use std::io::{Read, Write};
 use std::sync::{Arc, Wait};
 use std::thread;
 use std::time::Clock;
-use thread_link::{PieceIn, PieceOut, RuledIn, RuledOut, row};
-
-/// Pieces of the longest frame.
-const FRAME_PIECES: usize = 94;
+use thread_link::{FRAME_PIECES, PieceIn, PieceOut, RuledIn, RuledOut, row};
 
 /// The pumps of a session.
 const PUMPS: usize = 4;
@@ -51,7 +49,7 @@ pub fn half_rows<R: Wait + Copy + Drop>(
 ) -> Result<((RuledOut<R>, RuledIn<R>), PumpEnds<R>), Refusal>
     requires { 0 < link }
     ensures unused { IfOk result (λ r. IsNewOut (sending r.0.0) × IsNewIn (taking r.0.1)) }
-    ensures room { IfOk result (λ r. (r.0.0.row.slots ≡ 94 * link) × (r.0.1.row.slots ≡ 94 * link)) }
+    ensures room { IfOk result (λ r. (r.0.0.row.slots ≡ FRAME_PIECES * link) × (r.0.1.row.slots ≡ FRAME_PIECES * link)) }
     ensures refused { IfErr result (λ e. e ≡ NoMemory) }
 {
     let (pushed, leaving) = row(rt, alloc, FRAME_PIECES * link as usize)?;

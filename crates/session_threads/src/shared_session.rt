@@ -7,7 +7,9 @@ use crate::shared::{Shared, Transport};
 use blocks::{BLOCK_BYTES, ConnectionWords, Refusal};
 use bytes::Bytes;
 use primary::Receipt;
-use session_api::{Begun, Device, PrimaryHalf, PrimaryRole, Progress, SecondaryHalf};
+use session_api::{
+    Begun, Device, PrimaryHalf, PrimaryProgress, PrimaryRole, Progress, SecondaryHalf,
+};
 use std::alloc::Global;
 use std::sync::{Arc, Wait};
 use std::time::Clock;
@@ -24,7 +26,9 @@ impl<R: Wait + Clock, A: PrimaryHalf, B: SecondaryHalf> Device for SharedSession
 
     ghost holds = { A.holds };
 
-    ghost shows = { λ progress. A.shows progress.primary × B.shows progress.secondary };
+    ghost primary_shows = { A.shows };
+
+    ghost secondary_shows = { B.shows };
 
     fn write(&self, first: u64, bytes: &Bytes) -> Result<Receipt, Refusal> {
         let begun = self.begin(first, bytes.clone()?)?;
@@ -65,6 +69,10 @@ impl<R: Wait + Clock, A: PrimaryHalf, B: SecondaryHalf> Device for SharedSession
         let primary = self.shared.primary.progress();
         let secondary = self.shared.secondary.progress();
         Progress { primary, secondary }
+    }
+
+    fn primary_progress(&self) -> PrimaryProgress {
+        self.shared.primary.progress()
     }
 
     fn prepare_leaving(&self, most: u64) -> u64 {

@@ -13,7 +13,8 @@ use Rattle.model.specs.Pair.{same_block}
 use Rattle.model.specs.Primary.{Completion, PrimaryHistory, items_sent, primary_connection}
 use Rattle.model.specs.Refusals.{first_refusal}
 use Rattle.model.specs.Secondary.{SecondaryConnection, SecondaryHistory, no_secondary_connection, secondary_connection, secondary_connection_at, items_taken}
-use Rattle.model.specs.Settlement.{Receipt, Settlement, applied_items, has_strange, is_at_rest, receipt_of, same_receipt, settlement, settle, unmarked_differences}
+use Rattle.model.specs.Settlement.{Receipt, Settlement, applied_items, has_strange, is_at_rest, receipt_of, same_receipt, settlement, settle}
+use Rattle.model.specs.Settlement.{unmarked_differences}
 use Rattle.model.specs.Theorems.{Opening, primary_at, secondary_at, marks_at, IsSoundOpening, Settles, SettlesAnyhow}
 use Rattle.model.specs.WriteOrder.{KeepsWriteOrder, IsUnharmed}
 use Rattle.laws.proofs.Theorems.Joined.{joined_settles, joined_settles_anyhow}

@@ -7,7 +7,7 @@ use crate::told::Told;
 use program_values::{Asked, Question};
 use std::alloc::{AllocError, Global};
 use std::io;
-use std::io::Write;
+use std::io::{ErrorKind, Write};
 use std::net::Net;
 use std::rt::Files;
 use std::sync::Wait;
@@ -67,6 +67,7 @@ fn ask_all<R: Net + Files + Clock + Wait + AllocGlobal + Clone + Drop, E: Write>
     for name in names.iter() {
         match part_of(rt, asked.run_folder, name.as_str(), question) {
             Ok(part) => parts.push(part)?,
+            Err(NoAnswer::NoMemory) => return Err(io::Error::from(ErrorKind::OutOfMemory)),
             Err(fault) => {
                 let _ = writeln!(err, "{name}: {fault}");
                 end = QueryEnd::NoServer;

@@ -46,6 +46,9 @@ impl fmt::Display for NoAnswer {
     fn fmt<W: fmt::Write>(&self, f: &mut fmt::Formatter<W>) -> fmt::Result {
         match self {
             NoAnswer::Unreached(error) => write!(f, "no server answers: {error}"),
+            NoAnswer::Unread(error) if is_late(error) => f.write_str(
+                "the answer did not come in time",
+            ),
             NoAnswer::Unread(error) => write!(f, "the answer did not come: {error}"),
             NoAnswer::Unavailable => f.write_str(
                 "the server gives no status now: its images are compared, a session gives way to the next, or a disk does not answer",
@@ -54,6 +57,11 @@ impl fmt::Display for NoAnswer {
             NoAnswer::NoMemory => f.write_str("there was no memory"),
         }
     }
+}
+
+// Returns whether a read or a write has had its time.
+fn is_late(error: &io::Error) -> bool {
+    matches!(error.kind(), ErrorKind::WouldBlock | ErrorKind::TimedOut)
 }
 
 /// Asks the server of this name for its status, and waits for the answer as long as `patience` says, which is not zero.

@@ -1,5 +1,6 @@
 -- Which events accept a write, and which begin a stream.
-use Rattle.std.proofs.Common.{ℕ, suc, ◌≡◌, ◌+◌, ◌-◌, ◌≤◌, ◌<◌, ◌⊎◌, ◌==◌, inl, inr, Bool, true, false, not, nat_lt, ◌&&◌, List, [], ◌∷◌, ◌++◌, length, Option, Some, None, slice_get}
+use Rattle.std.proofs.Common.{ℕ, suc, ◌≡◌, ◌+◌, ◌-◌, ◌≤◌, ◌<◌, ◌⊎◌, ◌==◌, inl, inr, Bool, true, false, not, nat_lt, ◌&&◌, List, [], ◌∷◌, ◌++◌, length, Option}
+use Rattle.std.proofs.Common.{Some, None, slice_get}
 use Rattle.std.proofs.Common.{refl, sym, ◌∙◌, ap, subst, arith}
 use Rattle.std.specs.Prelude.{nat_le}
 use Rattle.std.proofs.lemmas.Bool.{and_parts, ltb-true, leb-true, eqb-true}
@@ -14,7 +15,8 @@ use Rattle.model.specs.LocalRuns.{PrimaryEvent, Opens, Submits, WritesLocally, F
 use Rattle.model.specs.LocalRuns.{primary_after, primary_run}
 use Rattle.model.specs.Primary.{OnDisk, Failed, Accepted, PrimaryConnection, PrimaryHistory, change_last, free_block, new_primary_connection, is_established}
 use Rattle.model.specs.Primary.{primary_connection, with_primary_connection}
-use Rattle.model.specs.PrimarySteps.{accepted_at, closing, copying, given, faulted, faulted_by, follows, is_unfinished, open_tests, opened, resync_tests, send_tests}
+use Rattle.model.specs.PrimarySteps.{accepted_at, closing, copying, given, faulted, faulted_by, follows, is_unfinished, open_tests, opened, resync_tests}
+use Rattle.model.specs.PrimarySteps.{send_tests}
 use Rattle.model.specs.PrimarySteps.{sending, set_outcome, submission, submit_tests, submitted, submitted_with, succeeding, with_outcome}
 use Rattle.model.specs.Marks.{releasing}
 use Rattle.model.specs.Stream.{StreamItem, WriteItem, ResyncItem, within}

@@ -1,5 +1,6 @@
 -- Why the old primary may come back to the secondary that went on alone, however many sessions it ran.
-use Rattle.std.proofs.Common.{ℕ, ◌≡◌, ◌<◌, inl, inr, Bool, true, false, ◌&&◌, ◌||◌, nat_lt, List, [], ◌∷◌, Option, Some, None, slice_get, sym, ◌∙◌, ap, subst, refl, arith}
+use Rattle.std.proofs.Common.{ℕ, ◌≡◌, ◌<◌, inl, inr, Bool, true, false, ◌&&◌, ◌||◌, nat_lt, List, [], ◌∷◌, Option, Some, None, slice_get, sym, ◌∙◌, ap, subst}
+use Rattle.std.proofs.Common.{refl, arith}
 use Rattle.std.specs.Prelude.{is_some}
 use Rattle.std.proofs.lemmas.Bool.{cases_Bool, both_ways, and_parts, and_from, or_left, or_right, ltb-true, false_from_ne_true}
 use Rattle.blocks.specs.declared.settings.Settings.{Settings}
@@ -18,7 +19,8 @@ use Rattle.model.specs.Stream.{StreamItem}
 use Rattle.model.specs.Theorems.{Opening, IsSoundOpening, HasRanges, primary_at}
 use Rattle.stops.proofs.Alone.{alone-faithful}
 use Rattle.stops.proofs.Stopping.{promotions_are_sound}
-use Rattle.stops.specs.Returns.{AloneKeepsItsDisk, ReturnsAreSound, ReturnsStaySound, SessionAlone, RanAlone, AllRanAlone, end_of, marks_after, disk_after, unmarked}
+use Rattle.stops.specs.Returns.{AloneKeepsItsDisk, ReturnsAreSound, ReturnsStaySound, SessionAlone, RanAlone, AllRanAlone, end_of, marks_after, disk_after}
+use Rattle.stops.specs.Returns.{unmarked}
 use Rattle.stops.specs.Stops.{promoted_at, primary_of, secondary_of}
 
 -- a block that a primary alone does not cover stands as at the opening, and was not marked then

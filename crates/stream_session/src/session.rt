@@ -1,5 +1,6 @@
 //! A session whose frames go over streams of bytes, such as sockets.
 ghost use Rattle.std.specs.Prelude.{◌≡◌, ◌<◌, ◌≤◌, ◌⊎◌, ◌*◌, true, false, Err, length, slice_get, unwrap_or, vec_len, IfErr, IfOk, IfSome, IsTrue};
+ghost use Rattle.blocks.specs.declared.block.TheConstants.{BLOCK_BYTES};
 ghost use Rattle.blocks.specs.declared.refusal.Refusal.TheVariants.{BadRange, NoMemory, NotConnected, NotDrained, ReadFault};
 ghost use Rattle.session_api.specs.Opening.{opening_of};
 ghost use Rattle.model.specs.CallRefusals.{local_open_refuses, peer_open_refuses, start_over_refuses, streams_hello_refuses, write_refuses};
@@ -188,7 +189,7 @@ impl<R: Runtime, B: Beginning, S: Store + Drop, T: Store + Drop> StreamSession<R
     /// `Device::write` of the mirror, with its refusals, 1, 5 to 8, 12 and 16. A primary that began as the session did accepted
     /// these bytes under the receipt's number.
     pub fn write(&self, first: u64, bytes: &Bytes) -> Result<Receipt, Refusal>
-        ensures own { IfOk result (λ receipt. (receipt.first ≡ first) × (receipt.count * 4096 ≡ length bytes.now)) }
+        ensures own { IfOk result (λ receipt. (receipt.first ≡ first) × (receipt.count * BLOCK_BYTES ≡ length bytes.now)) }
         ensures accepted { IfOk result (λ receipt. HasAccepted B.opening receipt.number first bytes.now) }
         ensures refused { IfErr result (λ e. write_refuses e ≡ true) }
     {
@@ -200,7 +201,7 @@ impl<R: Runtime, B: Beginning, S: Store + Drop, T: Store + Drop> StreamSession<R
     /// these bytes there.
     pub fn read(&self, first: u64, count: u64) -> Result<Vec<u8>, Refusal>
         ensures held { IfOk result (λ bytes. ((store : S) → IsTrue (S.faithful store)) → HasHeld B.opening first count bytes.items) }
-        ensures length { IfOk result (λ bytes. vec_len bytes ≡ count * 4096) }
+        ensures length { IfOk result (λ bytes. vec_len bytes ≡ count * BLOCK_BYTES) }
         ensures refused { IfErr result (λ e. (e ≡ BadRange) ⊎ ((e ≡ NoMemory) ⊎ (e ≡ ReadFault))) }
     {
         self.running.mirror().read(first, count)

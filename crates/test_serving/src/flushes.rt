@@ -75,7 +75,9 @@ impl Device for LateDevice {
     ghost holds = { λ first count bytes. Unit {0} };
 
     // It has no nodes.
-    ghost shows = { λ progress. Unit {0} };
+    ghost primary_shows = { λ progress. Unit {0} };
+
+    ghost secondary_shows = { λ progress. Unit {0} };
 
     fn write(&self, _first: u64, _bytes: &Bytes) -> Result<Receipt, Refusal> {
         Err(Refusal::NotConnected)
@@ -106,15 +108,18 @@ impl Device for LateDevice {
     }
 
     fn progress(&self) -> Progress {
-        let (accepted, released) = self.look();
-        let Progress { primary, secondary } = resync_progress();
         Progress {
-            primary: PrimaryProgress {
-                accepted,
-                released,
-                ..primary
-            },
-            secondary,
+            primary: self.primary_progress(),
+            secondary: resync_progress().secondary,
+        }
+    }
+
+    fn primary_progress(&self) -> PrimaryProgress {
+        let (accepted, released) = self.look();
+        PrimaryProgress {
+            accepted,
+            released,
+            ..resync_progress().primary
         }
     }
 

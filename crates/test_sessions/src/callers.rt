@@ -37,7 +37,7 @@ pub(crate) enum Work {
     /// One caller writes a thousand times, and cuts and reconnects the link after every tenth write.
     CutEveryTenth,
     /// One caller writes block 0; once the peer's disk has begun that, another caller writes block 1. If
-    /// `receipt_opens`, the receipt of the second write lets the first one end, and then both are released.
+    /// `receipt_opens`, the receipt of the second write lets the first one end, and only then are both released.
     Gate { receipt_opens: bool },
     /// Nothing is written until the peer's disk has done `writes` writes.
     Resync { writes: u64 },
@@ -302,14 +302,15 @@ fn gate<R: Abort + Runtime>(
     answers
 }
 
-// Lets the peer's disk end the first write. Returns whether the device has released both then. It is not asked before: the answer
-// would wait for that disk, which has its node's lock while it writes.
+// Lets the peer's disk end the first write. Returns whether the device has released neither write before that, and both
+// after it, although both have their receipts. It asks of the primary alone: the peer's disk has its node's lock while it writes.
 fn is_released_by_the_peer(mirror: &impl Device, signals: &Signals) -> bool {
+    let before = mirror.primary_progress();
+    let is_held = before.accepted == 2 && before.released == 0;
     signals.may_end.store(true, Ordering::SeqCst);
     for _ in 0..LOOKS {
-        let primary = mirror.progress().primary;
-        if primary.released == 2 {
-            return primary.accepted == 2;
+        if mirror.primary_progress().released == 2 {
+            return is_held;
         }
         thread::yield_now();
     }

@@ -1,5 +1,6 @@
 -- What is in memory of the last writes, where writes are accepted, released and forgotten.
-use Rattle.std.proofs.Common.{◌≡◌, ℕ, zero, suc, ◌+◌, ◌-◌, ◌<◌, ◌≤◌, ◌==◌, ◌⊎◌, inl, inr, Bool, true, false, ◌&&◌, not, List, [], ◌∷◌, ◌++◌, length, take, drop, refl, sym, ◌∙◌, ap, subst, arith, Option}
+use Rattle.std.proofs.Common.{◌≡◌, ℕ, zero, suc, ◌+◌, ◌-◌, ◌<◌, ◌≤◌, ◌==◌, ◌⊎◌, inl, inr, Bool, true, false, ◌&&◌, not, List, [], ◌∷◌, ◌++◌, length, take, drop}
+use Rattle.std.proofs.Common.{refl, sym, ◌∙◌, ap, subst, arith, Option}
 use Rattle.std.proofs.Common.{Some, None, length-append, get_or}
 use Rattle.std.specs.Prelude.{Contains, IfSome, filter, map, replicate, if◌then◌else◌}
 use Rattle.std.specs.List.{slice_get, AllByRecursion}
@@ -11,7 +12,8 @@ use Rattle.blocks.specs.Ranges.{is_between}
 use Rattle.transferlog.specs.Writes.{LogWrite, released_of, unlinking}
 use Rattle.transferlog.specs.Ring.{Each, Rises}
 use Rattle.transferlog.specs.Log.{clears, is_number, with_last_write}
-use Rattle.transferlog.specs.LastWrites.{LastWritesState, HasOther, IsApart, IsNoted, IsNotedRelease, IsNotedWrite, IsSmall, forgotten, forgotten_all, known_at, noted}
+use Rattle.transferlog.specs.LastWrites.{LastWritesState, HasOther, IsApart, IsNoted, IsNotedRelease, IsNotedWrite, IsSmall, forgotten, forgotten_all, known_at}
+use Rattle.transferlog.specs.LastWrites.{noted}
 use Rattle.transferlog.specs.declared.report.Released.{Released}
 use Rattle.transferlog.proofs.Moves.{each_filter, number_is}
 

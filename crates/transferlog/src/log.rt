@@ -1,5 +1,6 @@
 //! The transfer log of a primary.
-ghost use Rattle.std.specs.Prelude.{Contains, MatchOption, filter, find, nat_le, slice_get, suc, ◌≡◌, ◌+◌, ◌<◌, ◌≤◌, length, true, IfOk, IfErr, IfSome, IsSomeAnd, None};
+ghost use Rattle.std.specs.Prelude.{Contains, MatchOption, filter, find, nat_le, slice_get, suc, ◌≡◌, ◌+◌, ◌<◌, ◌≤◌, length, true, IfOk, IfErr, IfSome};
+ghost use Rattle.std.specs.Prelude.{IsSomeAnd, None};
 ghost use Rattle.std.specs.Option.{option_copied, option_map};
 ghost use Rattle.std.specs.List.{AllByRecursion};
 ghost use Rattle.transferlog.specs.Log.{clears, empty_log};

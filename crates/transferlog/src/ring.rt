@@ -1,11 +1,13 @@
 //! The ring of the unreleased writes.
-ghost use Rattle.std.specs.Prelude.{find, nat_le, slice_get, IfSome, ◌&&◌, ◌≤◌, filter, map, not, vec_len, vec_capacity, ◌≡◌, ◌+◌, ◌^◌, ◌<◌, [], ◌∷◌, ◌++◌, length, IsOk, OnOk, is_some, if◌then◌else◌};
+ghost use Rattle.std.specs.Prelude.{find, nat_le, slice_get, IfSome, ◌&&◌, ◌≤◌, filter, map, not, vec_len, vec_capacity, ◌≡◌, ◌+◌, ◌^◌, ◌<◌, [], ◌∷◌, ◌++◌};
+ghost use Rattle.std.specs.Prelude.{length, IsOk, OnOk, is_some, if◌then◌else◌};
 ghost use Rattle.std.specs.List.{list_any};
 ghost use Rattle.blocks.specs.Ranges.{is_between};
 ghost use Rattle.std.specs.Option.{option_copied, option_map, option_and_then};
 ghost use Rattle.transferlog.specs.Writes.{completed_of, is_completed, is_open, is_released, is_waiting, release_of, released_of, report_of, unlinking};
 ghost use Rattle.transferlog.specs.Writes as writes;
-ghost use Rattle.transferlog.specs.Ring.{Each, ReleasedBelow, ReleasedFrom, Rises, WaitsFrom, changed, is_unanswered, is_waiting_at, with_change, without, write_at};
+ghost use Rattle.transferlog.specs.Ring.{Each, ReleasedBelow, ReleasedFrom, Rises, WaitsFrom, changed, is_unanswered, is_waiting_at, with_change, without};
+ghost use Rattle.transferlog.specs.Ring.{write_at};
 
 use crate::report::{ChangeReport, Completed, Released, note, note_completed};
 use crate::write::{Change, Write};

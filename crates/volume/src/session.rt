@@ -1,5 +1,6 @@
 //! A session over a link in this process.
 ghost use Rattle.std.specs.Prelude.{◌≡◌, ◌≤◌, ◌⊎◌, ◌*◌, true, Some, length, slice_get, vec_len, IfErr, IfOk, IsTrue};
+ghost use Rattle.blocks.specs.declared.block.TheConstants.{BLOCK_BYTES};
 ghost use Rattle.blocks.specs.declared.refusal.Refusal.TheVariants.{BadRange, NoMemory, NotDrained, ReadFault};
 ghost use Rattle.session_api.specs.Opening.{opening_of};
 ghost use Rattle.model.specs.CallRefusals.{reopen_refuses, start_refuses, write_refuses};
@@ -77,7 +78,7 @@ impl<R: Runtime, L: Linked, S: Store + Drop, T: Store + Drop> Session<R, L, S, T
     /// `Device::write` of the mirror, with its refusals, 1, 5 to 8, 12 and 16. A primary that began as the session did accepted
     /// these bytes under the receipt's number.
     pub fn write(&self, first: u64, bytes: &Bytes) -> Result<Receipt, Refusal>
-        ensures own { IfOk result (λ receipt. (receipt.first ≡ first) × (receipt.count * 4096 ≡ length bytes.now)) }
+        ensures own { IfOk result (λ receipt. (receipt.first ≡ first) × (receipt.count * BLOCK_BYTES ≡ length bytes.now)) }
         ensures accepted { IfOk result (λ receipt. HasAccepted (Some L.opening) receipt.number first bytes.now) }
         ensures refused { IfErr result (λ e. write_refuses e ≡ true) }
     {
@@ -89,7 +90,7 @@ impl<R: Runtime, L: Linked, S: Store + Drop, T: Store + Drop> Session<R, L, S, T
     /// these bytes there.
     pub fn read(&self, first: u64, count: u64) -> Result<Vec<u8>, Refusal>
         ensures held { IfOk result (λ bytes. ((store : S) → IsTrue (S.faithful store)) → HasHeld (Some L.opening) first count bytes.items) }
-        ensures length { IfOk result (λ bytes. vec_len bytes ≡ count * 4096) }
+        ensures length { IfOk result (λ bytes. vec_len bytes ≡ count * BLOCK_BYTES) }
         ensures refused { IfErr result (λ e. (e ≡ BadRange) ⊎ ((e ≡ NoMemory) ⊎ (e ≡ ReadFault))) }
     {
         self.kept.mirror().read(first, count)

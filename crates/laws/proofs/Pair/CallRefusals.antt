@@ -15,14 +15,18 @@ use Rattle.model.specs.Frames.{Packet, Received}
 use Rattle.model.specs.Marks.{releasing}
 use Rattle.model.specs.Stream.{StreamItem, barriers_in, epoch_of, is_barrier, placed_from}
 use Rattle.model.specs.Primary.{Accepted, OnDisk, PrimaryHistory, free_block, is_waiting, next_local, primary_connection, with_primary_connection}
-use Rattle.model.specs.PrimarySteps.{close_primary, closing, copying, faulted, follows, is_unfinished, local_done, local_fault, open_primary, open_tests, opened}
-use Rattle.model.specs.PrimarySteps.{resync_fault, resync_next, resync_tests, send, send_tests, sending, submit, submit_tests, submitted, succeeding, take_completed}
+use Rattle.model.specs.PrimarySteps.{close_primary, closing, copying, faulted, follows, is_unfinished, local_done, local_fault, open_primary, open_tests}
+use Rattle.model.specs.PrimarySteps.{opened}
+use Rattle.model.specs.PrimarySteps.{resync_fault, resync_next, resync_tests, send, send_tests, sending, submit, submit_tests, submitted, succeeding}
+use Rattle.model.specs.PrimarySteps.{take_completed}
 use Rattle.model.specs.PrimarySteps.{with_outcome}
 use Rattle.blocks.specs.declared.command.Command.TheVariants as command
 use Rattle.model.specs.Acknowledgements.{Taken, ack_in, ack_in_tests, take_frame, taking}
 use Rattle.model.specs.Refusals.{Test, done_with, first_refusal}
-use Rattle.model.specs.Secondary.{SecondaryConnection, SecondaryHistory, is_drained, is_pending, items_taken, next_pending, pending, secondary_connection, with_secondary_connection}
-use Rattle.model.specs.SecondarySteps.{Checked, applying, failing, peer, peer_fault, ack_out, ack_out_tests, answering_with, checking, checking_hello, checking_item, close_secondary, has_earlier, is_pending_at, open_secondary}
+use Rattle.model.specs.Secondary.{SecondaryConnection, SecondaryHistory, is_drained, is_pending, items_taken, next_pending, pending, secondary_connection}
+use Rattle.model.specs.Secondary.{with_secondary_connection}
+use Rattle.model.specs.SecondarySteps.{Checked, applying, failing, peer, peer_fault, ack_out, ack_out_tests, answering_with, checking, checking_hello}
+use Rattle.model.specs.SecondarySteps.{checking_item, close_secondary, has_earlier, is_pending_at, open_secondary}
 use Rattle.model.specs.SecondarySteps.{opened_secondary, receive, receive_tests, succeeding_secondary, take_item}
 use Rattle.laws.proofs.Lists.Picks.{any-pick, pick-filtered, pick-found}
 use Rattle.laws.proofs.Streams.Places.{placed-back}
