@@ -162,7 +162,7 @@ not copied or differ without a mark, a sync has failed, or an image may have kep
 parts of a failed write, was replaced or has another length; 2 wrong usage; 3 the
 images are given the wrong way round, or a session was refused by another number
 than 7. Of several faults the last line tells the first, and a line before it
-each further one.
+each further one. With --dry-run the status is that of the start's refusal, else 0.
 ";
 
 /// What a run over sockets does.
@@ -252,9 +252,11 @@ with status 1.
   nbdinfo 'nbd+unix:///?socket=/srv/sockets/nbd'
 
 With --status PORT, or unix:PATH, a page tells of both nodes: the status lines, as
-drbdpair script --help explains them, and the same as JSON.
+drbdpair script --help explains them, the same as JSON, and metrics for Prometheus.
+A browser gets a page that explains the words and follows the server.
   curl http://127.0.0.1:PORT/
   curl http://127.0.0.1:PORT/status.json
+  curl http://127.0.0.1:PORT/metrics
 
 With --name NAME the page is also at the Unix socket NAME/status in the folder of
 --run-dir, where drbdpair status NAME and its kin ask. The folder NAME is made if
@@ -262,6 +264,13 @@ it is not there. A name has 1 to 64 letters, digits, -, _ and ., the first a let
 or a digit.
   drbdpair serve --local a.img --peer b.img --name r0 --run-dir /tmp/run
   drbdpair status r0 --run-dir /tmp/run
+
+With --dry-run nothing is served, and nothing is written: drbdpair locks both
+images, reads their metadata, compares them where a first start would, says what a
+start would copy and why, or why it would be refused, and prints how much:
+  to copy: N blocks, M MiB
+No address is listened at, and no metadata file is made.
+  drbdpair serve --local a.img --peer b.img --dry-run
 
 A start that fails prints a line on standard error that says why.
 ";
@@ -364,64 +373,6 @@ impl Display for ServeHelp {
     fn fmt<W: fmt::Write>(&self, f: &mut fmt::Formatter<W>) -> fmt::Result {
         f.write_str(SERVE)?;
         f.write_str(SERVE_STATUSES)
-    }
-}
-
-/// What `create-md` does.
-pub(crate) struct CreateMdHelp;
-
-impl fmt::Display for CreateMdHelp {
-    fn fmt<W: fmt::Write>(&self, f: &mut fmt::Formatter<W>) -> fmt::Result {
-        f.write_str(
-            "\
-Makes the metadata of an image, in IMAGE.metadata or the file that is named. The
-next server over it takes nothing for granted: it copies all of its local image
-over the peer's. Metadata that is there stays, unless --force is given. A server
-makes metadata by itself, so this is for beginning anew.
-
-Exit statuses: 0 done; 1 there is metadata already, the image is in use or could
-not be opened, or a file or memory failed; 2 wrong usage.
-",
-        )
-    }
-}
-
-/// What `dump-md` does.
-pub(crate) struct DumpMdHelp;
-
-impl fmt::Display for DumpMdHelp {
-    fn fmt<W: fmt::Write>(&self, f: &mut fmt::Formatter<W>) -> fmt::Result {
-        f.write_str(
-            "\
-Shows what the metadata of an image says: the ids of its pair and its node, its
-generation identifiers in hexadecimal (current, bitmap, two historical), its
-role, whose secondary it is, whether it is consistent, whether its last server
-ended as it was told to and the image is unchanged since, how many extents of
-4 MiB are active, and how much the next server copies: what is marked, and all
-of the active extents.
-
-Exit statuses: 0 done; 1 there is no metadata or it is damaged, the image is in
-use or could not be opened, or a file or memory failed; 2 wrong usage.
-",
-        )
-    }
-}
-
-/// What `verify` does.
-pub(crate) struct VerifyHelp;
-
-impl fmt::Display for VerifyHelp {
-    fn fmt<W: fmt::Write>(&self, f: &mut fmt::Formatter<W>) -> fmt::Result {
-        f.write_str(
-            "\
-Compares both images of a mirror while no server uses them, and writes to
-neither. It prints how many blocks differ, and how many of these the local
-image's metadata does not cover, so that a server would not copy them.
-
-Exit statuses: 0 each block that differs is covered; 1 one is not, an image is
-in use or could not be read, or memory failed; 2 wrong usage.
-",
-        )
     }
 }
 

@@ -32,6 +32,22 @@ pub(crate) fn dump_md<'a>(alloc: Global, help: &'a str) -> Result<Command<'a>, E
     Ok(command)
 }
 
+/// Creates the command `get-gi`, with this help below its usage.
+pub(crate) fn get_gi<'a>(alloc: Global, help: &'a str) -> Result<Command<'a>, Error> {
+    let command = Command::new(alloc, "get-gi")
+        .about("Prints the generation identifiers of an image")
+        .after_help(help);
+    with_image(alloc, command)
+}
+
+/// Creates the command `show-gi`, with this help below its usage.
+pub(crate) fn show_gi<'a>(alloc: Global, help: &'a str) -> Result<Command<'a>, Error> {
+    let command = Command::new(alloc, "show-gi")
+        .about("Prints the generation identifiers of an image, and explains them")
+        .after_help(help);
+    with_image(alloc, command)
+}
+
 /// Creates the command `verify`, with this help below its usage.
 pub(crate) fn verify<'a>(alloc: Global, help: &'a str) -> Result<Command<'a>, Error> {
     let command = Command::new(alloc, "verify")

@@ -4,6 +4,7 @@
 
 mod fault;
 mod help;
+mod image_help;
 mod images;
 mod order;
 mod queries;

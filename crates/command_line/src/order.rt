@@ -1,6 +1,7 @@
 //! The order that a command line gives.
 use crate::fault::UsageFault;
-use crate::help::{CreateMdHelp, DumpMdHelp, RunHelp, ScriptHelp, ServeHelp, TcpHelp, VerifyHelp};
+use crate::help::{RunHelp, ScriptHelp, ServeHelp, TcpHelp};
+use crate::image_help::ImageHelpTexts;
 use crate::{images, queries, run, serve};
 use clap::{Arg, ArgMatches, Command, Error};
 use program_values::{
@@ -25,10 +26,16 @@ pub enum Order<'a> {
     Run(RunOptions, Images<'a>),
     /// To serve two images to block clients.
     Serve(ServeOptions<'a>),
+    /// To say what such a server would begin with.
+    DryRun(ServeOptions<'a>),
     /// To make the metadata of an image, anew if that is forced.
     CreateMd(ImageOptions<'a>, bool),
     /// To show the metadata of an image.
     DumpMd(ImageOptions<'a>, DumpFormat),
+    /// To print the generation identifiers of an image.
+    GetGi(ImageOptions<'a>),
+    /// To print and explain them.
+    ShowGi(ImageOptions<'a>),
     /// To compare both images of a mirror.
     Verify(VerifyOptions<'a>),
     /// To ask these servers for something.
@@ -44,9 +51,7 @@ pub struct HelpTexts {
     run: String,
     tcp: String,
     serve: String,
-    create_md: String,
-    dump_md: String,
-    verify: String,
+    images: ImageHelpTexts,
 }
 
 impl HelpTexts {
@@ -57,9 +62,7 @@ impl HelpTexts {
             run: format!(in alloc; "{RunHelp}")?,
             tcp: format!(in alloc; "{TcpHelp}")?,
             serve: format!(in alloc; "{ServeHelp}")?,
-            create_md: format!(in alloc; "{CreateMdHelp}")?,
-            dump_md: format!(in alloc; "{DumpMdHelp}")?,
-            verify: format!(in alloc; "{VerifyHelp}")?,
+            images: ImageHelpTexts::new(alloc)?,
         })
     }
 }
@@ -94,7 +97,7 @@ fn matches_of<'a, S: AsStr>(
         .about("Runs a script, and prints what each command did")
         .after_help(helps.script.as_str())
         .arg(file)?;
-    Command::new(alloc, "drbdpair")
+    let command = Command::new(alloc, "drbdpair")
         .bin_name("drbdpair")?
         .version(VERSION)
         .about(ABOUT)
@@ -103,16 +106,35 @@ fn matches_of<'a, S: AsStr>(
         .subcommand(script)?
         .subcommand(run::run(alloc, helps.run.as_str())?)?
         .subcommand(run::tcp(alloc, helps.tcp.as_str())?)?
-        .subcommand(serve::serve(alloc, helps.serve.as_str())?)?
+        .subcommand(serve::serve(alloc, helps.serve.as_str())?)?;
+    let command = with_images(alloc, &helps.images, command)?;
+    with_queries(alloc, command)?.try_get_matches_from(words)
+}
+
+// Adds the commands over images that no server uses.
+fn with_images<'a>(
+    alloc: Global,
+    helps: &'a ImageHelpTexts,
+    command: Command<'a>,
+) -> Result<Command<'a>, Error> {
+    let command = command
         .subcommand(images::create_md(alloc, helps.create_md.as_str())?)?
         .subcommand(images::dump_md(alloc, helps.dump_md.as_str())?)?
-        .subcommand(images::verify(alloc, helps.verify.as_str())?)?
+        .subcommand(images::get_gi(alloc, helps.get_gi.as_str())?)?
+        .subcommand(images::show_gi(alloc, helps.show_gi.as_str())?)?
+        .subcommand(images::verify(alloc, helps.verify.as_str())?)?;
+    Ok(command)
+}
+
+// Adds the commands that ask running servers.
+fn with_queries<'a>(alloc: Global, command: Command<'a>) -> Result<Command<'a>, Error> {
+    let command = command
         .subcommand(queries::status(alloc)?)?
         .subcommand(queries::cstate(alloc)?)?
         .subcommand(queries::dstate(alloc)?)?
         .subcommand(queries::wait_sync(alloc)?)?
-        .subcommand(queries::wait_connect(alloc)?)?
-        .try_get_matches_from(words)
+        .subcommand(queries::wait_connect(alloc)?)?;
+    Ok(command)
 }
 
 fn order_of<'a>(
@@ -132,6 +154,8 @@ fn order_of<'a>(
             images::image_options(words),
             images::format(words),
         )),
+        Some(("get-gi", words)) => Ok(Order::GetGi(images::image_options(words))),
+        Some(("show-gi", words)) => Ok(Order::ShowGi(images::image_options(words))),
         Some(("verify", words)) => verify_of(words),
         Some((name, words)) => match query_of(name, words)? {
             Some(order) => Ok(order),
@@ -166,12 +190,16 @@ fn run_of<'a>(
     }
 }
 
-// Returns the order for a server.
+// Returns the order for a server, or for a dry run of one.
 fn serve_of<'a>(alloc: Global, words: &ArgMatches<'a>) -> Result<Order<'a>, UsageFault<'a>> {
     if let Some(image) = shared_image(words) {
         return Err(UsageFault::SharedImage(image));
     }
-    Ok(Order::Serve(serve::options(alloc, words)?))
+    let options = serve::options(alloc, words)?;
+    if words.get_flag("dry-run") {
+        return Ok(Order::DryRun(options));
+    }
+    Ok(Order::Serve(options))
 }
 
 // Returns the order for a comparison.

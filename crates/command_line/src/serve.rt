@@ -126,6 +126,12 @@ fn with_start_and_end<'a>(alloc: Global, command: Command<'a>) -> Result<Command
                 .long("compare")
                 .action(ArgAction::SetTrue)
                 .help("Compares the images at the end, which is done anyway up to 1 GiB"),
+        )?
+        .arg(
+            Arg::new(alloc, "dry-run")
+                .long("dry-run")
+                .action(ArgAction::SetTrue)
+                .help("Says what a start would copy or why it is refused, and writes nothing"),
         )?;
     Ok(command)
 }

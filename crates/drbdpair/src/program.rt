@@ -16,8 +16,8 @@ use std::random::RandomSource;
 use std::rt::Files;
 
 /// Runs the program over its words. The first is its name; then come `script FILE`, where `-` stands for `input`, or
-/// `run`, `tcp`, `serve`, `create-md`, `dump-md`, `verify`, `status`, `cstate`, `dstate`, `wait-sync` or `wait-connect` with its options; no words at all mean `script -`. Returns the exit status. A long run shows
-/// its progress if `err` is a terminal.
+/// `run`, `tcp`, `serve`, `create-md`, `dump-md`, `get-gi`, `show-gi`, `verify`, `status`, `cstate`, `dstate`, `wait-sync` or `wait-connect` with its
+/// options; no words at all mean `script -`. Returns the exit status. A long run shows its progress if `err` is a terminal.
 pub fn run_on<
     S: AsStr,
     H: Host + Files<File = File> + Net<Listener = TcpListener, Stream = TcpStream> + RandomSource,
@@ -61,12 +61,15 @@ fn carry_out<
                 rt, options, input, out, err,
             ).code()
         }
+        Order::DryRun(options) => serving::dry_run(rt, options, out, err).code(),
         Order::CreateMd(options, is_forced) => {
             image_commands::create_md(rt, options, *is_forced, out, err).code()
         }
         Order::DumpMd(options, format) => {
             image_commands::dump_md(rt, options, *format, out, err).code()
         }
+        Order::GetGi(options) => image_commands::get_gi(rt, options, out, err).code(),
+        Order::ShowGi(options) => image_commands::show_gi(rt, options, out, err).code(),
         Order::Ask(asked, question) => status_commands::ask(rt, asked, *question, out, err).code(),
         Order::Wait(options) => status_commands::wait(rt, options, err).code(),
         Order::Verify(options) => image_commands::verify(rt, options, out, err).code(),

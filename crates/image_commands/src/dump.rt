@@ -1,8 +1,8 @@
 //! `dump-md`: showing the metadata of an image.
 use crate::command_fault::CommandFault;
-use crate::held_image::{hold, metadata_file};
+use crate::held_image::{hold, saved_metadata};
 use blocks::BLOCK_BYTES;
-use image_metadata::{AnyBytes, Found, FoundFile, Header, Identifiers, find, image_state};
+use image_metadata::{Header, Identifiers};
 use kept_nodes::known_marks;
 use metadata::{Metadata, StableFile};
 use program_values::{DumpFormat, ImageOptions, SessionStatus};
@@ -61,30 +61,18 @@ fn facts_of<'a, H: Files<File = File> + AllocGlobal>(
     rt: &H,
     options: &ImageOptions<'a>,
 ) -> Result<Facts, CommandFault<'a>> {
-    let image = options.image;
-    let held = hold(rt, image)?;
-    let file = metadata_file(rt, options, &held, false)?;
-    let state = match image_state(held.lock.file()) {
-        Ok(state) => state,
-        Err(error) => return Err(CommandFault::Unread(image, error)),
-    };
-    match find::<AnyBytes>(rt.alloc(), file, u64::from(held.blocks), &state) {
-        (Found::Says(saved), FoundFile::Whole(metadata)) => {
-            let mut metadata = metadata;
-            let active_extents = entered(&metadata);
-            match known_marks(rt.alloc(), &mut metadata) {
-                Ok(marks) => Ok(Facts {
-                    header: saved.header,
-                    identifiers: saved.identifiers,
-                    is_image_unchanged: saved.is_image_unchanged,
-                    active_extents,
-                    to_copy_kib: u64::from(marks.count()) * (BLOCK_BYTES as u64 / 1024),
-                }),
-                Err(fault) => Err(CommandFault::Unusable(image, fault)),
-            }
-        }
-        (Found::Unusable(fault), _) => Err(CommandFault::Unusable(image, fault)),
-        _ => Err(CommandFault::Missing(image)),
+    let held = hold(rt, options.image)?;
+    let (saved, mut metadata) = saved_metadata(rt, options, &held)?;
+    let active_extents = entered(&metadata);
+    match known_marks(rt.alloc(), &mut metadata) {
+        Ok(marks) => Ok(Facts {
+            header: saved.header,
+            identifiers: saved.identifiers,
+            is_image_unchanged: saved.is_image_unchanged,
+            active_extents,
+            to_copy_kib: u64::from(marks.count()) * (BLOCK_BYTES as u64 / 1024),
+        }),
+        Err(fault) => Err(CommandFault::Unusable(options.image, fault)),
     }
 }
 

@@ -1,7 +1,9 @@
 //! An image under its lock, with its metadata file.
 use crate::command_fault::CommandFault;
 use blocks::{BLOCK_BYTES, MAX_DEVICE_BLOCKS};
-use image_metadata::open_locked;
+use image_metadata::{
+    AnyBytes, Found, FoundFile, ImageFile, Metadata, Saved, find, image_state, open_locked,
+};
 use image_store::ImageLock;
 use program_values::ImageOptions;
 use std::fs::{self, File};
@@ -79,5 +81,24 @@ fn open_at<'a, H: Files<File = File>>(
     match open_locked(rt, path) {
         Ok(file) => Ok(file),
         Err(fault) => Err(CommandFault::Metadata(image, fault)),
+    }
+}
+
+/// Reads the metadata of a held image. Returns what it says, and the metadata itself.
+pub(crate) fn saved_metadata<'a, H: Files<File = File> + AllocGlobal>(
+    rt: &H,
+    options: &ImageOptions<'a>,
+    held: &HeldImage,
+) -> Result<(Saved, Metadata<ImageFile<AnyBytes>>), CommandFault<'a>> {
+    let image = options.image;
+    let file = metadata_file(rt, options, held, false)?;
+    let state = match image_state(held.lock.file()) {
+        Ok(state) => state,
+        Err(error) => return Err(CommandFault::Unread(image, error)),
+    };
+    match find::<AnyBytes>(rt.alloc(), file, u64::from(held.blocks), &state) {
+        (Found::Says(saved), FoundFile::Whole(metadata)) => Ok((saved, metadata)),
+        (Found::Unusable(fault), _) => Err(CommandFault::Unusable(image, fault)),
+        _ => Err(CommandFault::Missing(image)),
     }
 }

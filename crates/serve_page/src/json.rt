@@ -1,14 +1,15 @@
 //! A report as JSON.
 use crate::{Resync, ServerStart, StatusReport};
+use node_lines::PrimaryProgress;
 use serde_json::{Value, json};
-use status_lines::{PrimaryLine, SecondaryLine, protocol_name};
+use status_lines::{SecondaryLine, protocol_name};
 use std::alloc::{AllocError, Global};
 
 impl StatusReport {
     /// Returns the report as a JSON text: an object for each node, with a member for each word and number of its status
     /// line; `size_kib`; `start`; `resync`, which is null if no resync goes on; and `peer_sync_failed`.
     pub fn json(&self, alloc: Global) -> Result<String, AllocError> {
-        let primary = primary_value(alloc, &self.primary.line)?;
+        let primary = primary_value(alloc, &self.primary)?;
         let secondary = secondary_value(alloc, &self.secondary.line)?;
         let start = start_value(alloc, self.start)?;
         let resync = progress(alloc, self.resync)?;
@@ -25,9 +26,11 @@ impl StatusReport {
     }
 }
 
-// Returns what the primary's line shows.
-fn primary_value(alloc: Global, line: &PrimaryLine) -> Result<Value, AllocError> {
+// Returns what the primary's line shows, and how many writes its session has accepted.
+fn primary_value(alloc: Global, progress: &PrimaryProgress) -> Result<Value, AllocError> {
+    let line = progress.line;
     let words = line.words;
+    let accepted = progress.accepted;
     json!(in alloc; {
         "connection": words.link.name(),
         "role": words.own_role.name(),
@@ -38,7 +41,8 @@ fn primary_value(alloc: Global, line: &PrimaryLine) -> Result<Value, AllocError>
         "unanswered_writes": line.pe,
         "open_writes": line.ap,
         "open_epochs": line.ep,
-        "out_of_sync_kib": line.oos
+        "out_of_sync_kib": line.oos,
+        "accepted_writes": accepted
     })
 }
 

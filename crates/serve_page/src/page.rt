@@ -13,7 +13,7 @@ const NO_REPORT: &str =
     "no report within two seconds: the images are compared, a session gives way to the next, or a disk does not answer\n";
 
 /// The text for a client that asks for another page.
-const NO_SUCH_PAGE: &str = "there is no such page: this server has / and /status.json\n";
+const NO_SUCH_PAGE: &str = "there is no such page: this server has /, /status.json and /metrics\n";
 
 /// Gives reports.
 pub trait ReportSource {
@@ -37,13 +37,16 @@ impl<S: ReportSource + Drop> Service for Page<S> {
         response: &mut Response,
     ) -> Result<(), AllocError> {
         response.add_header(header::CONNECTION, HeaderValue::from_static("close"))?;
+        response.add_header(header::CACHE_CONTROL, HeaderValue::from_static("no-store"))?;
         if *request.method() != Method::GET && *request.method() != Method::HEAD {
             response.status = StatusCode::METHOD_NOT_ALLOWED;
             return response.add_header(header::ALLOW, HeaderValue::from_static("GET, HEAD"));
         }
         match request.uri().path() {
+            "/" if is_browser(request) => self.fill(response, Form::Document),
             "/" => self.fill(response, Form::Lines),
             "/status.json" => self.fill(response, Form::Json),
+            "/metrics" => self.fill(response, Form::Metrics),
             _ => {
                 response.status = StatusCode::NOT_FOUND;
                 fill_text(response, NO_SUCH_PAGE)
@@ -52,11 +55,24 @@ impl<S: ReportSource + Drop> Service for Page<S> {
     }
 }
 
+// Returns whether a client takes a document of HTML, as browsers do.
+fn is_browser(request: &Request<Bytes>) -> bool {
+    let Some(accepted) = request.headers().get(header::ACCEPT) else {
+        return false;
+    };
+    match accepted.to_str() {
+        Ok(kinds) => kinds.contains("text/html"),
+        Err(_) => false,
+    }
+}
+
 /// How a report is written.
 #[derive(Clone, Copy)]
 enum Form {
     Lines,
     Json,
+    Metrics,
+    Document,
 }
 
 impl<S: ReportSource + Drop> Page<S> {
@@ -76,6 +92,12 @@ impl<S: ReportSource + Drop> Page<S> {
                     &json,
                 )
             }
+            Form::Metrics => {
+                let metrics = report.metrics(self.alloc)?;
+                let kind = HeaderValue::from_static("text/plain; version=0.0.4; charset=utf-8");
+                fill(response, kind, &metrics)
+            }
+            Form::Document => fill_document(response, &report.html(self.alloc)?),
         }
     }
 }
@@ -89,6 +111,19 @@ fn fill_text(response: &mut Response, text: &str) -> Result<(), AllocError> {
     )
 }
 
+// Gives a response the document for people. It has all that it needs in itself, and asks this server alone.
+fn fill_document(response: &mut Response, document: &str) -> Result<(), AllocError> {
+    let policy = HeaderValue::from_static(
+        "default-src 'none'; connect-src 'self'; img-src data:; style-src 'unsafe-inline'; script-src 'unsafe-inline'",
+    );
+    response.add_header(header::CONTENT_SECURITY_POLICY, policy)?;
+    fill(
+        response,
+        HeaderValue::from_static("text/html; charset=utf-8"),
+        document,
+    )
+}
+
 // Gives a response its body and the body's type.
 fn fill(response: &mut Response, kind: HeaderValue, body: &str) -> Result<(), AllocError> {
     response.add_header(header::CONTENT_TYPE, kind)?;
@@ -96,9 +131,9 @@ fn fill(response: &mut Response, kind: HeaderValue, body: &str) -> Result<(), Al
     Ok(())
 }
 
-/// Answers one request of a client with a report of this source: the status lines at `/`, the same as JSON at `/status.json`. The
-/// source is asked once the request is there. Then the connection is to be closed. Without a report, the answer says that there is
-/// none now (503).
+/// Answers one request of a client with a report of this source: the status lines at `/`, or a document of HTML if the client takes one;
+/// the same as JSON at `/status.json`, and as metrics for Prometheus at `/metrics`. The source is asked once the request is there. Then
+/// the connection is to be closed. Without a report, the answer says that there is none now (503).
 pub fn answer_one<S: ReportSource + Drop, R: Read, W: Write>(
     alloc: Global,
     keys: RandomState,

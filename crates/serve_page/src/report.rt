@@ -1,5 +1,6 @@
 //! The report of a server on its nodes.
 ghost use Rattle.std.specs.Prelude.{◌≡◌, ◌-◌, ◌*◌, ◌/◌, None, Some};
+ghost use Rattle.serve_page.specs.Metrics as metrics;
 
 use crate::ServerStart;
 use node_lines::{PrimaryProgress, SecondaryProgress};
@@ -8,6 +9,9 @@ use std::fmt;
 
 /// KiB in a block.
 pub(crate) const BLOCK_KIB: u64 = 4;
+
+/// Bytes in a block.
+pub(crate) const BLOCK_BYTES: u64 = 4096;
 
 /// The line of a peer's disk that is left out.
 const PEER_FAILED: &str =
@@ -47,9 +51,17 @@ impl Resync {
         (1000 * BLOCK_KIB * u64::from(self.copied)).checked_div(self.elapsed_ms)
     }
 
+    /// Returns how many bytes were copied in a second since the link came up, rounded down, or `None` in the first millisecond.
+    pub fn bytes_per_second(self) -> Option<u64>
+        ensures { result ≡ metrics.bytes_per_second self }
+    {
+        (1000 * BLOCK_BYTES * u64::from(self.copied)).checked_div(self.elapsed_ms)
+    }
+
     /// Returns in how many seconds it is done at that rate, rounded up, or `None` if nothing was copied yet.
     pub fn seconds_left(self) -> Option<u64>
-        ensures { self.copied ≡ 0 → result ≡ None }
+        ensures none { self.copied ≡ 0 → result ≡ None }
+        ensures value { result ≡ metrics.seconds_left self }
     {
         if self.copied == 0 {
             return None;

@@ -1,4 +1,7 @@
 //! How a server began.
+ghost use Rattle.std.specs.Prelude.{◌≡◌};
+ghost use Rattle.serve_page.specs.Metrics.{after_text};
+
 use crate::report::BLOCK_KIB;
 use std::fmt;
 
@@ -21,7 +24,9 @@ pub enum StartedAfter {
 
 impl StartedAfter {
     /// Returns the name under which the status page has it.
-    pub fn name(self) -> &'static str {
+    pub fn name(self) -> &'static str
+        ensures { result.now ≡ after_text self }
+    {
         match self {
             StartedAfter::NoMetadata => "no-metadata",
             StartedAfter::Nothing => "first",

@@ -1,8 +1,9 @@
 //! What a server begins with, as far as it is known before it listens.
 use crate::fault::ServeFault;
 use crate::image_files::FoundFiles;
+use crate::to_copy::mebibytes;
 use bitmap::Bitmap;
-use blocks::{BLOCK_BYTES, Tuple};
+use blocks::Tuple;
 use image_metadata::{
     BootId, Found, FoundFile, Header, ImageFile, LastEnd, Metadata, MetadataFault, OpeningBytes,
     Start, UNKNOWN, boot_id, create_anew, judge, opening_identifiers, serving_identifiers,
@@ -129,7 +130,7 @@ pub(crate) fn begin<'a, M: OpeningBytes, N: OpeningBytes, E: Write>(
         }
         (start, local, peer) => match take_up(alloc, blocks, start, local, peer, numbers) {
             Ok(known) => {
-                tell(options, start, &known, err);
+                tell(options, start, known.marks.count(), known.peer, err);
                 Ok(Beginning::Known(known))
             }
             Err(fault) => Err(ServeFault::UnmadeMetadata(options.local, fault)),
@@ -238,17 +239,17 @@ pub(crate) fn local_header(blocks: u32, numbers: &FreshNumbers) -> Header {
     }
 }
 
-// Says what is copied.
-fn tell<M: OpeningBytes, N: OpeningBytes, E: Write>(
+/// Says what is copied: `count` blocks are marked or active, and the peer's disk begins with these identifiers.
+pub(crate) fn tell<E: Write>(
     options: &ServeOptions<'_>,
     start: Start,
-    known: &Known<M, N>,
+    count: u32,
+    peer_tuple: Tuple,
     err: &mut E,
 ) {
     let (local, peer) = (options.local, options.peer);
-    let count = known.marks.count();
     let _ = match start {
-        Start::Marked { last, .. } if known.peer != UNKNOWN => writeln!(
+        Start::Marked { last, .. } if peer_tuple != UNKNOWN => writeln!(
             err,
             "the last server {last}: {count} blocks ({} MiB) of {local} are copied over {peer}",
             mebibytes(count)
@@ -259,9 +260,4 @@ fn tell<M: OpeningBytes, N: OpeningBytes, E: Write>(
             "all of {local} is copied over {peer}: it has no identifier by which its blocks are known"
         ),
     };
-}
-
-// Returns how many MiB so many blocks are, rounded up.
-fn mebibytes(blocks: u32) -> u64 {
-    (u64::from(blocks) * BLOCK_BYTES as u64).div_ceil(1_048_576)
 }

@@ -1,5 +1,6 @@
 //! The comparison of two disks.
-ghost use Rattle.std.specs.Prelude.{ℕ, ◌≡◌, ◌<◌, ◌≤◌, false, ◌&&◌, ◌||◌, not, nat_le, if◌then◌else◌, is_some, length, slice_get, IfErr, IfOk, IfSome, IsTrue, OnErr, OnOk};
+ghost use Rattle.std.specs.Prelude.{ℕ, ◌≡◌, ◌<◌, ◌≤◌, false, ◌&&◌, ◌||◌, not, nat_le, if◌then◌else◌, is_some, length, slice_get, IfErr, IfOk, IfSome, IsTrue};
+ghost use Rattle.std.specs.Prelude.{OnErr, OnOk};
 ghost use Rattle.bitmap.specs.Marks.{marked};
 ghost use Rattle.blocks.specs.declared.block.TheConstants.{BLOCK_BYTES};
 ghost use Rattle.blocks.specs.declared.refusal.Refusal.TheVariants.{ReadFault};
@@ -7,6 +8,7 @@ ghost use Rattle.model.specs.Pair.{same_block};
 ghost use Rattle.serving.specs.Disks.{AreFaithful, WereRead, unmarked_between};
 
 use crate::disks::Disks;
+use crate::fault::ServeFault;
 use bitmap::Bitmap;
 use blocks::{BLOCK_BYTES, Block, MAX_BLOCKS, Range, Refusal, Store};
 use std::io::Write;
@@ -181,5 +183,13 @@ fn tell_progress<E: Write>(done: u32, blocks: u32, err: &mut E) {
             done / REPORT_BLOCKS,
             blocks.div_ceil(REPORT_BLOCKS)
         );
+    }
+}
+
+/// Returns why the sessions of a server failed, or a dry run. They read for themselves in the comparison before the first session alone.
+pub(crate) fn fault_of_comparison<'a>(refusal: Refusal) -> ServeFault<'a> {
+    match refusal {
+        Refusal::ReadFault => ServeFault::Unread,
+        refusal => ServeFault::Refused(refusal),
     }
 }

@@ -82,7 +82,7 @@ fn start_kept<D: Store + Drop, M: OpeningBytes, N: OpeningBytes, E: Write>(
     ensures { IfOk result (IsMarkedStart (record standard { protocol = service.now.protocol; blocks = service.now.blocks }) how disks) }
 {
     let mut disks = disks;
-    let _ = writeln!(err, "both images get metadata, since neither has any");
+    tell_first(err);
     let marks = first_marks(service.alloc, service.blocks, how, &mut disks, err)?;
     let count = marks.count();
     tell_differing(how, count, err);
@@ -102,14 +102,23 @@ fn start_kept<D: Store + Drop, M: OpeningBytes, N: OpeningBytes, E: Write>(
     }
 }
 
-// Says how many blocks a comparison found to differ.
-fn tell_differing<E: Write>(how: FirstStart, count: u32, err: &mut E) {
-    if how == FirstStart::Compare {
-        let _ = writeln!(
+/// Says that both images get metadata.
+pub(crate) fn tell_first<E: Write>(err: &mut E) {
+    let _ = writeln!(err, "both images get metadata, since neither has any");
+}
+
+/// Says how many blocks a comparison found to differ, or what is done without one.
+pub(crate) fn tell_differing<E: Write>(how: FirstStart, count: u32, err: &mut E) {
+    let _ = match how {
+        FirstStart::Compare => writeln!(
             err,
             "{count} blocks differ, and are copied from the local image over the peer's"
-        );
-    }
+        ),
+        FirstStart::Copy => writeln!(err, "all of the local image is copied over the peer's"),
+        FirstStart::AssumeEqual => {
+            writeln!(err, "the images are taken as alike, and nothing is copied")
+        }
+    };
 }
 
 // Makes the metadata of both images.
@@ -181,9 +190,9 @@ fn start_unkept<D: Store + Drop, M: OpeningBytes, N: OpeningBytes, E: Write>(
     }
 }
 
-// Returns whether the peer's disk is known to be like the local one, as a comparison finds or as it is taken. `ReadFault` (14) if a
-// disk fails a read.
-fn is_peer_known<D: Store, E: Write>(
+/// Returns whether the peer's disk is known to be like the local one, as a comparison finds or as it is taken. `ReadFault` (14) if a
+/// disk fails a read.
+pub(crate) fn is_peer_known<D: Store, E: Write>(
     how: FirstStart,
     disks: &mut Disks<D>,
     err: &mut E,

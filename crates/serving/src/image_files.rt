@@ -50,8 +50,8 @@ pub(crate) fn find_files<'a, M: OpeningBytes, N: OpeningBytes, H: Files<File = F
     }
 }
 
-// Opens and reads the metadata file of an image, which is beside it if no path is given.
-fn find_one<'a, X: OpeningBytes, H: Files<File = File> + AllocGlobal>(
+/// Opens and reads the metadata file of an image, which is beside it if no path is given. A file that is missing is made.
+pub(crate) fn find_one<'a, X: OpeningBytes, H: Files<File = File> + AllocGlobal>(
     rt: &H,
     image: &'a str,
     path: Option<&'a str>,
@@ -74,16 +74,21 @@ fn open_beside<'a, H: Files<File = File> + AllocGlobal>(
     image: &'a str,
     lock: &ImageLock,
 ) -> Result<File, ServeFault<'a>> {
-    match lock.file().metadata() {
-        Ok(found) if found.file_type().is_block_device() => {
-            return Err(ServeFault::UnnamedMetadata(image));
-        }
-        Ok(_) => {}
-        Err(error) => return Err(ServeFault::UnreadState(image, error)),
-    }
+    check_beside(image, lock)?;
     match format!(in rt.alloc(); "{image}.metadata") {
         Ok(path) => open_at(rt, image, path.as_str()),
         Err(_) => Err(ServeFault::Refused(Refusal::NoMemory)),
+    }
+}
+
+/// Checks that the metadata of an image may be beside it: the image is a regular file.
+pub(crate) fn check_beside<'a>(image: &'a str, lock: &ImageLock) -> Result<(), ServeFault<'a>> {
+    match lock.file().metadata() {
+        Ok(found) if found.file_type().is_block_device() => {
+            Err(ServeFault::UnnamedMetadata(image))
+        }
+        Ok(_) => Ok(()),
+        Err(error) => Err(ServeFault::UnreadState(image, error)),
     }
 }
 

@@ -8,11 +8,12 @@ ghost use Rattle.serving.specs.Served.{AreInRange};
 use crate::disks::Disks;
 use crate::fault::ServeFault;
 use blocks::{BLOCK_BYTES, MAX_DEVICE_BLOCKS, Refusal};
-use file_store::{FileStore, OpeningContents};
-use image_store::{ImageLock, OpenFault, PerDisk, SyncHandle, open_image};
+use file_store::{AnyContents, FileStore, OpeningContents};
+use image_store::{ImageLock, OpenFault, PerDisk, SyncHandle, check_length, open_image};
 use program_values::ServeOptions;
 use std::fs::File;
 use std::rt::Files;
+use std::{fs, io};
 
 /// An opened image, and the handle by which it is synced.
 type Opened<X> = (FileStore<File, X>, SyncHandle<File>);
@@ -139,4 +140,49 @@ fn open<'a, H: Files<File = File>, X: OpeningContents>(
         Ok(opened) => Ok(opened),
         Err(fault) => Err(ServeFault::Unopened(file, fault)),
     }
+}
+
+/// Opens both images for reading alone, as disks of `blocks` blocks, the local one first. The faults are those of `open_both`.
+pub(crate) fn read_both<'a, H: Files<File = File>>(
+    rt: &H,
+    options: &ServeOptions<'a>,
+    locks: &PerDisk<ImageLock>,
+    blocks: u32,
+) -> Result<Disks<FileStore<File, AnyContents>>, ServeFault<'a>> {
+    match read(rt, options.local, &locks.local, blocks, true) {
+        Ok(local) => match read(rt, options.peer, &locks.peer, blocks, false) {
+            Ok(peer) => Ok(Disks { local, peer }),
+            Err(fault) => Err(fault),
+        },
+        Err(fault) => Err(fault),
+    }
+}
+
+// Opens a locked image for reading, as a disk of `blocks` blocks.
+fn read<'a, H: Files<File = File>>(
+    rt: &H,
+    file: &'a str,
+    lock: &ImageLock,
+    blocks: u32,
+    is_local: bool,
+) -> Result<FileStore<File, AnyContents>, ServeFault<'a>> {
+    let opened = match length_and_file(rt, file, lock) {
+        Ok((bytes, opened)) => match check_length(bytes, blocks) {
+            Ok(()) => opened,
+            Err(fault) => return Err(ServeFault::Unopened(file, fault)),
+        },
+        Err(error) => return Err(ServeFault::Unopened(file, OpenFault::Unread(error))),
+    };
+    Ok(FileStore::over(opened, blocks, is_local))
+}
+
+// Returns the length of a locked image, and the image opened for reading.
+fn length_and_file<H: Files<File = File>>(
+    rt: &H,
+    file: &str,
+    lock: &ImageLock,
+) -> io::Result<(u64, File)> {
+    let bytes = lock.image_bytes()?;
+    let opened = fs::open(rt, file)?;
+    Ok((bytes, opened))
 }

@@ -5,18 +5,22 @@
 mod beginning;
 mod compare;
 mod disks;
+mod dry_start;
 mod end;
 mod fault;
 mod first_marks;
 mod first_start;
 mod image_files;
 mod images;
+mod seen_files;
 mod server;
 mod session;
 mod session_end;
 mod sessions;
+mod to_copy;
 mod totals;
 
+pub use dry_start::dry_run;
 pub use file_store::{AnyContents, OpeningContents};
 pub use image_metadata::{AnyBytes, OpeningBytes};
 pub use program_values::{FirstStart, ListenAt, MetadataFiles, ServeOptions, ServerName};

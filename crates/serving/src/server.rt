@@ -7,7 +7,7 @@ ghost use Rattle.serving.specs.Served.{AreInRange, CameTo, HasEnded, HasServed};
 ghost use Rattle.serving.specs.declared.fault.ServeFault.TheVariants.{Refused};
 
 use crate::beginning::{Beginning, FreshNumbers, begin, fresh_numbers};
-use crate::compare::compare_at_end;
+use crate::compare::{compare_at_end, fault_of_comparison};
 use crate::disks::Disks;
 use crate::end::End;
 use crate::fault::ServeFault;
@@ -275,7 +275,7 @@ fn serve_sessions<
     let unsynced = service.requests.sync_images(rt);
     let last = match ran {
         Ok(last) => last,
-        Err(refusal) => return Err(fault_of_sessions(refusal)),
+        Err(refusal) => return Err(fault_of_comparison(refusal)),
     };
     let SessionEnd {
         disks,
@@ -309,14 +309,6 @@ fn serve_sessions<
         unsynced,
         is_metadata_broken,
     })
-}
-
-// Returns why the sessions of a server failed. They read for themselves in the comparison before the first one alone.
-fn fault_of_sessions<'a>(refusal: Refusal) -> ServeFault<'a> {
-    match refusal {
-        Refusal::ReadFault => ServeFault::Unread,
-        refusal => ServeFault::Refused(refusal),
-    }
 }
 
 // Moves what all threads share to memory of its own.

@@ -74,13 +74,86 @@ const LINES: &str =
     "cs:SyncSource ro:Primary/Secondary ds:UpToDate/Inconsistent pr:C pe:0 ap:1 ep:2 oos:12\ncs:SyncTarget ro:Secondary/Primary ds:Inconsistent/UpToDate pr:C pending:3 use:No whole:1\nsize: 20 KiB\nstart: the last server was killed, 16 KiB to copy\nresync: 25% done, 12 KiB left, 2 KiB/s, 6 s to go\n";
 
 const JSON: &str =
-    "{\"peer_sync_failed\":false,\"primary\":{\"connection\":\"SyncSource\",\"disk\":\"UpToDate\",\"open_epochs\":2,\"open_writes\":1,\"out_of_sync_kib\":12,\"peer_disk\":\"Inconsistent\",\"peer_role\":\"Secondary\",\"protocol\":\"C\",\"role\":\"Primary\",\"unanswered_writes\":0},\"resync\":{\"kib_per_second\":2,\"left_kib\":12,\"percent\":25,\"seconds_left\":6},\"secondary\":{\"connection\":\"SyncTarget\",\"disk\":\"Inconsistent\",\"is_consistent\":false,\"peer_disk\":\"UpToDate\",\"peer_role\":\"Primary\",\"pending_items\":3,\"protocol\":\"C\",\"role\":\"Secondary\",\"whole_epoch\":1},\"size_kib\":20,\"start\":{\"after\":\"killed\",\"to_copy_kib\":16}}";
+    "{\"peer_sync_failed\":false,\"primary\":{\"accepted_writes\":3,\"connection\":\"SyncSource\",\"disk\":\"UpToDate\",\"open_epochs\":2,\"open_writes\":1,\"out_of_sync_kib\":12,\"peer_disk\":\"Inconsistent\",\"peer_role\":\"Secondary\",\"protocol\":\"C\",\"role\":\"Primary\",\"unanswered_writes\":0},\"resync\":{\"kib_per_second\":2,\"left_kib\":12,\"percent\":25,\"seconds_left\":6},\"secondary\":{\"connection\":\"SyncTarget\",\"disk\":\"Inconsistent\",\"is_consistent\":false,\"peer_disk\":\"UpToDate\",\"peer_role\":\"Primary\",\"pending_items\":3,\"protocol\":\"C\",\"role\":\"Secondary\",\"whole_epoch\":1},\"size_kib\":20,\"start\":{\"after\":\"killed\",\"to_copy_kib\":16}}";
 
 const LEFT_OUT: &str =
     "cs:SyncSource ro:Primary/Secondary ds:UpToDate/Inconsistent pr:C pe:0 ap:1 ep:2 oos:12\ncs:SyncTarget ro:Secondary/Primary ds:Inconsistent/UpToDate pr:C pending:3 use:No whole:1\nsize: 20 KiB\nstart: no metadata is kept, 0 KiB to copy\na sync of the peer's image failed: the link stays down until the server ends\n";
 
 const LEFT_OUT_JSON: &str =
-    "{\"peer_sync_failed\":true,\"primary\":{\"connection\":\"SyncSource\",\"disk\":\"UpToDate\",\"open_epochs\":2,\"open_writes\":1,\"out_of_sync_kib\":12,\"peer_disk\":\"Inconsistent\",\"peer_role\":\"Secondary\",\"protocol\":\"C\",\"role\":\"Primary\",\"unanswered_writes\":0},\"resync\":null,\"secondary\":{\"connection\":\"SyncTarget\",\"disk\":\"Inconsistent\",\"is_consistent\":false,\"peer_disk\":\"UpToDate\",\"peer_role\":\"Primary\",\"pending_items\":3,\"protocol\":\"C\",\"role\":\"Secondary\",\"whole_epoch\":1},\"size_kib\":20,\"start\":{\"after\":\"no-metadata\",\"to_copy_kib\":0}}";
+    "{\"peer_sync_failed\":true,\"primary\":{\"accepted_writes\":3,\"connection\":\"SyncSource\",\"disk\":\"UpToDate\",\"open_epochs\":2,\"open_writes\":1,\"out_of_sync_kib\":12,\"peer_disk\":\"Inconsistent\",\"peer_role\":\"Secondary\",\"protocol\":\"C\",\"role\":\"Primary\",\"unanswered_writes\":0},\"resync\":null,\"secondary\":{\"connection\":\"SyncTarget\",\"disk\":\"Inconsistent\",\"is_consistent\":false,\"peer_disk\":\"UpToDate\",\"peer_role\":\"Primary\",\"pending_items\":3,\"protocol\":\"C\",\"role\":\"Secondary\",\"whole_epoch\":1},\"size_kib\":20,\"start\":{\"after\":\"no-metadata\",\"to_copy_kib\":0}}";
+
+const METRICS: &str = "\
+# HELP drbdpair_connected Whether the link is Connected; 0 while a resync runs.
+# TYPE drbdpair_connected gauge
+drbdpair_connected 0
+# HELP drbdpair_node_role_is_primary Whether the role of the node is in the primary state.
+# TYPE drbdpair_node_role_is_primary gauge
+drbdpair_node_role_is_primary{node=\"local\"} 1
+drbdpair_node_role_is_primary{node=\"remote\"} 0
+# HELP drbdpair_disk_state_is_up_to_date Whether the disk of the node is up to date.
+# TYPE drbdpair_disk_state_is_up_to_date gauge
+drbdpair_disk_state_is_up_to_date{node=\"local\"} 1
+drbdpair_disk_state_is_up_to_date{node=\"remote\"} 0
+# HELP drbdpair_remote_pending Writes that wait for the answer of the peer.
+# TYPE drbdpair_remote_pending gauge
+drbdpair_remote_pending 0
+# HELP drbdpair_application_pending Writes of clients that are not completed.
+# TYPE drbdpair_application_pending gauge
+drbdpair_application_pending 1
+# HELP drbdpair_epochs Epochs that are not acknowledged.
+# TYPE drbdpair_epochs gauge
+drbdpair_epochs 2
+# HELP drbdpair_size_bytes Size of the device; in bytes.
+# TYPE drbdpair_size_bytes gauge
+drbdpair_size_bytes 20480
+# HELP drbdpair_out_of_sync_bytes Amount of data known to be out of sync; in bytes.
+# TYPE drbdpair_out_of_sync_bytes gauge
+drbdpair_out_of_sync_bytes 12288
+# HELP drbdpair_writes_accepted_total Ranges that clients wrote, of 32 blocks at most, since the session began.
+# TYPE drbdpair_writes_accepted_total counter
+drbdpair_writes_accepted_total 3
+# HELP drbdpair_writes_released_total Those of them that need no more of either node.
+# TYPE drbdpair_writes_released_total counter
+drbdpair_writes_released_total 0
+# HELP drbdpair_peer_pending Items that wait for the disk of the peer.
+# TYPE drbdpair_peer_pending gauge
+drbdpair_peer_pending 3
+# HELP drbdpair_peer_is_consistent Whether the data of the peer may be used as they are.
+# TYPE drbdpair_peer_is_consistent gauge
+drbdpair_peer_is_consistent 0
+# HELP drbdpair_peer_sync_failed Whether a sync of the image of the peer has failed, which leaves it out.
+# TYPE drbdpair_peer_sync_failed gauge
+drbdpair_peer_sync_failed 0
+# HELP drbdpair_metadata_failed Whether the metadata of the node could not be written.
+# TYPE drbdpair_metadata_failed gauge
+drbdpair_metadata_failed{node=\"local\"} 0
+drbdpair_metadata_failed{node=\"remote\"} 0
+# HELP drbdpair_start_info What the server began after.
+# TYPE drbdpair_start_info gauge
+drbdpair_start_info{after=\"killed\"} 1
+# HELP drbdpair_start_to_copy_bytes Amount of data that the server had to copy when it began; in bytes.
+# TYPE drbdpair_start_to_copy_bytes gauge
+drbdpair_start_to_copy_bytes 16384
+# HELP drbdpair_resync_running Whether a resync runs.
+# TYPE drbdpair_resync_running gauge
+drbdpair_resync_running 1
+# HELP drbdpair_resync_left_bytes Amount of data that the resync has still to copy; in bytes.
+# TYPE drbdpair_resync_left_bytes gauge
+drbdpair_resync_left_bytes 12288
+# HELP drbdpair_resync_bytes_per_second Bytes that the resync has copied in a second.
+# TYPE drbdpair_resync_bytes_per_second gauge
+drbdpair_resync_bytes_per_second 2048
+# HELP drbdpair_resync_left_seconds Seconds until the resync is done at that rate.
+# TYPE drbdpair_resync_left_seconds gauge
+drbdpair_resync_left_seconds 6
+";
+
+/// The end of the metrics while no resync runs.
+const NO_RESYNC: &str = "\
+# HELP drbdpair_resync_running Whether a resync runs.
+# TYPE drbdpair_resync_running gauge
+drbdpair_resync_running 0
+";
 
 /// A source that has this report, or none.
 #[derive(Clone, Copy)]
@@ -92,6 +165,23 @@ impl ReportSource for Held<'_> {
     }
 }
 
+/// Returns the answer to a client that asks this, with these further headers.
+fn answer_to(
+    rt: &(impl Abort + AllocGlobal + RandomSource),
+    asked: &str,
+    headers: &str,
+    report: Option<&StatusReport>,
+) -> Vec<u8> {
+    let alloc = rt.alloc();
+    let request = format!(in alloc; "{asked} HTTP/1.1\r\nHost: localhost\r\n{headers}\r\n");
+    let request = request.expect(rt, "memory");
+    let keys = RandomState::new(rt).expect(rt, "keys");
+    let mut reader = request.as_bytes();
+    let mut writer = Vec::new(alloc);
+    answer_one(alloc, keys, Held(report), &mut reader, &mut writer).expect(rt, "an answer");
+    writer
+}
+
 /// Checks that a client that asks this gets this status and this body.
 fn check_answer(
     rt: &(impl Abort + AllocGlobal + RandomSource),
@@ -99,23 +189,17 @@ fn check_answer(
     report: Option<&StatusReport>,
     (status, body): (&str, &str),
 ) {
-    let alloc = rt.alloc();
-    let request = format!(in alloc; "{asked} HTTP/1.1\r\nHost: localhost\r\n\r\n");
-    let request = request.expect(rt, "memory");
-    let body = format!(in alloc; "\r\n\r\n{body}").expect(rt, "memory");
-    let keys = RandomState::new(rt).expect(rt, "keys");
-    let mut reader = request.as_bytes();
-    let mut writer = Vec::new(alloc);
-    answer_one(alloc, keys, Held(report), &mut reader, &mut writer).expect(rt, "an answer");
+    let body = format!(in rt.alloc(); "\r\n\r\n{body}").expect(rt, "memory");
+    let writer = answer_to(rt, asked, "", report);
     let answer = writer.as_slice();
     assert!(rt; answer.starts_with(status.as_bytes()), "{asked}");
     assert!(rt; answer.ends_with(body.as_bytes()), "{asked}");
 }
 
-#[test]
-fn a_client_is_answered(rt: HostRuntime) {
+/// Returns the report of a resync that has copied one block in two seconds, after a kill.
+fn resync_report() -> StatusReport {
     let Progress { primary, secondary } = resync_progress();
-    let report = StatusReport {
+    StatusReport {
         primary,
         secondary,
         blocks: 5,
@@ -123,7 +207,6 @@ fn a_client_is_answered(rt: HostRuntime) {
             after: StartedAfter::Kill,
             to_copy: 4,
         },
-        // One block in two seconds.
         resync: Some(Resync {
             left: 3,
             all: 4,
@@ -131,14 +214,47 @@ fn a_client_is_answered(rt: HostRuntime) {
             elapsed_ms: 2000,
         }),
         is_peer_failed: false,
-    };
-    let cases: [(&str, &str, &str); 4] = [
+    }
+}
+
+/// A browser gets a document at `/`, with each word and number of the report, and what they mean; other clients get the lines.
+#[test]
+fn a_browser_gets_a_document(rt: HostRuntime) {
+    let report = resync_report();
+    let accepts = "Accept: text/html,application/xhtml+xml;q=0.9,*/*;q=0.8\r\n";
+    let answer = answer_to(&rt, "GET /", accepts, Some(&report));
+    let text = str::from_utf8(answer.as_slice()).unwrap_or("");
+    for part in [
+        "HTTP/1.1 200 OK\r\n",
+        "\r\ncontent-type: text/html; charset=utf-8\r\n",
+        "\r\n\r\n<!DOCTYPE html>\n",
+        "<p class=\"now busy\" data-state=\"copying\">Blocks are being copied",
+        "data-state=\"alike\" hidden>",
+        "data-key=\"primary.connection\">SyncSource</td>",
+        "data-key=\"primary.out_of_sync_kib\">12</td>",
+        "data-key=\"secondary.is_consistent\">No</td>",
+        "data-key=\"resync.kib_per_second\">2</span>",
+        "data-word=\"killed\">The last server was killed.</span>",
+        "data-word=\"clean\" hidden>",
+    ] {
+        assert!(rt; text.contains(part), "{part}");
+    }
+    assert!(rt; text.ends_with("</html>\n"));
+    let other = answer_to(&rt, "GET /", "Accept: */*\r\n", Some(&report));
+    assert!(rt; other.as_slice().ends_with(LINES.as_bytes()));
+}
+
+#[test]
+fn a_client_is_answered(rt: HostRuntime) {
+    let report = resync_report();
+    let cases: [(&str, &str, &str); 5] = [
         ("GET /", "HTTP/1.1 200 OK", LINES),
         ("GET /status.json", "HTTP/1.1 200 OK", JSON),
+        ("GET /metrics", "HTTP/1.1 200 OK", METRICS),
         (
             "GET /else",
             "HTTP/1.1 404 Not Found",
-            "there is no such page: this server has / and /status.json\n",
+            "there is no such page: this server has /, /status.json and /metrics\n",
         ),
         ("DELETE /", "HTTP/1.1 405 Method Not Allowed", ""),
     ];
@@ -169,4 +285,6 @@ fn a_client_is_told_that_the_peer_is_left_out(rt: HostRuntime) {
     let ok = "HTTP/1.1 200 OK";
     check_answer(&rt, "GET /", Some(&report), (ok, LEFT_OUT));
     check_answer(&rt, "GET /status.json", Some(&report), (ok, LEFT_OUT_JSON));
+    let answer = answer_to(&rt, "GET /metrics", "", Some(&report));
+    assert!(rt; answer.as_slice().ends_with(NO_RESYNC.as_bytes()));
 }

@@ -368,3 +368,91 @@ fn a_failed_save_loses_nothing(rt: HostRuntime) {
     let other = take_image(&rt, "late_peer.peer-new");
     assert_eq!(rt; other.as_slice(), b"here first".as_slice());
 }
+
+/// What stands above and below the line of `show-gi`, as `drbdmeta` of drbd-utils 9.22 prints it for DRBD 8.4 of 32 KiB.
+const SHOWN: [&str; 2] = [
+    "
+       +--<  Current data generation UUID  >-
+       |               +--<  Bitmap's base data generation UUID  >-
+       |               |                 +--<  younger history UUID  >-
+       |               |                 |         +-<  older history  >-
+       V               V                 V         V
+",
+    "
+                                                                    ^ ^ ^ ^ ^ ^ ^
+                                      -<  Data consistency flag  >--+ | | | | | |
+                             -<  Data was/is currently up-to-date  >--+ | | | | |
+                                  -<  Node was/is currently primary  >--+ | | | |
+                                  -<  Node was/is currently connected  >--+ | | |
+         -<  Node was in the progress of setting all bits in the bitmap  >--+ | |
+                        -<  The peer's disk was out-dated or inconsistent  >--+ |
+      -<  This node was a crashed primary, and has not seen its peer since   >--+
+
+flags: Primary, StandAlone, UpToDate
+meta-data: need apply-al
+last agreed size: 32 KB (64 sectors)
+last agreed max bio size: 0 Byte
+",
+];
+
+/// The identifiers of metadata that was made just now are those of a primary that was not told to end, as DRBD's tools print them.
+#[test]
+fn identifiers_are_printed(rt: HostRuntime) {
+    put_image(&rt, "identified", 0, 32_768);
+    let outcome = outcome_of(&rt, &["drbdpair", "get-gi", "identified"], "");
+    assert_eq!(rt; (outcome.status, outcome.written.is_empty()), (1, true));
+    assert_eq!(rt;
+        outcome.said.bytes.as_slice(),
+        b"identified has no metadata\n".as_slice()
+    );
+    let outcome = outcome_of(&rt, &["drbdpair", "create-md", "identified"], "");
+    assert_eq!(rt; outcome.status, 0);
+    let line = outcome_of(&rt, &["drbdpair", "get-gi", "identified"], "");
+    let shown = outcome_of(&rt, &["drbdpair", "show-gi", "identified"], "");
+    assert_eq!(rt; (line.status, shown.status), (0, 0));
+    let text = str::from_utf8(line.written.as_slice()).unwrap_or("");
+    let zero = "0000000000000000";
+    let tail = format!(in rt.alloc(); ":{zero}:{zero}:{zero}:1:1:1:0:0:0:0\n").expect(
+        &rt, "memory",
+    );
+    assert!(rt; text.ends_with(tail.as_str()), "{text}");
+    assert_eq!(rt; text.len(), 82);
+    let [above, below] = SHOWN;
+    let line = text.trim_end();
+    let wanted = format!(in rt.alloc(); "{above}{line}{below}").expect(&rt, "memory");
+    assert_eq!(rt; shown.written.as_slice(), wanted.as_bytes());
+    fs::remove_file(&rt, "identified.metadata").expect(&rt, "metadata");
+    fs::remove_file(&rt, "identified").expect(&rt, "an image");
+}
+
+/// A dry run says what a first start does, or why it is refused, and leaves no metadata.
+#[test]
+fn a_dry_run_writes_nothing(rt: HostRuntime) {
+    put_image(&rt, "dry_local", 1, 32_768);
+    put_image(&rt, "dry_peer", 2, 32_768);
+    let words = [
+        "drbdpair",
+        "serve",
+        "--local",
+        "dry_local",
+        "--peer",
+        "dry_peer",
+        "--dry-run",
+    ];
+    let outcome = outcome_of(&rt, &words, "");
+    assert_eq!(rt; outcome.status, 0);
+    assert_eq!(rt;
+        outcome.written.as_slice(),
+        b"to copy: 8 blocks, 1 MiB\n".as_slice()
+    );
+    assert_eq!(rt;
+        outcome.said.bytes.as_slice(),
+        b"both images get metadata, since neither has any\n8 blocks differ, and are copied from the local image over the peer's\n".as_slice()
+    );
+    assert!(rt; fs::metadata(&rt, "dry_local.metadata").is_err());
+    assert!(rt; fs::metadata(&rt, "dry_peer.metadata").is_err());
+    check_left(&rt, "dry_peer", 2, 32_768);
+    let outcome = outcome_of(&rt, &words, "");
+    assert_eq!(rt; (outcome.status, outcome.written.is_empty()), (1, true));
+    check_left(&rt, "dry_local", 1, 32_768);
+}

@@ -1,0 +1,2 @@
+-- What the commands over images print.
+pub mod GenerationText

@@ -1,0 +1,3 @@
+-- What the status page tells of a report.
+pub mod Metrics
+pub mod Samples
