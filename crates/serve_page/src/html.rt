@@ -59,7 +59,7 @@ fn state_of(report: &StatusReport) -> &'static str {
     }
 }
 
-// Adds a sentence for each state, of which the others are hidden, and a line for the script.
+// Adds a sentence for each state, all hidden but the present one, and a line for the script.
 fn add_state(page: &mut String, state: &str) -> Result<(), AllocError> {
     for (name, look, sentence) in STATES {
         let hidden = hidden_unless(name == state);
