@@ -1,5 +1,7 @@
-// Preloaded into a process, it fails one in FAIL_EVERY of the process's calls that read or write a file at an offset, with EIO. The file is
-// that named by FAIL_FILE in the environment, by its last part. FAIL_READS and FAIL_WRITES say which calls, if they are set.
+// Preloaded into a process, it fails one in FAIL_EVERY of the process's calls that read, write or sync a file, with EIO. The file is that
+// named by FAIL_FILE in the environment, by its last part. FAIL_READS, FAIL_WRITES and FAIL_SYNCS say which calls, if they are set; reads
+// and writes are those at an offset. With FAIL_LATE_MS each write of the file takes so many milliseconds longer. If FAIL_WHILE is set, all
+// this is so only while there is a file at that path.
 #define _GNU_SOURCE
 #include <dlfcn.h>
 #include <errno.h>
@@ -11,11 +13,13 @@
 
 static unsigned long calls;
 
-// Says whether the descriptor is of the file.
+// Says whether the descriptor is of the file, at a time at which it is to fail or to be late.
 static int is_file(int descriptor)
 {
     char link[64], path[4096];
-    const char *wanted = getenv("FAIL_FILE");
+    const char *wanted = getenv("FAIL_FILE"), *held = getenv("FAIL_WHILE");
+    if (held && access(held, F_OK) != 0)
+        return 0;
     snprintf(link, sizeof link, "/proc/self/fd/%d", descriptor);
     ssize_t length = readlink(link, path, sizeof path - 1);
     if (!wanted || length < 0)
@@ -50,5 +54,16 @@ ssize_t pwrite(int descriptor, const void *buffer, size_t count, off_t offset)
     static ssize_t (*next)(int, const void *, size_t, off_t);
     if (!next)
         next = dlsym(RTLD_NEXT, "pwrite");
+    const char *late = getenv("FAIL_LATE_MS");
+    if (late && is_file(descriptor))
+        usleep(1000 * strtoul(late, NULL, 10));
     return fails(descriptor, "FAIL_WRITES") ? -1 : next(descriptor, buffer, count, offset);
+}
+
+int fdatasync(int descriptor)
+{
+    static int (*next)(int);
+    if (!next)
+        next = dlsym(RTLD_NEXT, "fdatasync");
+    return fails(descriptor, "FAIL_SYNCS") ? -1 : next(descriptor);
 }

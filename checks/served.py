@@ -20,6 +20,8 @@ REPLY_BYTES = 16
 FLAGS = struct.pack(">I", 3)
 GO = struct.pack(">QIIIH", 0x49484156454F5054, 7, 6, 0, 0)
 ACKNOWLEDGED = 1
+# What a server says of its start over two new images, before it listens or while it does.
+STARTED = ("both images get metadata", "0 blocks differ")
 
 
 class Failed(Exception):
@@ -57,14 +59,14 @@ class Server:
         self.child.kill()
         self.child.communicate()
 
-    # Ends the server. Returns its status, its output and its messages.
+    # Ends the server. Returns its status, its output and its messages, without those of a start over new images.
     def end(self, seconds=SECONDS):
         try:
             out, err = self.child.communicate("quit\n", timeout=seconds)
         except subprocess.TimeoutExpired:
             self.child.kill()
             raise Failed(f"the server did not end within {seconds} s") from None
-        return self.child.returncode, out, err
+        return self.child.returncode, out, "".join(line for line in err.splitlines(True) if not line.startswith(STARTED))
 
     # Ends the server, and sees that all is done, its three lines are right and both images are equal. Returns how many writes there
     # were.
