@@ -2,6 +2,7 @@
 
 import filecmp
 import os
+import re
 import shutil
 import socket
 import struct
@@ -13,15 +14,17 @@ BLOCK_BYTES = 4096
 # How long a client waits for the server, and the server for its end.
 SECONDS = 30
 
-READ, WRITE, DISCONNECT, FLUSH, WRITE_ZEROES = 0, 1, 2, 3, 6
+READ, WRITE, DISCONNECT, FLUSH, TRIM, WRITE_ZEROES = 0, 1, 2, 3, 4, 6
 GREETING_BYTES = 18
 REPLY_BYTES = 16
 # Fixed newstyle and no zeros, and GO for the export without a name.
 FLAGS = struct.pack(">I", 3)
 GO = struct.pack(">QIIIH", 0x49484156454F5054, 7, 6, 0, 0)
 ACKNOWLEDGED = 1
-# What a server says of its start over two new images, before it listens or while it does.
-STARTED = ("both images get metadata", "0 blocks differ")
+# A line of the log, which has a date before its event.
+LOGGED = re.compile(r"(?m)^\d{4}-\d\d-\d\dT\d\d:\d\d:\d\dZ (.*)\n")
+# What a first start says, after the server listens.
+FIRST_START = re.compile(r"(?m)^(both images get metadata|\d+ blocks differ, and are copied|the images are taken as alike|all of the local image is copied).*\n")
 
 
 class Failed(Exception):
@@ -34,7 +37,7 @@ class Misused(Exception):
 
 class Server:
     """A server over two images, new ones if `image_bytes` is given, which another program may start. `said` are the lines that it wrote
-    before it listened."""
+    before it listened, and `log`, at its end, what it then told of its events."""
 
     def __init__(self, program, folder, image_bytes, *options, starter=()):
         self.images = [os.path.join(folder, name) for name in ("local.img", "peer.img")]
@@ -46,7 +49,7 @@ class Server:
         self.child = subprocess.Popen(
             [*starter, program, "serve", "--local", self.images[0], "--peer", self.images[1], "--listen", f"127.0.0.1:{self.port}", *options],
             stdin=subprocess.PIPE, stdout=subprocess.PIPE, stderr=subprocess.PIPE, text=True)
-        self.said = []
+        self.said, self.log = [], []
         line = self.child.stderr.readline()
         while line and "is an export of" not in line:
             self.said.append(line.rstrip("\n"))
@@ -59,14 +62,15 @@ class Server:
         self.child.kill()
         self.child.communicate()
 
-    # Ends the server. Returns its status, its output and its messages, without those of a start over new images.
+    # Ends the server. Returns its status, its output and its messages, without the lines of a first start and of the log.
     def end(self, seconds=SECONDS):
         try:
             out, err = self.child.communicate("quit\n", timeout=seconds)
         except subprocess.TimeoutExpired:
             self.child.kill()
             raise Failed(f"the server did not end within {seconds} s") from None
-        return self.child.returncode, out, "".join(line for line in err.splitlines(True) if not line.startswith(STARTED))
+        self.log = LOGGED.findall(err)
+        return self.child.returncode, out, FIRST_START.sub("", LOGGED.sub("", err))
 
     # Ends the server, and sees that all is done, its three lines are right and both images are equal. Returns how many writes there
     # were.

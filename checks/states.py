@@ -24,13 +24,18 @@ DEPTH = 8
 
 class Mirror(Server):
     """A server of a name with a status page, at a port of its own or at this one. `faults` are words of fail_io.c: its calls fail or are late
-    from `begin_faults` on."""
+    from `begin_faults` on. With `has_data` the local image is full of ones: zeros would not be written to a new image."""
 
-    def __init__(self, program, folder, *options, image_bytes=IMAGE_BYTES, page=None, **faults):
+    def __init__(self, program, folder, *options, image_bytes=IMAGE_BYTES, has_data=False, page=None, **faults):
         self.program, self.run_folder, self.faults = program, os.path.join(folder, "run"), os.path.join(folder, "faults")
         self.page, self.client, self.load = page or free_port(), None, None
         library = os.path.join(folder, "fail_io.so")
         subprocess.run(["cc", "-shared", "-fPIC", "-O2", "-o", library, FAIL_IO, "-ldl"], check=True)
+        if has_data:
+            for name, byte in (("local.img", b"\1"), (PEER, b"\0")):
+                with open(os.path.join(folder, name), "wb") as file:
+                    file.write(byte * image_bytes)
+            image_bytes = None
         words = {"LD_PRELOAD": library, "FAIL_WHILE": self.faults, "FAIL_EVERY": 1, **faults}
         super().__init__(program, folder, image_bytes, "--status", str(self.page), "--name", NAME, "--run-dir", self.run_folder, *options,
                          starter=["env", *(f"{name}={value}" for name, value in words.items())])
@@ -94,15 +99,18 @@ class Mirror(Server):
             self.load.join()
 
 
-# Writes blocks of one extent over and over, some at a time, until the server is gone.
+# Writes blocks of one extent over and over, some at a time, until the server is gone. They are no zeros, which would not be written to a
+# new image.
 def write_on(port):
+    def write(block):
+        client.send(request(WRITE, block, block * BLOCK_BYTES, BLOCK_BYTES) + b"\1" * BLOCK_BYTES)
+
     try:
         client = connect(port)
         for block in range(DEPTH):
-            client.send(request(WRITE, block, block * BLOCK_BYTES, BLOCK_BYTES) + bytes(BLOCK_BYTES))
+            write(block)
         while True:
-            block = struct.unpack(">IIQ", client.take(REPLY_BYTES))[2]
-            client.send(request(WRITE, block, block * BLOCK_BYTES, BLOCK_BYTES) + bytes(BLOCK_BYTES))
+            write(struct.unpack(">IIQ", client.take(REPLY_BYTES))[2])
     except (OSError, Failed):
         pass
 
@@ -160,11 +168,11 @@ def bring_left_out(mirror):
     mirror.until(lambda it: it["primary"]["out_of_sync_kib"] >= 40, "out of sync")
 
 
-# The options of a server, its faults, and what brings it into its state.
+# The options of a server, its faults and images, and what brings it into its state.
 STATES = {
     "alike": ([], {}, bring_alike),
     "busy": ([], {"FAIL_FILE": PEER, "FAIL_LATE_MS": 5}, bring_busy),
-    "copying": (["--first", "copy"], {"FAIL_FILE": PEER, "FAIL_LATE_MS": LATE_MS}, bring_copying),
+    "copying": (["--first", "copy"], {"FAIL_FILE": PEER, "FAIL_LATE_MS": LATE_MS, "has_data": True}, bring_copying),
     "link lost": ([], {"FAIL_FILE": LOCAL_METADATA, "FAIL_WRITES": 1}, bring_link_lost),
     "peer left out": ([], {"FAIL_FILE": PEER, "FAIL_SYNCS": 1}, bring_left_out),
 }

@@ -8,7 +8,7 @@ use std::io::Write;
 /// Why a command line was not accepted.
 #[derive(Drop)]
 pub enum UsageFault<'a> {
-    /// They ask for help or the version, which is then in the error, or they are wrong.
+    /// They ask for help, which is then in the error, or they are wrong.
     Words(Error),
     /// A server is to listen at this, which is no numeric address with a port and no path of a socket.
     Address(&'a str),
@@ -21,8 +21,8 @@ pub enum UsageFault<'a> {
 }
 
 impl UsageFault<'_> {
-    /// Prints help or the version on `out` if it was asked for, and else what is wrong with the words on `err`. Returns how
-    /// the program then ends: `Done` for these, `Failed` if they could not be written or there was no memory, and else
+    /// Prints help on `out` if it was asked for, and else what is wrong with the words on `err`. Returns how
+    /// the program then ends: `Done` for it, `Failed` if they could not be written or there was no memory, and else
     /// `Misused`.
     pub fn print<W: Write, E: Write>(&self, out: &mut W, err: &mut E) -> Status {
         match self {

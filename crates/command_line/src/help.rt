@@ -272,6 +272,10 @@ start would copy and why, or why it would be refused, and prints how much:
 No address is listened at, and no metadata file is made.
   drbdpair serve --local a.img --peer b.img --dry-run
 
+Once the server listens, standard error has a line for each event, with a date, or
+with a priority where systemd's journal takes it: connected, lost, resync-begun,
+resyncing every ten seconds of a copy, resync-done, disk-failed and stopped.
+
 A start that fails prints a line on standard error that says why.
 ";
 

@@ -2,7 +2,9 @@
 use crate::fault::UsageFault;
 use crate::help::{RunHelp, ScriptHelp, ServeHelp, TcpHelp};
 use crate::image_help::ImageHelpTexts;
+use crate::version::VERSION;
 use crate::{images, queries, run, serve};
+use clap::error::ErrorKind;
 use clap::{Arg, ArgMatches, Command, Error};
 use program_values::{
     Asked, Awaited, DumpFormat, ImageOptions, Images, Path, Question, RunOptions, ServeOptions,
@@ -14,12 +16,11 @@ use std::convert::AsStr;
 const ABOUT: &str =
     "Mirrors two disks after DRBD 8.4: serves them to NBD clients (serve), tests them (run, tcp), or steps them by a script (the default).";
 
-/// The version, as in the file `VERSION` at the top of the repository: `checks/package` compares them.
-const VERSION: &str = "0.1.0";
-
 /// What the program is to do.
 #[derive(Drop)]
 pub enum Order<'a> {
+    /// To print its version.
+    Version,
     /// To run the script of this file, `-` being the standard input.
     Script(&'a str),
     /// To run a session over these images.
@@ -69,7 +70,7 @@ impl HelpTexts {
 
 /// Reads the program's words; the first one is its name. `progress` says whether a long run shows its progress.
 ///
-/// `UsageFault::Words` if they ask for help or the version, or are wrong, `UsageFault::SharedImage` if both disks are to have the same image,
+/// `UsageFault::Words` if they ask for help, or are wrong, `UsageFault::SharedImage` if both disks are to have the same image,
 /// `UsageFault::Address` if a server is to listen at no numeric address with a port and no path, `UsageFault::Page` if its page is to be at
 /// no port and no path, `UsageFault::Name` for a word that is no name of a server.
 pub fn parse<'a, S: AsStr>(
@@ -80,6 +81,7 @@ pub fn parse<'a, S: AsStr>(
 ) -> Result<Order<'a>, UsageFault<'a>> {
     match matches_of(alloc, helps, words) {
         Ok(matches) => order_of(alloc, &matches, progress),
+        Err(error) if error.kind() == ErrorKind::DisplayVersion => Ok(Order::Version),
         Err(error) => Err(UsageFault::Words(error)),
     }
 }

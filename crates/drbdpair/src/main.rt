@@ -6,6 +6,7 @@ mod program;
 mod standard_descriptors;
 #[cfg(test)]
 mod tests;
+mod version;
 
 use program_values::Status;
 use std::io::{ErrorKind, Write};

@@ -1,13 +1,16 @@
 //! The program, from its words to its exit status.
 ghost use Rattle.std.specs.Prelude.{◌≡◌, ◌≤◌, ◌⊎◌};
 
+use crate::version::print_version;
 use command_line::{HelpTexts, Order, parse};
 use program_values::Status;
 use script::script_on;
+use server_log::Style;
 use serving::{AnyBytes, AnyContents};
 use session_run::Host;
 use std::alloc::Global;
 use std::convert::AsStr;
+use std::env::Env;
 use std::fs;
 use std::fs::File;
 use std::io::{IsTerminal, Read, Write};
@@ -20,7 +23,11 @@ use std::rt::Files;
 /// options; no words at all mean `script -`. Returns the exit status. A long run shows its progress if `err` is a terminal.
 pub fn run_on<
     S: AsStr,
-    H: Host + Files<File = File> + Net<Listener = TcpListener, Stream = TcpStream> + RandomSource,
+    H: Host
+        + Files<File = File>
+        + Net<Listener = TcpListener, Stream = TcpStream>
+        + RandomSource
+        + Env,
     I: Read + Drop + Send + 'static,
     W: Write,
     E: Write + IsTerminal + Send,
@@ -46,7 +53,11 @@ pub fn run_on<
 
 /// Carries out an order. Returns the exit status.
 fn carry_out<
-    H: Host + Files<File = File> + Net<Listener = TcpListener, Stream = TcpStream> + RandomSource,
+    H: Host
+        + Files<File = File>
+        + Net<Listener = TcpListener, Stream = TcpStream>
+        + RandomSource
+        + Env,
     I: Read + Drop + Send + 'static,
     W: Write,
     E: Write + IsTerminal + Send,
@@ -54,11 +65,13 @@ fn carry_out<
     ensures { (result ≤ 3) ⊎ (result ≡ 5) ⊎ (result ≡ 10) }
 {
     match order {
+        Order::Version => print_version(rt, out, err).code(),
         Order::Script(file) => run_script(rt, *file, input, out, err),
         Order::Run(options, images) => session_run::run(rt, options, images, out, err).code(),
         Order::Serve(options) => {
+            let style = Style::of_environment(rt, err.is_terminal());
             serving::serve::<AnyContents, AnyBytes, AnyBytes, H, I, W, E>(
-                rt, options, input, out, err,
+                rt, options, style, input, out, err,
             ).code()
         }
         Order::DryRun(options) => serving::dry_run(rt, options, out, err).code(),

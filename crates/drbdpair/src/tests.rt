@@ -2,14 +2,24 @@
 mod images;
 
 use crate::program::run_on;
+use crate::version::commit_beside;
 use session_run::Host;
+use std::env::Env;
 use std::fs::File;
 use std::io::{IsTerminal, Write};
 use std::net::{Net, TcpListener, TcpStream};
+use std::path::Path;
 use std::process::Abort;
 use std::random::RandomSource;
 use std::rt::Files;
 use std::{fs, io};
+
+/// What a program that is from no package says of its version.
+const VERSION: &str = "\
+drbdpair 0.1.0
+commit: not known (not from a package)
+logic: dac8208d650f15bf
+";
 
 const ONE_WRITE: &str = "\
 pair
@@ -72,7 +82,11 @@ struct Outcome {
 
 /// Runs the program over these words, with this text on its standard input.
 fn outcome_of<
-    H: Host + Files<File = File> + Net<Listener = TcpListener, Stream = TcpStream> + RandomSource,
+    H: Host
+        + Files<File = File>
+        + Net<Listener = TcpListener, Stream = TcpStream>
+        + RandomSource
+        + Env,
 >(rt: &H, words: &[&str], input: &'static str) -> Outcome {
     let mut written = Vec::new(rt.alloc());
     let mut said = Said {
@@ -93,7 +107,8 @@ fn runs<
         + Host
         + Files<File = File>
         + Net<Listener = TcpListener, Stream = TcpStream>
-        + RandomSource,
+        + RandomSource
+        + Env,
 >(rt: &H, words: &[&str], out: &str, status: u8) {
     let outcome = outcome_of(rt, words, ONE_WRITE);
     assert_eq!(rt; outcome.status, status);
@@ -162,9 +177,22 @@ fn help_is_asked_for(rt: HostRuntime) {
 #[test]
 fn the_version_is_asked_for(rt: HostRuntime) {
     for flag in ["--version", "-V"] {
-        runs(&rt, &["./program", flag], "drbdpair 0.1.0\n", 0);
+        runs(&rt, &["./program", flag], VERSION, 0);
         runs(&rt, &["./program", "serve", flag], "", 2);
     }
+}
+
+/// The commit of a program is what its package says, in a file of the folder above the program's.
+#[test]
+fn the_commit_is_the_packages(rt: HostRuntime) {
+    let program = Path::new("packaged/sbin/drbdpair");
+    let none = commit_beside(&rt, program).expect(&rt, "a look");
+    assert!(rt; none.is_none());
+    fs::create_dir_all(&rt, "packaged/lib/drbdpair").expect(&rt, "a folder");
+    fs::write(&rt, "packaged/lib/drbdpair/commit", "0a1b2c\n").expect(&rt, "a file");
+    let commit = commit_beside(&rt, program).expect(&rt, "a look");
+    fs::remove_dir_all(&rt, "packaged").expect(&rt, "a folder");
+    assert_eq!(rt; commit.as_ref().map(|text| text.as_str()), Some("0a1b2c\n"));
 }
 
 /// A session over sockets completes and settles all writes, under each protocol; `--cuts` is wrong usage for it.

@@ -1,14 +1,17 @@
 -- What a call of a file keeps, and what a file that keeps what was written gives.
 use Rattle.std.proofs.Common.{ℕ, zero, suc, ◌≡◌, ◌+◌, ◌-◌, ◌*◌, ◌/◌, ◌<◌, ◌≤◌, inl, inr, Bool, true, ◌&&◌, List, [], ◌∷◌, length, take, drop, ◌⊎◌}
 use Rattle.std.proofs.Common.{Option, Some, None, slice_get, ap, arith, length-append, length-take, length-drop, refl, sym, ◌∙◌, subst}
-use Rattle.std.specs.Prelude.{IsTrue}
+use Rattle.std.specs.Prelude.{IsTrue, Result, Ok, Err, OnOk, OnErr, is_err, false}
 use Rattle.std.proofs.lemmas.Bool.{cases_lt, and_parts}
 use Rattle.std.proofs.lemmas.Slice.Eq.{bytes_eq-Decides}
 use Rattle.blocks.specs.Contents.{AreRead, blocks_of, overwritten, IsTorn}
 use Rattle.blocks.proofs.Cutting.{length-blocks_of, length-overwritten, slice_get-cut}
 use Rattle.blocks.proofs.Buffers.{one-block}
 use Rattle.blocks.proofs.Written.{written-inside, written-before, written-after}
-use Rattle.file_store.specs.Events.{are_held, first_blocks, is_held}
+use Rattle.file_store.specs.Events.{are_held, first_blocks, is_held, replay}
+use Rattle.file_store.specs.declared.remains.Remains.{Remains}
+use Rattle.file_store.specs.declared.remains.Remains.TheVariants.{New, Old, Mixed}
+use Rattle.recorded_file.specs.Calls.{Event, written}
 
 -- there are as many
 pub length-first : (n : ℕ) (image : ℕ → List ℕ) → length (first_blocks n image) ≡ n
@@ -94,3 +97,33 @@ torn-noted old new first offset count bytes torn less whole inside =
     subst (λ (written : List (List ℕ)). IsTorn old first (blocks_of 4096 bytes) (overwritten new (first + offset) written)) (sym same)
     (torn-more old new first offset (blocks_of 4096 bytes) (take 4096 (drop (4096 * offset) bytes)) torn (block-at bytes offset (omega (arith, less, whole)))
     (omega (arith, less, inside)))
+
+-- What holds of a result that is no error.
+pub if-ok : {T E P : Type 0} (r : Result T E) → is_err r ≡ false → OnOk r P → P
+if-ok (Ok x) is p = p
+if-ok (Err e) is p = absurd (cc)
+
+-- A write within the disk leaves as many blocks.
+sized-written : (blocks : ℕ) (image : ℕ → List ℕ) (events new : List Event) (first : ℕ) (bytes : List ℕ) → length (replay blocks image events).disk ≡ blocks
+    → first + length bytes / 4096 ≤ blocks → new ≡ written first bytes ∷ events → length (replay blocks image new).disk ≡ blocks
+sized-written blocks image events new first bytes sized inside is =
+    let old = (replay blocks image events).disk in
+    let count = length-blocks_of bytes in
+    let fits : first + length (blocks_of 4096 bytes) ≤ length old = omega (arith, count, sized, inside) in
+    rw is (length-overwritten old (blocks_of 4096 bytes) first fits ∙ sized)
+
+-- So does one of which the file says whether it took it,
+pub sized-put : {T E : Type 0} (r : Result T E) (blocks : ℕ) (image : ℕ → List ℕ) (events new : List Event) (first : ℕ) (bytes : List ℕ)
+    → length (replay blocks image events).disk ≡ blocks → first + length bytes / 4096 ≤ blocks
+    → OnOk r (new ≡ written first bytes ∷ events) → OnErr r (new ≡ events) → length (replay blocks image new).disk ≡ blocks
+sized-put (Ok x) blocks image events new first bytes sized inside taken same = sized-written blocks image events new first bytes sized inside taken
+sized-put (Err e) blocks image events new first bytes sized inside taken same = rw same sized
+
+-- and one of which it says what is left.
+pub sized-again : (r : Remains) (blocks : ℕ) (image : ℕ → List ℕ) (events new : List Event) (first : ℕ) (bytes : List ℕ)
+    → length (replay blocks image events).disk ≡ blocks → first + length bytes / 4096 ≤ blocks
+    → (r ≡ New → new ≡ written first bytes ∷ events) → (r ≡ Old → new ≡ events) → (r ≡ Mixed → new ≡ events)
+    → length (replay blocks image new).disk ≡ blocks
+sized-again New blocks image events now first bytes sized inside new old mixed = sized-written blocks image events now first bytes sized inside (new refl)
+sized-again Old blocks image events now first bytes sized inside new old mixed = rw (old refl) sized
+sized-again Mixed blocks image events now first bytes sized inside new old mixed = rw (mixed refl) sized

@@ -1,13 +1,7 @@
--- The calls of a file, and what a file that keeps what was written gives.
-use Rattle.std.specs.Prelude.{ℕ, zero, suc, Bool, true, false, ◌&&◌, List, [], ◌∷◌, ◌++◌, Option, Some, None, slice_get, slice_index, bytes_eq}
+-- What a file that keeps what was written gives.
+use Rattle.std.specs.Prelude.{ℕ, zero, suc, Bool, true, false, ◌&&◌, List, [], ◌∷◌, ◌++◌, Option, Some, None, slice_get, bytes_eq}
 use Rattle.blocks.specs.Contents.{blocks_of, overwritten}
-
--- A call that succeeded: which call, 0 for a write and 1 for a read, the first block, and the bytes that the file took or gave.
-abbrev pub Event : Type 0
-Event = ℕ × ℕ × List ℕ
-
-abbrev pub event_of : List ℕ → List ℕ → Event
-event_of numbers bytes = (slice_index numbers 0, slice_index numbers 1, bytes)
+use Rattle.recorded_file.specs.Calls.{Event}
 
 -- what a file was told to hold, and whether each read so far gave that
 pub record FileState : Type 0 where

@@ -2,10 +2,8 @@
 #![tactic(auto)]
 
 mod opening;
-mod record;
 mod remains;
 mod store;
 
 pub use opening::{AnyContents, OpeningContents};
-pub use record::Record;
 pub use store::FileStore;

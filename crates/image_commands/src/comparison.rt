@@ -3,7 +3,7 @@ use crate::command_fault::CommandFault;
 use crate::held_image::{HeldImage, hold, metadata_file};
 use bitmap::Bitmap;
 use blocks::{BLOCK_BYTES, Block, MAX_BLOCKS};
-use image_metadata::{AnyBytes, Found, FoundFile, find, image_state};
+use image_metadata::{AnyBytes, CountedFile, Found, FoundFile, find, image_state};
 use kept_nodes::known_marks;
 use program_values::{SessionStatus, VerifyOptions};
 use std::fs::File;
@@ -85,7 +85,12 @@ fn known_of<'a, H: Files<File = File> + AllocGlobal>(
         Ok(state) => state,
         Err(error) => return Err(CommandFault::Unread(image, error)),
     };
-    match find::<AnyBytes>(rt.alloc(), file, u64::from(held.blocks), &state) {
+    match find::<AnyBytes>(
+        rt.alloc(),
+        CountedFile::new(file, None),
+        u64::from(held.blocks),
+        &state,
+    ) {
         (_, FoundFile::Whole(metadata)) => {
             let mut metadata = metadata;
             match known_marks(rt.alloc(), &mut metadata) {

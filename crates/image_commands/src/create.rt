@@ -2,7 +2,9 @@
 use crate::command_fault::CommandFault;
 use crate::held_image::{hold, metadata_file};
 use blocks::Tuple;
-use image_metadata::{AnyBytes, BootId, Header, boot_id, create_anew, serving_identifiers};
+use image_metadata::{
+    AnyBytes, BootId, CountedFile, Header, boot_id, create_anew, serving_identifiers,
+};
 use program_values::{ImageOptions, SessionStatus};
 use std::fs::File;
 use std::io::Write;
@@ -52,6 +54,7 @@ fn create<'a, H: Files<File = File> + AllocGlobal + RandomSource, W: Write>(
     };
     let boot = boot_id(rt).unwrap_or(BootId { high: 0, low: 0 });
     let identifiers = serving_identifiers(Tuple::new(word(&bytes, 16) | 1, 0, 0, 0), true, boot, 0);
+    let file = CountedFile::new(file, None);
     match create_anew::<AnyBytes>(rt.alloc(), file, header, &identifiers) {
         Ok(_) => match writeln!(out, "{image}: metadata of {} blocks", held.blocks) {
             Ok(()) => Ok(()),

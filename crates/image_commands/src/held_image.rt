@@ -2,7 +2,8 @@
 use crate::command_fault::CommandFault;
 use blocks::{BLOCK_BYTES, MAX_DEVICE_BLOCKS};
 use image_metadata::{
-    AnyBytes, Found, FoundFile, ImageFile, Metadata, Saved, find, image_state, open_locked,
+    AnyBytes, CountedFile, Found, FoundFile, ImageFile, Metadata, Saved, find, image_state,
+    open_locked,
 };
 use image_store::ImageLock;
 use program_values::ImageOptions;
@@ -96,7 +97,12 @@ pub(crate) fn saved_metadata<'a, H: Files<File = File> + AllocGlobal>(
         Ok(state) => state,
         Err(error) => return Err(CommandFault::Unread(image, error)),
     };
-    match find::<AnyBytes>(rt.alloc(), file, u64::from(held.blocks), &state) {
+    match find::<AnyBytes>(
+        rt.alloc(),
+        CountedFile::new(file, None),
+        u64::from(held.blocks),
+        &state,
+    ) {
         (Found::Says(saved), FoundFile::Whole(metadata)) => Ok((saved, metadata)),
         (Found::Unusable(fault), _) => Err(CommandFault::Unusable(image, fault)),
         _ => Err(CommandFault::Missing(image)),

@@ -3,6 +3,7 @@
 
 mod boot;
 mod change;
+mod counted_file;
 mod end;
 mod judging;
 mod metadata_lock;
@@ -11,6 +12,7 @@ mod search;
 
 pub use boot::boot_id;
 pub use change::{image_state, is_unchanged};
+pub use counted_file::{CountedFile, ENTRIES_AT, MARKS_AT, WriteCounts};
 pub use end::{close_local, close_peer, serving_identifiers};
 pub use judging::{LastEnd, Start, WholeCopy, judge};
 pub use metadata::{

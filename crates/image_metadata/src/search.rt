@@ -2,15 +2,15 @@
 ghost use Rattle.std.specs.Prelude.{◌≡◌, false, IfOk};
 
 use crate::change::is_unchanged;
+use crate::counted_file::CountedFile;
 use blocks::MAX_DEVICE_BLOCKS;
 use metadata::{
-    CleanEnd, Header, Identifiers, Metadata, MetadataFault, MetadataFile, OpeningBytes,
+    CleanEnd, Header, Identifiers, Metadata, MetadataFault, MetadataFile, OpeningBytes, RawFile,
 };
 use std::alloc::Global;
-use std::fs::{File, OpenFile};
 
 /// The metadata file of an image.
-pub type ImageFile<X> = MetadataFile<File, X>;
+pub type ImageFile<X> = MetadataFile<CountedFile, X>;
 
 /// What the metadata of an image says.
 #[derive(Clone, Copy, Debug, PartialEq, Eq)]
@@ -40,20 +40,24 @@ pub enum FoundFile<X: OpeningBytes> {
     /// The file is whole.
     Whole(Metadata<ImageFile<X>>),
     /// The file has to be made anew.
-    Empty(File),
+    Empty(CountedFile),
 }
 
 /// Reads a metadata file for an image of `blocks` blocks, which is `image` now. Returns what is found, and the file.
 pub fn find<X: OpeningBytes>(
     alloc: Global,
-    file: File,
+    file: CountedFile,
     blocks: u64,
     image: &CleanEnd,
 ) -> (Found, FoundFile<X>) {
     if is_empty(&file) {
         return (Found::Missing, FoundFile::Empty(file));
     }
-    match metadata::open(alloc, MetadataFile::<File, X>::over(file), Some(blocks)) {
+    match metadata::open(
+        alloc,
+        MetadataFile::<CountedFile, X>::over(file),
+        Some(blocks),
+    ) {
         Ok(metadata) => {
             let saved = Saved {
                 header: metadata.header(),
@@ -67,8 +71,8 @@ pub fn find<X: OpeningBytes>(
 }
 
 // Whether the file has no byte. One that cannot be measured counts as one that has some: reading it tells why.
-fn is_empty(file: &File) -> bool {
-    match file.metadata() {
+fn is_empty(file: &CountedFile) -> bool {
+    match file.file.metadata() {
         Ok(found) => found.len() == 0,
         Err(_) => false,
     }
@@ -87,7 +91,7 @@ fn is_as_left(identifiers: &Identifiers, image: &CleanEnd) -> bool {
 /// `OtherBlocks` if no device has that many blocks, `NoMemory` if there is none for the entries, `File` if the file cannot be written.
 pub fn create_anew<X: OpeningBytes>(
     alloc: Global,
-    file: File,
+    mut file: CountedFile,
     header: Header,
     identifiers: &Identifiers,
 ) -> Result<Metadata<ImageFile<X>>, MetadataFault>
@@ -103,7 +107,7 @@ pub fn create_anew<X: OpeningBytes>(
     }
     match metadata::create(
         alloc,
-        MetadataFile::<File, X>::over(file),
+        MetadataFile::<CountedFile, X>::over(file),
         header,
         identifiers,
     ) {

@@ -1,6 +1,6 @@
 //! The lock on an image.
 use crate::OpenFault;
-use crate::length::image_bytes;
+use recorded_file::bytes_of;
 use std::fs::{File, OpenOptions, TryLockError};
 use std::os::unix::fs::{FileTypeExt, MetadataExt};
 use std::rt::Files;
@@ -64,7 +64,7 @@ impl ImageLock {
 
     /// Returns how many bytes the image has.
     pub fn image_bytes(&self) -> io::Result<u64> {
-        image_bytes(&self.file)
+        bytes_of(&self.file)
     }
 }
 

@@ -4,9 +4,6 @@ ghost use Rattle.image_store.specs.declared.open_fault.OpenFault.TheVariants.{Wr
 
 use crate::OpenFault;
 use blocks::BLOCK_BYTES;
-use std::fs::File;
-use std::io;
-use std::io::{Seek, SeekFrom};
 
 /// Checks that an image of `found` bytes has exactly as many as a device of `blocks` blocks. `WrongLength` if it does not.
 pub fn check_length(found: u64, blocks: u32) -> Result<(), OpenFault>
@@ -18,14 +15,4 @@ pub fn check_length(found: u64, blocks: u32) -> Result<(), OpenFault>
         return Err(OpenFault::WrongLength { found, wanted });
     }
     Ok(())
-}
-
-/// Returns how many bytes the image has: a regular file by its length, a block device by where it ends.
-pub(crate) fn image_bytes(file: &File) -> io::Result<u64> {
-    let found = file.metadata()?;
-    if found.is_file() {
-        return Ok(found.len());
-    }
-    let mut device = file;
-    device.seek(SeekFrom::End(0))
 }

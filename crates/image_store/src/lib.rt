@@ -13,4 +13,4 @@ pub use length::check_length;
 pub use open_fault::OpenFault;
 pub use opening::open_image;
 pub use per_disk::PerDisk;
-pub use sync_handle::SyncHandle;
+pub use sync_handle::{Disk, SyncHandle, SyncedAll};

@@ -105,6 +105,11 @@ impl<
         self.node.lock(&self.rt).turn(role)
     }
 
+    fn try_turn(&self, role: SecondaryRole) -> Option<Turn> {
+        let mut node = self.node.try_lock()?;
+        Some(node.turn(role))
+    }
+
     fn close(&self) {
         let _ = self.node.lock(&self.rt).close();
     }

@@ -45,16 +45,18 @@ no_payload_as h c false is known other = refl
 pub no_payload : (e : Exported) (h : RequestHeader) (c : NbdCommand) → judged e h ≡ Ok c → c ≢ command.Write → payload_length h ≡ 0
 no_payload e h c is other = no_payload_as h c (eqb h.kind 1) refl (served_kind e h c is) other
 
-write_only : (a b c d f : Bool)
+write_only : (a b c d t f : Bool)
     → cond a (Some command.Read) (cond b (Some command.Write)
-    (cond c (Some command.Disconnect) (cond d (Some command.Flush) (cond f (Some command.WriteZeroes) None)))) ≡ Some command.Write
+    (cond c (Some command.Disconnect) (cond d (Some command.Flush) (cond t (Some command.Trim) (cond f (Some command.WriteZeroes) None)))))
+    ≡ Some command.Write
     → b ≡ true
-write_only true b c d f is = absurd cc
-write_only false true c d f is = refl
-write_only false false true d f is = absurd cc
-write_only false false false true f is = absurd cc
-write_only false false false false true is = absurd cc
-write_only false false false false false is = absurd cc
+write_only true b c d t f is = absurd cc
+write_only false true c d t f is = refl
+write_only false false true d t f is = absurd cc
+write_only false false false true t f is = absurd cc
+write_only false false false false true f is = absurd cc
+write_only false false false false false true is = absurd cc
+write_only false false false false false false is = absurd cc
 
 whole_payload_as : (h : RequestHeader) (t : Bool) → t ≡ true → cond t h.length 0 ≡ h.length
 whole_payload_as h true is = refl
@@ -63,100 +65,104 @@ whole_payload_as h false is = absurd cc
 -- a WRITE that is served has its payload
 pub whole_payload : (e : Exported) (h : RequestHeader) → judged e h ≡ Ok command.Write → payload_length h ≡ h.length
 whole_payload e h is = whole_payload_as h (eqb h.kind 1)
-    (write_only (eqb h.kind 0) (eqb h.kind 1) (eqb h.kind 2) (eqb h.kind 3) (eqb h.kind 6) (served_kind e h command.Write is))
+    (write_only (eqb h.kind 0) (eqb h.kind 1) (eqb h.kind 2) (eqb h.kind 3) (eqb h.kind 4) (eqb h.kind 6) (served_kind e h command.Write is))
 
 -- ---- one message
 
 -- what comes of a header that was judged so, and its payload
-abbrev finished : Exported → Message → Result NbdCommand Errno → Fed
-finished e m r = let first = after_step e (begins m.header r) in then_fed first (fed first.machine m.payload)
+abbrev finished : ℕ → Exported → Message → Result NbdCommand Errno → Fed
+finished of e m r = let first = after_step of e (begins of m.header r) in then_fed first (fed first.machine m.payload)
 
 -- a message that has no payload, where its header is answered
-served_now : (e : Exported) (h : RequestHeader) (payload : List ℕ) (c : NbdCommand) → payload ≡ []
-    → (finished e (record { header = h; payload = [] }) (Ok c) ≡ answer_as e (record { header = h; payload = [] }) (Ok c))
-    → finished e (record { header = h; payload = payload }) (Ok c) ≡ answer_as e (record { header = h; payload = payload }) (Ok c)
-served_now e h payload c none is =
-    subst (λ (x : List ℕ). finished e (record { header = h; payload = x }) (Ok c) ≡ answer_as e (record { header = h; payload = x }) (Ok c)) (sym none) is
+served_now : (of : ℕ) (e : Exported) (h : RequestHeader) (payload : List ℕ) (c : NbdCommand) → payload ≡ []
+    → (finished of e (record { header = h; payload = [] }) (Ok c) ≡ answer_as of e (record { header = h; payload = [] }) (Ok c))
+    → finished of e (record { header = h; payload = payload }) (Ok c) ≡ answer_as of e (record { header = h; payload = payload }) (Ok c)
+served_now of e h payload c none is =
+    subst (λ (x : List ℕ). finished of e (record { header = h; payload = x }) (Ok c) ≡ answer_as of e (record { header = h; payload = x }) (Ok c)) (sym none) is
 
-refused_now : (e : Exported) (h : RequestHeader) (errno : Errno) (payload : List ℕ) (t : Bool) → eqb (payload_length h) 0 ≡ t
+refused_now : (of : ℕ) (e : Exported) (h : RequestHeader) (errno : Errno) (payload : List ℕ) (t : Bool) → eqb (payload_length h) 0 ≡ t
     → length payload ≡ payload_length h
-    → (let first = after_step e (cond t (sends (phase.Gather part.Request) (reply_spelling (failure h.cookie errno)))
+    → (let first = after_step of e (cond t (sends (phase.Gather part.Request) (reply_spelling (failure h.cookie errno)))
     (goes_on (phase.Skip (payload_length h) (refused.Write h.cookie errno)))) in then_fed first (fed first.machine payload))
-    ≡ answer_as e (record { header = h; payload = payload }) (Err errno)
+    ≡ answer_as of e (record { header = h; payload = payload }) (Err errno)
 unfolding fed skipped
-refused_now e h errno payload true is whole =
+refused_now of e h errno payload true is whole =
     let none : payload ≡ [] = none_of payload (whole ∙ eqb-true _ _ is) in
-    let first = after_step e (sends (phase.Gather part.Request) (reply_spelling (failure h.cookie errno))) in
+    let first = after_step of e (sends (phase.Gather part.Request) (reply_spelling (failure h.cookie errno))) in
     ap (λ (x : List ℕ). then_fed first (fed first.machine x)) none ∙ then_fed_nothing first
-refused_now e h errno payload false is whole =
+refused_now of e h errno payload false is whole =
     let other = eqb-false _ _ is in
-    let first = after_step e (goes_on (phase.Skip (payload_length h) (refused.Write h.cookie errno))) in
-    ap (λ (f : Fed). then_fed first f) (fed_skipped e (payload_length h) (refused.Write h.cookie errno) payload (omega (arith, whole, other)) whole)
+    let first = after_step of e (goes_on (phase.Skip (payload_length h) (refused.Write h.cookie errno))) in
+    ap (λ (f : Fed). then_fed first f) (fed_skipped of e (payload_length h) (refused.Write h.cookie errno) payload (omega (arith, whole, other)) whole)
 
-finishes : (e : Exported) (m : Message) (r : Result NbdCommand Errno) → judged e m.header ≡ r → length m.payload ≡ payload_length m.header
-    → finished e m r ≡ answer_as e m r
+finishes : (of : ℕ) (e : Exported) (m : Message) (r : Result NbdCommand Errno) → judged e m.header ≡ r → length m.payload ≡ payload_length m.header
+    → finished of e m r ≡ answer_as of e m r
 unfolding fed step
-finishes e m (Ok command.Read) is whole =
-    served_now e m.header m.payload command.Read (none_of m.payload (whole ∙ no_payload e m.header command.Read is (λ same. cc))) refl
-finishes e m (Ok command.Write) is whole =
+finishes of e m (Ok command.Read) is whole =
+    served_now of e m.header m.payload command.Read (none_of m.payload (whole ∙ no_payload e m.header command.Read is (λ same. cc))) refl
+finishes of e m (Ok command.Write) is whole =
     let long : length m.payload ≡ m.header.length = whole ∙ whole_payload e m.header is in
-    let first = after_step e (goes_on (phase.Gather (part.Payload m.header))) in
-    ap (λ (f : Fed). then_fed first f) (fed_whole e (part.Payload m.header) [] m.payload (omega (arith, long, (payload_bounded e m.header is).0))
+    let first = after_step of e (goes_on (phase.Gather (part.Payload m.header))) in
+    ap (λ (f : Fed). then_fed first f) (fed_whole of e (part.Payload m.header) [] m.payload (omega (arith, long, (payload_bounded e m.header is).0))
     (omega (arith, long)))
-finishes e m (Ok command.Disconnect) is whole = ap (λ (f : Fed). then_fed (silent (closed e)) f) (fed_closed e [] m.payload)
-finishes e m (Ok command.Flush) is whole =
-    served_now e m.header m.payload command.Flush (none_of m.payload (whole ∙ no_payload e m.header command.Flush is (λ same. cc))) refl
-finishes e m (Ok command.WriteZeroes) is whole =
-    served_now e m.header m.payload command.WriteZeroes (none_of m.payload (whole ∙ no_payload e m.header command.WriteZeroes is (λ same. cc))) refl
-finishes e m (Err errno) is whole = refused_now e m.header errno m.payload (eqb (payload_length m.header) 0) refl whole
+finishes of e m (Ok command.Disconnect) is whole = ap (λ (f : Fed). then_fed (silent (closed of e)) f) (fed_closed of e [] m.payload)
+finishes of e m (Ok command.Flush) is whole =
+    served_now of e m.header m.payload command.Flush (none_of m.payload (whole ∙ no_payload e m.header command.Flush is (λ same. cc))) refl
+finishes of e m (Ok command.Trim) is whole =
+    served_now of e m.header m.payload command.Trim (none_of m.payload (whole ∙ no_payload e m.header command.Trim is (λ same. cc))) refl
+finishes of e m (Ok command.WriteZeroes) is whole =
+    served_now of e m.header m.payload command.WriteZeroes (none_of m.payload (whole ∙ no_payload e m.header command.WriteZeroes is (λ same. cc))) refl
+finishes of e m (Err errno) is whole = refused_now of e m.header errno m.payload (eqb (payload_length m.header) 0) refl whole
 
 -- a header of a request
-pub header_turns : (e : Exported) (h : RequestHeader) → FitsFields h → fed (at_request e) (spelling h) ≡ after_step e (begins h (judged e h))
+pub header_turns : (of : ℕ) (e : Exported) (h : RequestHeader) → FitsFields h → fed (at_request of e) (spelling h) ≡ after_step of e (begins of h (judged e h))
 unfolding step
-header_turns e h fits =
-    fed_whole e part.Request [] (spelling h) (omega (arith, spelling_length h)) (omega (arith, spelling_length h))
-    ∙ ap (λ (r : Result RequestHeader Refusal). after_step e (after_header e r)) (header_again h fits)
+header_turns of e h fits =
+    fed_whole of e part.Request [] (spelling h) (omega (arith, spelling_length h)) (omega (arith, spelling_length h))
+    ∙ ap (λ (r : Result RequestHeader Refusal). after_step of e (after_header of e r)) (header_again h fits)
 
-pub message_is_answered : (e : Exported) (m : Message) → IsMessage m → fed (at_request e) (message_bytes m) ≡ answer e m
-message_is_answered e m is =
-    fed_append (at_request e) (spelling m.header) m.payload
-    ∙ ap (λ (f : Fed). then_fed f (fed f.machine m.payload)) (header_turns e m.header is.fields)
-    ∙ finishes e m (judged e m.header) refl is.whole
+pub message_is_answered : (of : ℕ) (e : Exported) (m : Message) → IsMessage m → fed (at_request of e) (message_bytes m) ≡ answer of e m
+message_is_answered of e m is =
+    fed_append (at_request of e) (spelling m.header) m.payload
+    ∙ ap (λ (f : Fed). then_fed f (fed f.machine m.payload)) (header_turns of e m.header is.fields)
+    ∙ finishes of e m (judged e m.header) refl is.whole
 
 -- ---- messages, one after another
 
 -- after a message that does not end it the connection is between two requests
-goes_on_as : (e : Exported) (m : Message) (r : Result NbdCommand Errno) → is_end r ≡ false → (answer_as e m r).machine ≡ at_request e
-goes_on_as e m (Ok command.Read) go = refl
-goes_on_as e m (Ok command.Write) go = refl
-goes_on_as e m (Ok command.Disconnect) go = absurd cc
-goes_on_as e m (Ok command.Flush) go = refl
-goes_on_as e m (Ok command.WriteZeroes) go = refl
-goes_on_as e m (Err errno) go = refl
+goes_on_as : (of : ℕ) (e : Exported) (m : Message) (r : Result NbdCommand Errno) → is_end r ≡ false → (answer_as of e m r).machine ≡ at_request of e
+goes_on_as of e m (Ok command.Read) go = refl
+goes_on_as of e m (Ok command.Write) go = refl
+goes_on_as of e m (Ok command.Disconnect) go = absurd cc
+goes_on_as of e m (Ok command.Flush) go = refl
+goes_on_as of e m (Ok command.Trim) go = refl
+goes_on_as of e m (Ok command.WriteZeroes) go = refl
+goes_on_as of e m (Err errno) go = refl
 
-ends_as : (e : Exported) (m : Message) (r : Result NbdCommand Errno) → is_end r ≡ true → answer_as e m r ≡ silent (closed e)
-ends_as e m (Ok command.Read) end = absurd cc
-ends_as e m (Ok command.Write) end = absurd cc
-ends_as e m (Ok command.Disconnect) end = refl
-ends_as e m (Ok command.Flush) end = absurd cc
-ends_as e m (Ok command.WriteZeroes) end = absurd cc
-ends_as e m (Err errno) end = absurd cc
+ends_as : (of : ℕ) (e : Exported) (m : Message) (r : Result NbdCommand Errno) → is_end r ≡ true → answer_as of e m r ≡ silent (closed of e)
+ends_as of e m (Ok command.Read) end = absurd cc
+ends_as of e m (Ok command.Write) end = absurd cc
+ends_as of e m (Ok command.Disconnect) end = refl
+ends_as of e m (Ok command.Flush) end = absurd cc
+ends_as of e m (Ok command.Trim) end = absurd cc
+ends_as of e m (Ok command.WriteZeroes) end = absurd cc
+ends_as of e m (Err errno) end = absurd cc
 
 -- a message, and what comes after it
-pub one_and_rest : (e : Exported) (m : Message) (rest : List ℕ) (t : Bool) → IsMessage m → is_end (judged e m.header) ≡ t
-    → fed (at_request e) (message_bytes m ++ rest) ≡ cond t (silent (closed e)) (then_fed (answer e m) (fed (at_request e) rest))
-one_and_rest e m rest true is end =
-    let one : fed (at_request e) (message_bytes m) ≡ silent (closed e) = message_is_answered e m is ∙ ends_as e m (judged e m.header) end in
-    fed_append (at_request e) (message_bytes m) rest ∙ ap (λ (f : Fed). then_fed f (fed f.machine rest)) one
-    ∙ ap (λ (f : Fed). then_fed (silent (closed e)) f) (fed_closed e [] rest)
-one_and_rest e m rest false is go =
-    fed_append (at_request e) (message_bytes m) rest ∙ ap (λ (f : Fed). then_fed f (fed f.machine rest)) (message_is_answered e m is)
-    ∙ ap (λ (x : Machine). then_fed (answer e m) (fed x rest)) (goes_on_as e m (judged e m.header) go)
+pub one_and_rest : (of : ℕ) (e : Exported) (m : Message) (rest : List ℕ) (t : Bool) → IsMessage m → is_end (judged e m.header) ≡ t
+    → fed (at_request of e) (message_bytes m ++ rest) ≡ cond t (silent (closed of e)) (then_fed (answer of e m) (fed (at_request of e) rest))
+one_and_rest of e m rest true is end =
+    let one : fed (at_request of e) (message_bytes m) ≡ silent (closed of e) = message_is_answered of e m is ∙ ends_as of e m (judged e m.header) end in
+    fed_append (at_request of e) (message_bytes m) rest ∙ ap (λ (f : Fed). then_fed f (fed f.machine rest)) one
+    ∙ ap (λ (f : Fed). then_fed (silent (closed of e)) f) (fed_closed of e [] rest)
+one_and_rest of e m rest false is go =
+    fed_append (at_request of e) (message_bytes m) rest ∙ ap (λ (f : Fed). then_fed f (fed f.machine rest)) (message_is_answered of e m is)
+    ∙ ap (λ (x : Machine). then_fed (answer of e m) (fed x rest)) (goes_on_as of e m (judged e m.header) go)
 
-pub messages_are_answered : (e : Exported) (ms : List Message) → AllByRecursion IsMessage ms → fed (at_request e) (stream_of ms) ≡ answers e ms
+pub messages_are_answered : (of : ℕ) (e : Exported) (ms : List Message) → AllByRecursion IsMessage ms → fed (at_request of e) (stream_of ms) ≡ answers of e ms
 unfolding fed
-messages_are_answered e [] each = refl
-messages_are_answered e (m ∷ ms) each =
-    ap (fed (at_request e)) (flat_map-cons message_bytes m ms)
-    ∙ one_and_rest e m (stream_of ms) (is_end (judged e m.header)) each.0 refl
-    ∙ ap (λ (f : Fed). cond (is_end (judged e m.header)) (silent (closed e)) (then_fed (answer e m) f)) (messages_are_answered e ms each.1)
+messages_are_answered of e [] each = refl
+messages_are_answered of e (m ∷ ms) each =
+    ap (fed (at_request of e)) (flat_map-cons message_bytes m ms)
+    ∙ one_and_rest of e m (stream_of ms) (is_end (judged e m.header)) each.0 refl
+    ∙ ap (λ (f : Fed). cond (is_end (judged e m.header)) (silent (closed of e)) (then_fed (answer of e m) f)) (messages_are_answered of e ms each.1)

@@ -49,35 +49,35 @@ no_bytes_are_few : (n : ℕ) → eqb n 0 ≡ true → nat_lt 8192 n ≡ true →
 no_bytes_are_few n none many = grind (arith, nat_tests)
 
 -- the data, after the header
-ends : (e : Exported) (z : Bool) (n : ℕ) (bytes : List ℕ) (none many named : Bool) → eqb (length bytes) 0 ≡ none → nat_lt 8192 (length bytes) ≡ many
-    → (let first = after_step e (cond none (after_reply z (option_replied e z n []))
+ends : (of : ℕ) (e : Exported) (z : Bool) (n : ℕ) (bytes : List ℕ) (none many named : Bool) → eqb (length bytes) 0 ≡ none → nat_lt 8192 (length bytes) ≡ many
+    → (let first = after_step of e (cond none (after_reply z (option_replied e z n []))
     (cond many (cond named (goes_on phase.Closed) (goes_on (phase.Skip (length bytes) (refused.LongOption z n))))
     (goes_on (phase.Gather (part.OptionData z n (length bytes)))))) in then_fed first (fed first.machine bytes))
-    ≡ cond many (cond named (silent (closed e)) (record { machine = at_option e z; sent = option_reply n rep_err_too_big []; requests = [] }))
-    (after_step e (after_reply z (option_replied e z n bytes)))
+    ≡ cond many (cond named (silent (closed of e)) (record { machine = at_option of e z; sent = option_reply n rep_err_too_big []; requests = [] }))
+    (after_step of e (after_reply z (option_replied e z n bytes)))
 unfolding fed step skipped
-ends e z n bytes true true named is_none is_many = absurd (omega (arith, no_bytes_are_few (length bytes) is_none is_many))
-ends e z n bytes true false named is_none is_many =
-    let first = after_step e (after_reply z (option_replied e z n [])) in
+ends of e z n bytes true true named is_none is_many = absurd (omega (arith, no_bytes_are_few (length bytes) is_none is_many))
+ends of e z n bytes true false named is_none is_many =
+    let first = after_step of e (after_reply z (option_replied e z n [])) in
     let empty : bytes ≡ [] = none_of bytes (eqb-true _ _ is_none) in
     ap (λ (x : List ℕ). then_fed first (fed first.machine x)) empty ∙ then_fed_nothing first
-    ∙ ap (λ (x : List ℕ). after_step e (after_reply z (option_replied e z n x))) (sym empty)
-ends e z n bytes false true true is_none is_many = ap (λ (f : Fed). then_fed (silent (closed e)) f) (fed_closed e [] bytes)
-ends e z n bytes false true false is_none is_many =
+    ∙ ap (λ (x : List ℕ). after_step of e (after_reply z (option_replied e z n x))) (sym empty)
+ends of e z n bytes false true true is_none is_many = ap (λ (f : Fed). then_fed (silent (closed of e)) f) (fed_closed of e [] bytes)
+ends of e z n bytes false true false is_none is_many =
     let other = eqb-false _ _ is_none in
-    let first = after_step e (goes_on (phase.Skip (length bytes) (refused.LongOption z n))) in
-    ap (λ (f : Fed). then_fed first f) (fed_skipped e (length bytes) (refused.LongOption z n) bytes (omega (arith, other)) refl)
-ends e z n bytes false false named is_none is_many =
+    let first = after_step of e (goes_on (phase.Skip (length bytes) (refused.LongOption z n))) in
+    ap (λ (f : Fed). then_fed first f) (fed_skipped of e (length bytes) (refused.LongOption z n) bytes (omega (arith, other)) refl)
+ends of e z n bytes false false named is_none is_many =
     let other = eqb-false _ _ is_none in
-    let first = after_step e (goes_on (phase.Gather (part.OptionData z n (length bytes)))) in
-    ap (λ (f : Fed). then_fed first f) (fed_whole e (part.OptionData z n (length bytes)) [] bytes (omega (arith, other)) (omega arith))
+    let first = after_step of e (goes_on (phase.Gather (part.OptionData z n (length bytes)))) in
+    ap (λ (f : Fed). then_fed first f) (fed_whole of e (part.OptionData z n (length bytes)) [] bytes (omega (arith, other)) (omega arith))
 
-pub option_is_answered : (e : Exported) (no_zeroes : Bool) (o : ClientOption) → FitsOption o
-    → fed (at_option e no_zeroes) (option_bytes o) ≡ option_answer e no_zeroes o
+pub option_is_answered : (of : ℕ) (e : Exported) (no_zeroes : Bool) (o : ClientOption) → FitsOption o
+    → fed (at_option of e no_zeroes) (option_bytes o) ≡ option_answer of e no_zeroes o
 unfolding option_bytes step
-option_is_answered e no_zeroes o fits =
-    fed_append (at_option e no_zeroes) (head o) o.bytes
+option_is_answered of e no_zeroes o fits =
+    fed_append (at_option of e no_zeroes) (head o) o.bytes
     ∙ ap (λ (f : Fed). then_fed f (fed f.machine o.bytes))
-    (fed_whole e (part.Option no_zeroes) [] (head o) (omega (arith, head_length o)) (omega (arith, head_length o))
-    ∙ ap (λ (s : Stepped). after_step e s) (head_read e no_zeroes o fits))
-    ∙ ends e no_zeroes o.number o.bytes (eqb (length o.bytes) 0) (nat_lt 8192 (length o.bytes)) (eqb o.number 1) refl refl
+    (fed_whole of e (part.Option no_zeroes) [] (head o) (omega (arith, head_length o)) (omega (arith, head_length o))
+    ∙ ap (λ (s : Stepped). after_step of e s) (head_read e no_zeroes o fits))
+    ∙ ends of e no_zeroes o.number o.bytes (eqb (length o.bytes) 0) (nat_lt 8192 (length o.bytes)) (eqb o.number 1) refl refl

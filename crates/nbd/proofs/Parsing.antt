@@ -14,7 +14,7 @@ use Rattle.nbd.specs.declared.header.RequestHeader.{RequestHeader}
 use Rattle.nbd.specs.declared.phase.Part.TheVariants as part
 use Rattle.nbd.specs.declared.phase.Phase.TheVariants as phase
 use Rattle.nbd.specs.declared.phase.Refused.TheVariants as refused
-use Rattle.nbd.specs.declared.request.Request.{Request}
+use Rattle.nbd.specs.Requested.{Requested}
 use Rattle.nbd.specs.Exports.{Exported}
 use Rattle.nbd.specs.Judging.{judged}
 use Rattle.nbd.specs.Machine.{Machine, Fed, silent, after_step, then_fed, fed}
@@ -39,48 +39,50 @@ no_less n l none less = omega arith
 
 -- ---- a header, and less than its payload
 
-refused_part : (e : Exported) (h : RequestHeader) (errno : Errno) (back : List ℕ) (t : Bool) → eqb (payload_length h) 0 ≡ t → length back < payload_length h
+refused_part : (of : ℕ) (e : Exported) (h : RequestHeader) (errno : Errno) (back : List ℕ) (t : Bool) → eqb (payload_length h) 0 ≡ t
+    → length back < payload_length h
     → (m : Machine) × ((let first =
-    after_step e (cond t (sends (phase.Gather part.Request) (reply_spelling (failure h.cookie errno)))
+    after_step of e (cond t (sends (phase.Gather part.Request) (reply_spelling (failure h.cookie errno)))
     (goes_on (phase.Skip (payload_length h) (refused.Write h.cookie errno)))) in then_fed first (fed first.machine back)) ≡ silent m)
-refused_part e h errno back true is less = absurd (no_less (length back) (payload_length h) (eqb-true _ _ is) less)
-refused_part e h errno back false is less =
-    let first = after_step e (goes_on (phase.Skip (payload_length h) (refused.Write h.cookie errno))) in (
-      record { export = e; phase = phase.Skip (payload_length h - length back) (refused.Write h.cookie errno); held = [] },
-      ap (λ (f : Fed). then_fed first f) (fed_skips e (payload_length h) (refused.Write h.cookie errno) back less),
+refused_part of e h errno back true is less = absurd (no_less (length back) (payload_length h) (eqb-true _ _ is) less)
+refused_part of e h errno back false is less =
+    let first = after_step of e (goes_on (phase.Skip (payload_length h) (refused.Write h.cookie errno))) in (
+      record { of = of; export = e; phase = phase.Skip (payload_length h - length back) (refused.Write h.cookie errno); held = [] },
+      ap (λ (f : Fed). then_fed first f) (fed_skips of e (payload_length h) (refused.Write h.cookie errno) back less),
     )
 
-begun : (e : Exported) (h : RequestHeader) (back : List ℕ) (r : Result NbdCommand Errno) → judged e h ≡ r → length back < payload_length h
-    → (m : Machine) × ((let first = after_step e (begins h r) in then_fed first (fed first.machine back)) ≡ silent m)
-begun e h back (Ok command.Read) is less = absurd (no_less _ _ (no_payload e h command.Read is (λ same. cc)) less)
-begun e h back (Ok command.Write) is less =
-    let first = after_step e (goes_on (phase.Gather (part.Payload h))) in (
-      record { export = e; phase = phase.Gather (part.Payload h); held = back },
-      ap (λ (f : Fed). then_fed first f) (fed_held e (part.Payload h) [] back (omega (arith, less, whole_payload e h is))),
+begun : (of : ℕ) (e : Exported) (h : RequestHeader) (back : List ℕ) (r : Result NbdCommand Errno) → judged e h ≡ r → length back < payload_length h
+    → (m : Machine) × ((let first = after_step of e (begins of h r) in then_fed first (fed first.machine back)) ≡ silent m)
+begun of e h back (Ok command.Read) is less = absurd (no_less _ _ (no_payload e h command.Read is (λ same. cc)) less)
+begun of e h back (Ok command.Write) is less =
+    let first = after_step of e (goes_on (phase.Gather (part.Payload h))) in (
+      record { of = of; export = e; phase = phase.Gather (part.Payload h); held = back },
+      ap (λ (f : Fed). then_fed first f) (fed_held of e (part.Payload h) [] back (omega (arith, less, whole_payload e h is))),
     )
-begun e h back (Ok command.Disconnect) is less = absurd (no_less _ _ (no_payload e h command.Disconnect is (λ same. cc)) less)
-begun e h back (Ok command.Flush) is less = absurd (no_less _ _ (no_payload e h command.Flush is (λ same. cc)) less)
-begun e h back (Ok command.WriteZeroes) is less = absurd (no_less _ _ (no_payload e h command.WriteZeroes is (λ same. cc)) less)
-begun e h back (Err errno) is less = refused_part e h errno back (eqb (payload_length h) 0) refl less
+begun of e h back (Ok command.Disconnect) is less = absurd (no_less _ _ (no_payload e h command.Disconnect is (λ same. cc)) less)
+begun of e h back (Ok command.Flush) is less = absurd (no_less _ _ (no_payload e h command.Flush is (λ same. cc)) less)
+begun of e h back (Ok command.Trim) is less = absurd (no_less _ _ (no_payload e h command.Trim is (λ same. cc)) less)
+begun of e h back (Ok command.WriteZeroes) is less = absurd (no_less _ _ (no_payload e h command.WriteZeroes is (λ same. cc)) less)
+begun of e h back (Err errno) is less = refused_part of e h errno back (eqb (payload_length h) 0) refl less
 
 -- what comes of bytes that begin with 28
-header_first : (e : Exported) (front back : List ℕ) → length front ≡ 28
-    → fed (at_request e) (front ++ back) ≡ (let first = after_step e (after_header e (header_at front)) in then_fed first (fed first.machine back))
+header_first : (of : ℕ) (e : Exported) (front back : List ℕ) → length front ≡ 28
+    → fed (at_request of e) (front ++ back) ≡ (let first = after_step of e (after_header of e (header_at front)) in then_fed first (fed first.machine back))
 unfolding step
-header_first e front back long =
-    fed_append (at_request e) front back
-    ∙ ap (λ (f : Fed). then_fed f (fed f.machine back)) (fed_whole e part.Request [] front (omega (arith, long)) (omega (arith, long)))
+header_first of e front back long =
+    fed_append (at_request of e) front back
+    ∙ ap (λ (f : Fed). then_fed f (fed f.machine back)) (fed_whole of e part.Request [] front (omega (arith, long)) (omega (arith, long)))
 
 -- ---- the rest
 
-rest_parsed : (e : Exported) (rest : List ℕ) → IsRest rest → IsQuiet (fed (at_request e) rest) → Parses e rest
-rest_parsed e rest is quiet = record { messages = []; rest = rest; each = tt; whole = refl; end = inr is; sent = quiet.sent; given = quiet.requests }
+rest_parsed : (of : ℕ) (e : Exported) (rest : List ℕ) → IsRest rest → IsQuiet (fed (at_request of e) rest) → Parses of e rest
+rest_parsed of e rest is quiet = record { messages = []; rest = rest; each = tt; whole = refl; end = inr is; sent = quiet.sent; given = quiet.requests }
 
 -- ---- a message, and what comes after it
 
-answers_more : (e : Exported) (m : Message) (ms : List Message) (t : Bool) → is_end (judged e m.header) ≡ t
-    → answers e (m ∷ ms) ≡ cond t (silent (closed e)) (then_fed (answer e m) (answers e ms))
-answers_more e m ms t is = ap (λ (b : Bool). cond b (silent (closed e)) (then_fed (answer e m) (answers e ms))) is
+answers_more : (of : ℕ) (e : Exported) (m : Message) (ms : List Message) (t : Bool) → is_end (judged e m.header) ≡ t
+    → answers of e (m ∷ ms) ≡ cond t (silent (closed of e)) (then_fed (answer of e m) (answers of e ms))
+answers_more of e m ms t is = ap (λ (b : Bool). cond b (silent (closed of e)) (then_fed (answer of e m) (answers of e ms))) is
 
 or_first : (a b : Bool) → a ≡ true → a || b ≡ true
 or_first true b h = refl
@@ -99,10 +101,11 @@ end_more : (e : Exported) (m : Message) (ms : List Message) (rest : List ℕ) �
 end_more e m ms rest (inl ended) = inl (or_second (is_end (judged e m.header)) (has_end e ms) ended)
 end_more e m ms rest (inr is) = inr is
 
-message_parsed : (e : Exported) (m : Message) (tail : List ℕ) (t : Bool) → IsMessage m → is_end (judged e m.header) ≡ t → Parses e tail
-    → Parses e (message_bytes m ++ tail)
-message_parsed e m tail true is end parsed =
-    let all : fed (at_request e) (message_bytes m ++ tail) ≡ answers e (m ∷ []) = one_and_rest e m tail true is end ∙ sym (answers_more e m [] true end) in
+message_parsed : (of : ℕ) (e : Exported) (m : Message) (tail : List ℕ) (t : Bool) → IsMessage m → is_end (judged e m.header) ≡ t → Parses of e tail
+    → Parses of e (message_bytes m ++ tail)
+message_parsed of e m tail true is end parsed =
+    let all : fed (at_request of e) (message_bytes m ++ tail) ≡ answers of e (m ∷ []) = one_and_rest of e m tail true is end
+    ∙ sym (answers_more of e m [] true end) in
     record {
       messages = m ∷ [];
       rest = tail;
@@ -112,37 +115,39 @@ message_parsed e m tail true is end parsed =
       sent = ap (λ (f : Fed). f.sent) all;
       given = ap (λ (f : Fed). f.requests) all;
     }
-message_parsed e m tail false is go parsed =
-    let one = one_and_rest e m tail false is go in
-    let more = answers_more e m parsed.messages false go in
+message_parsed of e m tail false is go parsed =
+    let one = one_and_rest of e m tail false is go in
+    let more = answers_more of e m parsed.messages false go in
     record {
       messages = m ∷ parsed.messages;
       rest = parsed.rest;
       each = (is, parsed.each);
       whole = bytes_more m parsed.messages tail parsed.rest parsed.whole;
       end = end_more e m parsed.messages parsed.rest parsed.end;
-      sent = ap (λ (f : Fed). f.sent) one ∙ ap (λ (x : List ℕ). (answer e m).sent ++ x) parsed.sent ∙ sym (ap (λ (f : Fed). f.sent) more);
-      given = ap (λ (f : Fed). f.requests) one ∙ ap (λ (x : List Request). (answer e m).requests ++ x) parsed.given ∙ sym (ap (λ (f : Fed). f.requests) more);
+      sent = ap (λ (f : Fed). f.sent) one ∙ ap (λ (x : List ℕ). (answer of e m).sent ++ x) parsed.sent ∙ sym (ap (λ (f : Fed). f.sent) more);
+      given = ap (λ (f : Fed). f.requests) one ∙ ap (λ (x : List Requested). (answer of e m).requests ++ x) parsed.given
+          ∙ sym (ap (λ (f : Fed). f.requests) more);
     }
 
 -- ---- all
 
 -- bytes that begin with 28 of which this was read
-read_parsed : (n : ℕ) (e : Exported) (bytes : List ℕ) (r : Result RequestHeader Refusal) → ((tail : List ℕ) → length tail ≤ n → IsBytes tail → Parses e tail)
+read_parsed : (n : ℕ) (of : ℕ) (e : Exported) (bytes : List ℕ) (r : Result RequestHeader Refusal)
+    → ((tail : List ℕ) → length tail ≤ n → IsBytes tail → Parses of e tail)
     → IsBytes bytes → 28 ≤ length bytes
-    → length bytes ≤ suc n → header_at (take 28 bytes) ≡ r → Parses e bytes
-read_parsed n e bytes (Err refusal) next fits long most read =
+    → length bytes ≤ suc n → header_at (take 28 bytes) ≡ r → Parses of e bytes
+read_parsed n of e bytes (Err refusal) next fits long most read =
     let front = take 28 bytes in
     let back = drop 28 bytes in
     let len : length front ≡ 28 = omega (arith, length-take 28 bytes, long) in
     let same : front ++ back ≡ bytes = take-append-drop 28 bytes in
-    let all : fed (at_request e) bytes ≡ silent (closed e) =
-    ap (fed (at_request e)) (sym same) ∙ header_first e front back len
-    ∙ ap (λ (x : Result RequestHeader Refusal). let first = after_step e (after_header e x) in then_fed first (fed first.machine back)) read
-    ∙ ap (λ (f : Fed). then_fed (silent (closed e)) f) (fed_closed e [] back) in
+    let all : fed (at_request of e) bytes ≡ silent (closed of e) =
+    ap (fed (at_request of e)) (sym same) ∙ header_first of e front back len
+    ∙ ap (λ (x : Result RequestHeader Refusal). let first = after_step of e (after_header of e x) in then_fed first (fed first.machine back)) read
+    ∙ ap (λ (f : Fed). then_fed (silent (closed of e)) f) (fed_closed of e [] back) in
     let rest : IsRest bytes = inr (long, subst (λ (x : Result RequestHeader Refusal). IsRestWith x bytes) (sym read) tt) in
-    rest_parsed e bytes rest (quiet_as (fed (at_request e) bytes) (closed e) all)
-read_parsed n e bytes (Ok h) next fits long most read =
+    rest_parsed of e bytes rest (quiet_as (fed (at_request of e) bytes) (closed of e) all)
+read_parsed n of e bytes (Ok h) next fits long most read =
     let front = take 28 bytes in
     let back = drop 28 bytes in
     let len : length front ≡ 28 = omega (arith, length-take 28 bytes, long) in
@@ -150,13 +155,14 @@ read_parsed n e bytes (Ok h) next fits long most read =
     let same : front ++ back ≡ bytes = take-append-drop 28 bytes in
     elim (cases_lt (length back) (payload_length h)) [
       | inl less ↦
-          let part = begun e h back (judged e h) refl less in
-          let all : fed (at_request e) bytes ≡ silent part.0 =
-          ap (fed (at_request e)) (sym same) ∙ header_first e front back len
-          ∙ ap (λ (x : Result RequestHeader Refusal). let first = after_step e (after_header e x) in then_fed first (fed first.machine back)) read ∙ part.1 in
+          let part = begun of e h back (judged e h) refl less in
+          let all : fed (at_request of e) bytes ≡ silent part.0 =
+          ap (fed (at_request of e)) (sym same) ∙ header_first of e front back len
+          ∙ ap (λ (x : Result RequestHeader Refusal). let first = after_step of e (after_header of e x) in then_fed first (fed first.machine back)) read
+          ∙ part.1 in
           let short : length bytes < 28 + payload_length h = omega (arith, less, back_len, long) in
           let rest : IsRest bytes = inr (long, subst (λ (x : Result RequestHeader Refusal). IsRestWith x bytes) (sym read) short) in
-          rest_parsed e bytes rest (quiet_as (fed (at_request e) bytes) part.0 all)
+          rest_parsed of e bytes rest (quiet_as (fed (at_request of e) bytes) part.0 all)
       | inr enough ↦
           let l = payload_length h in
           let m : Message = record { header = h; payload = take l back } in
@@ -167,23 +173,23 @@ read_parsed n e bytes (Ok h) next fits long most read =
           append_assoc (spelling h) (take l back) tail ∙ ap (λ (x : List ℕ). spelling h ++ x) (take-append-drop l back)
           ∙ ap (λ (x : List ℕ). x ++ back) (sym spells.bytes_are) ∙ same in
           let tail_fits : IsBytes tail = IsBytes_drop l back (IsBytes_drop 28 bytes fits) in
-          subst (Parses e) parts (message_parsed e m tail (is_end (judged e h)) is refl
+          subst (Parses of e) parts (message_parsed of e m tail (is_end (judged e h)) is refl
           (next tail (omega (arith, length-drop l back, back_len, most, long)) tail_fits))
     ]
 
-parsed_within : (n : ℕ) (e : Exported) (bytes : List ℕ) → length bytes ≤ n → IsBytes bytes → Parses e bytes
-parsed_within zero e bytes most fits =
-    rest_parsed e bytes (inl (omega (arith, most)))
-    (quiet_as (fed (at_request e) bytes) (record { export = e; phase = phase.Gather part.Request; held = bytes })
-    (fed_held e part.Request [] bytes (omega (arith, most))))
-parsed_within (suc n) e bytes most fits =
+parsed_within : (n : ℕ) (of : ℕ) (e : Exported) (bytes : List ℕ) → length bytes ≤ n → IsBytes bytes → Parses of e bytes
+parsed_within zero of e bytes most fits =
+    rest_parsed of e bytes (inl (omega (arith, most)))
+    (quiet_as (fed (at_request of e) bytes) (record { of = of; export = e; phase = phase.Gather part.Request; held = bytes })
+    (fed_held of e part.Request [] bytes (omega (arith, most))))
+parsed_within (suc n) of e bytes most fits =
     elim (cases_lt (length bytes) 28) [
       | inl short ↦
-          rest_parsed e bytes (inl short)
-          (quiet_as (fed (at_request e) bytes) (record { export = e; phase = phase.Gather part.Request; held = bytes })
-          (fed_held e part.Request [] bytes (omega (arith, short))))
-      | inr long ↦ read_parsed n e bytes (header_at (take 28 bytes)) (parsed_within n e) fits long most refl
+          rest_parsed of e bytes (inl short)
+          (quiet_as (fed (at_request of e) bytes) (record { of = of; export = e; phase = phase.Gather part.Request; held = bytes })
+          (fed_held of e part.Request [] bytes (omega (arith, short))))
+      | inr long ↦ read_parsed n of e bytes (header_at (take 28 bytes)) (parsed_within n of e) fits long most refl
     ]
 
-pub parsed : (e : Exported) (bytes : List ℕ) → IsBytes bytes → Parses e bytes
-parsed e bytes fits = parsed_within (length bytes) e bytes (omega arith) fits
+pub parsed : (of : ℕ) (e : Exported) (bytes : List ℕ) → IsBytes bytes → Parses of e bytes
+parsed of e bytes fits = parsed_within (length bytes) of e bytes (omega arith) fits

@@ -9,7 +9,7 @@ use Rattle.packets.specs.Numbers.{number_in}
 use Rattle.nbd.specs.declared.command.NbdCommand.{NbdCommand}
 use Rattle.nbd.specs.declared.command.NbdCommand.TheVariants as command
 use Rattle.nbd.specs.declared.errno.Errno.{Errno}
-use Rattle.nbd.specs.declared.errno.Errno.TheVariants.{Invalid, Overflow}
+use Rattle.nbd.specs.declared.errno.Errno.TheVariants.{Invalid, NotSupported, Overflow}
 use Rattle.nbd.specs.declared.header.RequestHeader.{RequestHeader}
 use Rattle.nbd.specs.declared.options.Next.{Next}
 use Rattle.nbd.specs.declared.options.Next.TheVariants.{Negotiate, Transmit, Close}
@@ -20,7 +20,7 @@ use Rattle.nbd.specs.declared.phase.Phase.TheVariants as phase
 use Rattle.nbd.specs.declared.phase.Refused.{Refused}
 use Rattle.nbd.specs.declared.phase.Refused.TheVariants as refused
 use Rattle.nbd.specs.Exports.{Exported}
-use Rattle.nbd.specs.Judging.{command_at, may_have, is_whole, is_long, past_end, judged_range, judged_as, judged_flush, judged}
+use Rattle.nbd.specs.Judging.{command_at, may_have, is_whole, is_fast, is_long, past_end, judged_range, judged_as, judged_flush, judged}
 use Rattle.nbd.specs.Machine.{IsDue, Waits}
 use Rattle.nbd.specs.Options.{option_magic, option_replied}
 use Rattle.nbd.specs.Requests.{header_at}
@@ -84,8 +84,9 @@ pub range_served : (e : Exported) (c d : NbdCommand) (h : RequestHeader) → jud
 range_served e c d h is =
     let p0 = passed (not (may_have c h.flags && is_whole h.offset h.length)) Invalid _ d is in
     let p1 = passed (is_long c h.length) Overflow _ d p0.1 in
-    let p2 = passed (nat_lt (4096 * e.blocks) (h.offset + h.length)) (past_end c) (Ok c) d p1.1 in
-    (record { whole = second _ _ p0.0; short = p1.0; inside = not_above _ _ p2.0 }, served_is c d p2.1)
+    let p2 = passed (nat_lt (4096 * e.blocks) (h.offset + h.length)) (past_end c) _ d p1.1 in
+    let p3 = passed (is_fast h.flags) NotSupported (Ok c) d p2.1 in
+    (record { whole = second _ _ p0.0; short = p1.0; inside = not_above _ _ p2.0 }, served_is c d p3.1)
 
 third : (a b c : Bool) → a && (b && c) ≡ true → c ≡ true
 third true true true h = refl
@@ -126,6 +127,8 @@ served_as e (Some command.Read) h d is =
     let p = range_served e command.Read d h is in (ap (λ (x : NbdCommand). Some x) p.1, subst (λ (x : NbdCommand). ServedAs e x h) p.1 p.0)
 served_as e (Some command.Write) h d is =
     let p = range_served e command.Write d h is in (ap (λ (x : NbdCommand). Some x) p.1, subst (λ (x : NbdCommand). ServedAs e x h) p.1 p.0)
+served_as e (Some command.Trim) h d is =
+    let p = range_served e command.Trim d h is in (ap (λ (x : NbdCommand). Some x) p.1, subst (λ (x : NbdCommand). ServedAs e x h) p.1 p.0)
 served_as e (Some command.WriteZeroes) h d is =
     let p = range_served e command.WriteZeroes d h is in (ap (λ (x : NbdCommand). Some x) p.1, subst (λ (x : NbdCommand). ServedAs e x h) p.1 p.0)
 
@@ -143,28 +146,29 @@ refuses_waits : (e : Exported) (h : RequestHeader) (errno : Errno) → Waits e (
 refuses_waits e h errno =
     cond_waits e (eqb (payload_length h) 0) _ _ (λ _. (omega arith, tt)) (λ more. (some (payload_length h) more, refl))
 
-begins_waits : (e : Exported) (h : RequestHeader) (r : Result NbdCommand Errno) → judged e h ≡ r → Waits e (begins h r).phase []
-begins_waits e h (Ok command.Read) is = (omega arith, tt)
-begins_waits e h (Ok command.Write) is = ((payload_bounded e h is).0, is)
-begins_waits e h (Ok command.Disconnect) is = refl
-begins_waits e h (Ok command.Flush) is = (omega arith, tt)
-begins_waits e h (Ok command.WriteZeroes) is = (omega arith, tt)
-begins_waits e h (Err errno) is = refuses_waits e h errno
+begins_waits : (of : ℕ) (e : Exported) (h : RequestHeader) (r : Result NbdCommand Errno) → judged e h ≡ r → Waits e (begins of h r).phase []
+begins_waits of e h (Ok command.Read) is = (omega arith, tt)
+begins_waits of e h (Ok command.Write) is = ((payload_bounded e h is).0, is)
+begins_waits of e h (Ok command.Disconnect) is = refl
+begins_waits of e h (Ok command.Flush) is = (omega arith, tt)
+begins_waits of e h (Ok command.Trim) is = (omega arith, tt)
+begins_waits of e h (Ok command.WriteZeroes) is = (omega arith, tt)
+begins_waits of e h (Err errno) is = refuses_waits e h errno
 
-pub header_waits : (e : Exported) (r : Result RequestHeader Refusal) → Waits e (after_header e r).phase []
-header_waits e (Ok h) = begins_waits e h (judged e h) refl
-header_waits e (Err refusal) = refl
+pub header_waits : (of : ℕ) (e : Exported) (r : Result RequestHeader Refusal) → Waits e (after_header of e r).phase []
+header_waits of e (Ok h) = begins_waits of e h (judged e h) refl
+header_waits of e (Err refusal) = refl
 
 -- ---- all
 
-pub step_waits : (e : Exported) (p : Part) (bytes : List ℕ) → Waits e (step e p bytes).phase []
+pub step_waits : (of : ℕ) (e : Exported) (p : Part) (bytes : List ℕ) → Waits e (step of e p bytes).phase []
 unfolding step
-step_waits e part.ClientFlags bytes = cond_waits e (nat_lt (number_in 4 0 bytes) 4) _ _ (λ _. (omega arith, tt)) (λ _. refl)
-step_waits e (part.Option no_zeroes) bytes =
+step_waits of e part.ClientFlags bytes = cond_waits e (nat_lt (number_in 4 0 bytes) 4) _ _ (λ _. (omega arith, tt)) (λ _. refl)
+step_waits of e (part.Option no_zeroes) bytes =
     cond_waits e (eqb (number_in 8 0 bytes) option_magic) _ _ (λ _. option_waits e no_zeroes (number_in 4 8 bytes) (number_in 4 12 bytes)) (λ _. refl)
-step_waits e (part.OptionData no_zeroes option length) bytes = next_waits e no_zeroes (option_replied e no_zeroes option bytes).next
-step_waits e part.Request bytes = header_waits e (header_at bytes)
-step_waits e (part.Payload h) bytes = (omega arith, tt)
+step_waits of e (part.OptionData no_zeroes option length) bytes = next_waits e no_zeroes (option_replied e no_zeroes option bytes).next
+step_waits of e part.Request bytes = header_waits of e (header_at bytes)
+step_waits of e (part.Payload h) bytes = (omega arith, tt)
 
 pub skipped_waits : (e : Exported) (r : Refused) → Waits e (skipped r).phase []
 unfolding skipped

@@ -1,10 +1,10 @@
 -- What holds of each request that is given out.
 use Rattle.std.specs.Prelude.{ℕ, ◌≡◌, ◌≢◌, ◌+◌, ◌*◌, ◌<◌, ◌≤◌, length}
 use Rattle.nbd.specs.declared.command.NbdCommand.TheVariants.{Read, Write, Flush, Disconnect}
-use Rattle.nbd.specs.declared.request.Request.{Request}
+use Rattle.nbd.specs.Requested.{Requested}
 
 -- the request is for blocks of a device of `blocks` blocks, and a WRITE has a payload of as many as it is for
-pub record IsInside (blocks : ℕ) (r : Request) : Type 0 where
+pub record IsInside (blocks : ℕ) (r : Requested) : Type 0 where
   pub stays : r.command ≢ Disconnect
   pub some : r.command ≢ Flush → 0 < r.block_count
   pub inside : r.first_block + r.block_count ≤ blocks

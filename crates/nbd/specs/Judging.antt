@@ -1,9 +1,9 @@
 -- Which requests are served, and with which error the others are refused.
-use Rattle.std.specs.Prelude.{ℕ, ◌+◌, ◌*◌, ◌%◌, ◌==◌, Bool, false, ◌&&◌, not, nat_lt, if◌then◌else◌, Option, Some, None, Result, Ok, Err}
+use Rattle.std.specs.Prelude.{ℕ, ◌+◌, ◌*◌, ◌%◌, ◌==◌, Bool, false, ◌&&◌, not, nat_lt, bit_and, if◌then◌else◌, Option, Some, None, Result, Ok, Err}
 use Rattle.nbd.specs.declared.command.NbdCommand.{NbdCommand}
 use Rattle.nbd.specs.declared.command.NbdCommand.TheVariants as command
 use Rattle.nbd.specs.declared.errno.Errno.{Errno}
-use Rattle.nbd.specs.declared.errno.Errno.TheVariants.{Invalid, NoSpace, Overflow}
+use Rattle.nbd.specs.declared.errno.Errno.TheVariants.{Invalid, NoSpace, NotSupported, Overflow}
 use Rattle.nbd.specs.declared.header.RequestHeader.{RequestHeader}
 use Rattle.nbd.specs.Exports.{Exported}
 
@@ -13,6 +13,7 @@ kind_of command.Read = 0
 kind_of command.Write = 1
 kind_of command.Disconnect = 2
 kind_of command.Flush = 3
+kind_of command.Trim = 4
 kind_of command.WriteZeroes = 6
 
 -- the command with a number
@@ -22,12 +23,21 @@ command_at kind =
     if kind == 1 then Some command.Write else
     if kind == 2 then Some command.Disconnect else
     if kind == 3 then Some command.Flush else
+    if kind == 4 then Some command.Trim else
     if kind == 6 then Some command.WriteZeroes else None
 
--- whether a command may have these flags: FUA (1) may come with each, NO_HOLE (2) with WRITE_ZEROES alone
+-- the flags that may come with a command: FUA (1) with each, NO_HOLE (2) and FAST_ZERO (16) with WRITE_ZEROES alone
+abbrev pub allowed : NbdCommand → ℕ
+allowed command.WriteZeroes = 19
+allowed _ = 1
+
+-- whether a command may have these flags
 abbrev pub may_have : NbdCommand → ℕ → Bool
-may_have command.WriteZeroes flags = nat_lt flags 4
-may_have _ flags = nat_lt flags 2
+may_have c flags = bit_and flags (allowed c) == flags
+
+-- whether these flags ask for zeros only where they are faster than a WRITE
+abbrev pub is_fast : ℕ → Bool
+is_fast flags = bit_and flags 16 == 16
 
 -- at least one block, and only whole blocks
 abbrev pub is_whole : ℕ → ℕ → Bool
@@ -35,6 +45,7 @@ is_whole offset length = (offset % 4096 == 0) && ((length % 4096 == 0) && nat_lt
 
 -- whether a request has more bytes than its payload or its reply's may have
 abbrev pub is_long : NbdCommand → ℕ → Bool
+is_long command.Trim length = false
 is_long command.WriteZeroes length = false
 is_long _ length = nat_lt 33554432 length
 
@@ -44,12 +55,13 @@ past_end command.Write = NoSpace
 past_end command.WriteZeroes = NoSpace
 past_end _ = Invalid
 
--- a request for blocks: flags, then whole blocks, then its length, then its range
+-- a request for blocks: flags, then whole blocks, then its length, then its range; and zeros over a link are never fast
 abbrev pub judged_range : Exported → NbdCommand → RequestHeader → Result NbdCommand Errno
 judged_range e c h =
     if not (may_have c h.flags && is_whole h.offset h.length) then Err Invalid else
     if is_long c h.length then Err Overflow else
-    if nat_lt (4096 * e.blocks) (h.offset + h.length) then Err (past_end c) else Ok c
+    if nat_lt (4096 * e.blocks) (h.offset + h.length) then Err (past_end c) else
+    if is_fast h.flags then Err NotSupported else Ok c
 
 -- FLUSH has no range: the offset and the length are 0
 abbrev pub judged_flush : RequestHeader → Result NbdCommand Errno

@@ -5,7 +5,9 @@ pub mod Judging
 pub mod Machine
 pub mod Messages
 pub mod Options
+pub mod Outputs
 pub mod Pieces
 pub mod Replies
+pub mod Requested
 pub mod Requests
 pub mod Steps

@@ -7,13 +7,14 @@ use Rattle.nbd.specs.declared.phase.Phase.{Phase}
 use Rattle.nbd.specs.declared.phase.Phase.TheVariants as phase
 use Rattle.nbd.specs.declared.phase.Refused.{Refused}
 use Rattle.nbd.specs.declared.phase.Refused.TheVariants as refused
-use Rattle.nbd.specs.declared.request.Request.{Request}
+use Rattle.nbd.specs.Requested.{Requested}
 use Rattle.nbd.specs.Exports.{Exported}
 use Rattle.nbd.specs.Judging.{judged}
 use Rattle.nbd.specs.Steps.{wanted, Stepped, step, skipped}
 
--- a connection as contracts see it: the export that it serves, what it waits for, and the bytes of that which it has
+-- a connection as contracts see it: its number, the export that it serves, what it waits for, and the bytes of that which it has
 pub record Machine : Type 0 where
+  pub of : ℕ
   pub export : Exported
   pub phase : Phase
   pub held : List ℕ
@@ -41,25 +42,25 @@ is_negotiating phase.Closed = false
 pub record Fed : Type 0 where
   pub machine : Machine
   pub sent : List ℕ
-  pub requests : List Request
+  pub requests : List Requested
 
 -- no result beside the connection
 abbrev pub silent : Machine → Fed
 silent m = record { machine = m; sent = []; requests = [] }
 
 -- the result of a step, with no bytes held any more
-abbrev pub after_step : Exported → Stepped → Fed
-after_step e s = record { machine = record { export = e; phase = s.phase; held = [] }; sent = s.sent; requests = s.requests }
+abbrev pub after_step : ℕ → Exported → Stepped → Fed
+after_step of e s = record { machine = record { of = of; export = e; phase = s.phase; held = [] }; sent = s.sent; requests = s.requests }
 
 -- the next byte: the last of its part makes a step, and one that is skipped is counted
-abbrev pub with_byte : Exported → Phase → List ℕ → ℕ → Fed
-with_byte e (phase.Gather p) held byte =
-    if length held + 1 == wanted p then after_step e (step e p (held ++ byte ∷ []))
-    else silent (record { export = e; phase = phase.Gather p; held = held ++ byte ∷ [] })
-with_byte e (phase.Skip left refused) held byte =
-    if left == 1 then after_step e (skipped refused)
-    else silent (record { export = e; phase = phase.Skip (left - 1) refused; held = [] })
-with_byte e phase.Closed held byte = silent (record { export = e; phase = phase.Closed; held = held })
+abbrev pub with_byte : ℕ → Exported → Phase → List ℕ → ℕ → Fed
+with_byte of e (phase.Gather p) held byte =
+    if length held + 1 == wanted p then after_step of e (step of e p (held ++ byte ∷ []))
+    else silent (record { of = of; export = e; phase = phase.Gather p; held = held ++ byte ∷ [] })
+with_byte of e (phase.Skip left refused) held byte =
+    if left == 1 then after_step of e (skipped refused)
+    else silent (record { of = of; export = e; phase = phase.Skip (left - 1) refused; held = [] })
+with_byte of e phase.Closed held byte = silent (record { of = of; export = e; phase = phase.Closed; held = held })
 
 -- one result after another
 abbrev pub then_fed : Fed → Fed → Fed
@@ -68,7 +69,7 @@ then_fed a b = record { machine = b.machine; sent = a.sent ++ b.sent; requests =
 -- the result of bytes, one after another
 unfoldable pub fed : Machine → List ℕ → Fed
 fed m [] = silent m
-fed m (byte ∷ bytes) = let first = with_byte m.export m.phase m.held byte in then_fed first (fed first.machine bytes)
+fed m (byte ∷ bytes) = let first = with_byte m.of m.export m.phase m.held byte in then_fed first (fed first.machine bytes)
 
 -- what holds of a part: a payload is that of a WRITE that is served
 abbrev pub IsDue : Exported → Part → Type 0
@@ -89,13 +90,13 @@ IsPortion (phase.Skip left refused) held count = count ≤ left
 IsPortion phase.Closed held count = Unit {0}
 
 -- the connection has this result: how it goes on, and what was put at the end of both lists
-pub record Adds (f : Fed) (m : Machine) (old_bytes new_bytes : List ℕ) (old_requests new_requests : List Request) : Type 0 where
+pub record Adds (f : Fed) (m : Machine) (old_bytes new_bytes : List ℕ) (old_requests new_requests : List Requested) : Type 0 where
   pub machine : m ≡ f.machine
   pub sent : new_bytes ≡ old_bytes ++ f.sent
   pub given : new_requests ≡ old_requests ++ f.requests
 
 -- the rest of a result, after these parts of it were put at the end of both lists
-pub record Continues (all rest : Fed) (old_bytes new_bytes : List ℕ) (old_requests new_requests : List Request) : Type 0 where
+pub record Continues (all rest : Fed) (old_bytes new_bytes : List ℕ) (old_requests new_requests : List Requested) : Type 0 where
   pub machine : all.machine ≡ rest.machine
   pub sent : old_bytes ++ all.sent ≡ new_bytes ++ rest.sent
   pub given : old_requests ++ all.requests ≡ new_requests ++ rest.requests

@@ -37,23 +37,23 @@ abbrev pub stream_of : List Message → List ℕ
 stream_of messages = flat_map message_bytes messages
 
 -- a connection between two requests
-abbrev pub at_request : Exported → Machine
-at_request e = record { export = e; phase = phase.Gather part.Request; held = [] }
+abbrev pub at_request : ℕ → Exported → Machine
+at_request of e = record { of = of; export = e; phase = phase.Gather part.Request; held = [] }
 
 -- a connection that is closed
-abbrev pub closed : Exported → Machine
-closed e = record { export = e; phase = phase.Closed; held = [] }
+abbrev pub closed : ℕ → Exported → Machine
+closed of e = record { of = of; export = e; phase = phase.Closed; held = [] }
 
 -- the result of a message that is judged so: a request that is served is given out with its payload, one that is
 -- refused has its reply, and one to disconnect ends the connection
-abbrev pub answer_as : Exported → Message → Result NbdCommand Errno → Fed
-answer_as e m (Ok command.Disconnect) = silent (closed e)
-answer_as e m (Ok c) = record { machine = at_request e; sent = []; requests = request_of c m.header m.payload ∷ [] }
-answer_as e m (Err errno) = record { machine = at_request e; sent = reply_spelling (failure m.header.cookie errno); requests = [] }
+abbrev pub answer_as : ℕ → Exported → Message → Result NbdCommand Errno → Fed
+answer_as of e m (Ok command.Disconnect) = silent (closed of e)
+answer_as of e m (Ok c) = record { machine = at_request of e; sent = []; requests = request_of of c m.header m.payload ∷ [] }
+answer_as of e m (Err errno) = record { machine = at_request of e; sent = reply_spelling (failure m.header.cookie errno); requests = [] }
 
 -- the result of a message
-abbrev pub answer : Exported → Message → Fed
-answer e m = answer_as e m (judged e m.header)
+abbrev pub answer : ℕ → Exported → Message → Fed
+answer of e m = answer_as of e m (judged e m.header)
 
 -- whether a message ends the connection
 abbrev pub is_end : Result NbdCommand Errno → Bool
@@ -61,9 +61,9 @@ is_end (Ok command.Disconnect) = true
 is_end _ = false
 
 -- the result of messages, one after another, up to one that ends the connection
-abbrev pub answers : Exported → List Message → Fed
-answers e [] = silent (at_request e)
-answers e (m ∷ messages) = if is_end (judged e m.header) then silent (closed e) else then_fed (answer e m) (answers e messages)
+abbrev pub answers : ℕ → Exported → List Message → Fed
+answers of e [] = silent (at_request of e)
+answers of e (m ∷ messages) = if is_end (judged e m.header) then silent (closed of e) else then_fed (answer of e m) (answers of e messages)
 
 -- whether one of the messages ends the connection
 abbrev pub has_end : Exported → List Message → Bool
@@ -80,14 +80,14 @@ IsRest rest = (length rest < 28) ⊎ ((28 ≤ length rest) × IsRestWith (header
 
 -- the bytes of a client are messages and then a rest, and their result is the answers to those messages and nothing
 -- else
-pub record Parses (e : Exported) (bytes : List ℕ) : Type 0 where
+pub record Parses (of : ℕ) (e : Exported) (bytes : List ℕ) : Type 0 where
   pub messages : List Message
   pub rest : List ℕ
   pub each : AllByRecursion IsMessage messages
   pub whole : bytes ≡ stream_of messages ++ rest
   pub end : (has_end e messages ≡ true) ⊎ IsRest rest
-  pub sent : (fed (at_request e) bytes).sent ≡ (answers e messages).sent
-  pub given : (fed (at_request e) bytes).requests ≡ (answers e messages).requests
+  pub sent : (fed (at_request of e) bytes).sent ≡ (answers of e messages).sent
+  pub given : (fed (at_request of e) bytes).requests ≡ (answers of e messages).requests
 
 -- ---- the handshake
 
@@ -106,17 +106,17 @@ unfoldable pub option_bytes : ClientOption → List ℕ
 option_bytes o = number_bytes 8 option_magic ++ number_bytes 4 o.number ++ number_bytes 4 (length o.bytes) ++ o.bytes
 
 -- a connection that waits for an option
-abbrev pub at_option : Exported → Bool → Machine
-at_option e no_zeroes = record { export = e; phase = phase.Gather (part.Option no_zeroes); held = [] }
+abbrev pub at_option : ℕ → Exported → Bool → Machine
+at_option of e no_zeroes = record { of = of; export = e; phase = phase.Gather (part.Option no_zeroes); held = [] }
 
 -- an option with too many data: EXPORT_NAME closes the connection, since it has no error reply
-abbrev pub too_big : Exported → Bool → ℕ → Fed
-too_big e no_zeroes option =
-    if option == 1 then silent (closed e)
-    else record { machine = at_option e no_zeroes; sent = option_reply option rep_err_too_big []; requests = [] }
+abbrev pub too_big : ℕ → Exported → Bool → ℕ → Fed
+too_big of e no_zeroes option =
+    if option == 1 then silent (closed of e)
+    else record { machine = at_option of e no_zeroes; sent = option_reply option rep_err_too_big []; requests = [] }
 
 -- the result of an option
-abbrev pub option_answer : Exported → Bool → ClientOption → Fed
-option_answer e no_zeroes o =
-    if nat_lt 8192 (length o.bytes) then too_big e no_zeroes o.number
-    else after_step e (after_reply no_zeroes (option_replied e no_zeroes o.number o.bytes))
+abbrev pub option_answer : ℕ → Exported → Bool → ClientOption → Fed
+option_answer of e no_zeroes o =
+    if nat_lt 8192 (length o.bytes) then too_big of e no_zeroes o.number
+    else after_step of e (after_reply no_zeroes (option_replied e no_zeroes o.number o.bytes))

@@ -42,10 +42,10 @@ unfoldable pub option_reply : ℕ → ℕ → List ℕ → List ℕ
 option_reply option kind bytes =
     number_bytes 8 0x3E889045565A9 ++ number_bytes 4 option ++ number_bytes 4 kind ++ number_bytes 4 (length bytes) ++ bytes
 
--- the device's bytes, and the transmission flags: HAS_FLAGS (1), SEND_FLUSH (4), SEND_FUA (8), SEND_WRITE_ZEROES (64)
--- and CAN_MULTI_CONN (256)
+-- the device's bytes, and the transmission flags: HAS_FLAGS (1), SEND_FLUSH (4), SEND_FUA (8), SEND_TRIM (32),
+-- SEND_WRITE_ZEROES (64), CAN_MULTI_CONN (256) and SEND_FAST_ZERO (2048)
 unfoldable pub size_and_flags : Exported → List ℕ
-size_and_flags e = number_bytes 8 (4096 * e.blocks) ++ number_bytes 2 333
+size_and_flags e = number_bytes 8 (4096 * e.blocks) ++ number_bytes 2 2413
 
 -- NBD_INFO_EXPORT
 abbrev pub info_export : Exported → List ℕ

@@ -17,7 +17,7 @@ use Rattle.nbd.specs.declared.phase.Phase.TheVariants as phase
 use Rattle.nbd.specs.declared.phase.Refused.{Refused}
 use Rattle.nbd.specs.declared.phase.Refused.TheVariants as refused
 use Rattle.nbd.specs.declared.reply.Reply.{Reply}
-use Rattle.nbd.specs.declared.request.Request.{Request}
+use Rattle.nbd.specs.Requested.{Requested}
 use Rattle.nbd.specs.declared.step.Made.{Made}
 use Rattle.nbd.specs.declared.step.Made.TheVariants as made
 use Rattle.nbd.specs.declared.step.Step.{Step}
@@ -39,7 +39,7 @@ wanted (part.Payload header) = header.length
 pub record Stepped : Type 0 where
   pub phase : Phase
   pub sent : List ℕ
-  pub requests : List Request
+  pub requests : List Requested
 
 -- the connection goes on so, with no other result
 abbrev pub goes_on : Phase → Stepped
@@ -88,9 +88,10 @@ after_option e no_zeroes bytes =
 
 -- ---- requests
 
--- the request that is given out for a header and its payload
-abbrev pub request_of : NbdCommand → RequestHeader → List ℕ → Request
-request_of c h payload = record {
+-- the request that a connection of this number gives out for a header and its payload
+abbrev pub request_of : ℕ → NbdCommand → RequestHeader → List ℕ → Requested
+request_of of c h payload = record {
+  of = of;
   command = c;
   fua = h.flags % 2 == 1;
   cookie = h.cookie;
@@ -100,8 +101,8 @@ request_of c h payload = record {
 }
 
 -- a request is given out
-abbrev pub gives : NbdCommand → RequestHeader → List ℕ → Stepped
-gives c h payload = record { phase = phase.Gather part.Request; sent = []; requests = request_of c h payload ∷ [] }
+abbrev pub gives : ℕ → NbdCommand → RequestHeader → List ℕ → Stepped
+gives of c h payload = record { phase = phase.Gather part.Request; sent = []; requests = request_of of c h payload ∷ [] }
 
 -- how many bytes follow a header: only a WRITE, served or not, has a payload
 abbrev pub payload_length : RequestHeader → ℕ
@@ -114,26 +115,26 @@ refuses h errno =
     else goes_on (phase.Skip (payload_length h) (refused.Write h.cookie errno))
 
 -- a request that was judged so
-abbrev pub begins : RequestHeader → Result NbdCommand Errno → Stepped
-begins h (Ok command.Disconnect) = goes_on phase.Closed
-begins h (Ok command.Write) = goes_on (phase.Gather (part.Payload h))
-begins h (Ok c) = gives c h []
-begins h (Err errno) = refuses h errno
+abbrev pub begins : ℕ → RequestHeader → Result NbdCommand Errno → Stepped
+begins of h (Ok command.Disconnect) = goes_on phase.Closed
+begins of h (Ok command.Write) = goes_on (phase.Gather (part.Payload h))
+begins of h (Ok c) = gives of c h []
+begins of h (Err errno) = refuses h errno
 
 -- the header of a request, or bytes that are none
-abbrev pub after_header : Exported → Result RequestHeader Refusal → Stepped
-after_header e (Ok h) = begins h (judged e h)
-after_header e (Err refusal) = goes_on phase.Closed
+abbrev pub after_header : ℕ → Exported → Result RequestHeader Refusal → Stepped
+after_header of e (Ok h) = begins of h (judged e h)
+after_header of e (Err refusal) = goes_on phase.Closed
 
 -- ---- all
 
 -- the result of a part, once all of its bytes are there
-unfoldable pub step : Exported → Part → List ℕ → Stepped
-step e part.ClientFlags bytes = after_flags (number_in 4 0 bytes)
-step e (part.Option no_zeroes) bytes = after_option e no_zeroes bytes
-step e (part.OptionData no_zeroes option length) bytes = after_reply no_zeroes (option_replied e no_zeroes option bytes)
-step e part.Request bytes = after_header e (header_at bytes)
-step e (part.Payload h) bytes = gives command.Write h bytes
+unfoldable pub step : ℕ → Exported → Part → List ℕ → Stepped
+step of e part.ClientFlags bytes = after_flags (number_in 4 0 bytes)
+step of e (part.Option no_zeroes) bytes = after_option e no_zeroes bytes
+step of e (part.OptionData no_zeroes option length) bytes = after_reply no_zeroes (option_replied e no_zeroes option bytes)
+step of e part.Request bytes = after_header of e (header_at bytes)
+step of e (part.Payload h) bytes = gives of command.Write h bytes
 
 -- the result of a refusal, once the bytes that it skips are past
 unfoldable pub skipped : Refused → Stepped
@@ -155,7 +156,7 @@ made_bytes (made.Reply reply) = reply_spelling reply
 made_bytes (made.Request request) = []
 
 -- the requests that are given out
-abbrev pub made_requests : Made → List Request
+abbrev pub made_requests : Made → List Requested
 made_requests (made.Request request) = request ∷ []
 made_requests _ = []
 

@@ -1,6 +1,6 @@
 //! Commands of a request, and their flags.
 ghost use Rattle.std.specs.Prelude.{◌≡◌};
-ghost use Rattle.nbd.specs.Judging.{kind_of, command_at, may_have, is_long, past_end};
+ghost use Rattle.nbd.specs.Judging.{kind_of, command_at, allowed, may_have, is_fast, is_long, past_end};
 
 use crate::Errno;
 
@@ -14,6 +14,9 @@ pub(crate) const FLAG_FUA: u16 = 1;
 /// NBD_CMD_FLAG_NO_HOLE: the zeros are written, and no hole is made (NBD protocol, "Command flags").
 pub(crate) const FLAG_NO_HOLE: u16 = 2;
 
+/// NBD_CMD_FLAG_FAST_ZERO: the zeros are written only if that is faster than a WRITE of zeros (NBD protocol, "Command flags").
+pub(crate) const FLAG_FAST_ZERO: u16 = 16;
+
 /// The command of a request (NBD protocol, "Request types").
 #[derive(Clone, Copy, Debug, PartialEq, Eq)]
 pub enum NbdCommand {
@@ -25,6 +28,8 @@ pub enum NbdCommand {
     Disconnect,
     /// Puts all completed writes on stable storage.
     Flush,
+    /// Gives up what blocks hold. This server fills them with zeros.
+    Trim,
     /// Fills blocks with zeros.
     WriteZeroes,
 }
@@ -39,6 +44,7 @@ impl NbdCommand {
             NbdCommand::Write => 1,
             NbdCommand::Disconnect => 2,
             NbdCommand::Flush => 3,
+            NbdCommand::Trim => 4,
             NbdCommand::WriteZeroes => 6,
         }
     }
@@ -52,19 +58,27 @@ impl NbdCommand {
             1 => Some(NbdCommand::Write),
             2 => Some(NbdCommand::Disconnect),
             3 => Some(NbdCommand::Flush),
+            4 => Some(NbdCommand::Trim),
             6 => Some(NbdCommand::WriteZeroes),
             _ => None,
         }
     }
 
     /// Returns whether a request with this command may have these flags: FUA goes with each command, as the protocol
-    /// demands of a server that offers it; NO_HOLE goes with WRITE_ZEROES only.
+    /// demands of a server that offers it; NO_HOLE and FAST_ZERO go with WRITE_ZEROES only.
     pub(crate) fn may_have(self, flags: u16) -> bool
         ensures { result ≡ may_have self flags }
     {
+        flags & self.allowed_flags() == flags
+    }
+
+    // Returns the flags that a request with this command may have.
+    fn allowed_flags(self) -> u16
+        ensures { result ≡ allowed self }
+    {
         match self {
-            NbdCommand::WriteZeroes => flags <= FLAG_FUA + FLAG_NO_HOLE,
-            _ => flags <= FLAG_FUA,
+            NbdCommand::WriteZeroes => FLAG_FUA + FLAG_NO_HOLE + FLAG_FAST_ZERO,
+            _ => FLAG_FUA,
         }
     }
 
@@ -73,7 +87,7 @@ impl NbdCommand {
         ensures { result ≡ is_long self length }
     {
         match self {
-            NbdCommand::WriteZeroes => false,
+            NbdCommand::Trim | NbdCommand::WriteZeroes => false,
             _ => length > MAX_REQUEST_BYTES,
         }
     }
@@ -87,4 +101,11 @@ impl NbdCommand {
             _ => Errno::Invalid,
         }
     }
+}
+
+/// Returns whether these flags ask for zeros only where they are faster than a WRITE.
+pub(crate) fn is_fast(flags: u16) -> bool
+    ensures { result ≡ is_fast flags }
+{
+    flags & FLAG_FAST_ZERO == FLAG_FAST_ZERO
 }

@@ -1,26 +1,31 @@
 //! The server's side of one connection.
-ghost use Rattle.std.specs.Prelude.{◌≡◌, ◌+◌, ◌<◌, ◌≤◌, ◌++◌, [], length, IfErr, OnErr, OnOk, IsTrue, ◌↔◌};
+ghost use Rattle.std.specs.Prelude.{◌≡◌, ◌+◌, ◌<◌, ◌≤◌, ◌++◌, [], length, IfErr, IfOk, OnErr, OnOk, IsTrue, ◌↔◌};
 ghost use Rattle.blocks.specs.declared.refusal.Refusal.TheVariants.{NoMemory};
 ghost use Rattle.nbd.specs.declared.phase.Phase.TheVariants as phase;
 ghost use Rattle.nbd.specs.declared.phase.Part.TheVariants as part;
 ghost use Rattle.std.specs.List.{AllByRecursion};
 ghost use Rattle.nbd.specs.Inside.{IsInside};
 ghost use Rattle.nbd.specs.Machine.{Adds, Begins, IsPortion, Waits, fed, after_step, is_negotiating};
+ghost use Rattle.nbd.specs.Options.{greeting};
+ghost use Rattle.nbd.specs.Requested.{IsOf};
 ghost use Rattle.nbd.specs.Steps.{view};
 
+use crate::options::greeting;
 use crate::phase::{Part, Phase, Refused};
 use crate::step::{Step, end_skip, take_part};
-use crate::{Export, Output};
+use crate::{Export, Output, Sayings};
 use blocks::Refusal;
 use std::alloc::Global;
 use std::marker::Model;
 use std::mem;
 
 /// The server's side of one connection. It takes the client's bytes in any pieces, and produces the bytes to
-/// send back and the requests to serve. The server sends [`greeting`](crate::greeting) first.
+/// send back and the requests to serve. The server sends [`Connection::greet`] first.
 #[derive(Drop)]
 pub struct Connection {
     alloc: Global,
+    // Its number, which each of its requests and sayings has.
+    id: u64,
     export: Export,
     phase: Phase,
     // The bytes that have arrived of the part that the phase gathers; empty in any other phase.
@@ -32,15 +37,17 @@ impl Model for Connection {
 
     ghost Value = { Machine };
 
-    ghost view = { λ c. record { export = c.export; phase = c.phase; held = c.held.items } };
+    ghost view = { λ c. record { of = c.id; export = c.export; phase = c.phase; held = c.held.items } };
 
     ghost invariant = { λ c. Waits c.export c.phase c.held.items };
 }
 
 impl Connection {
-    /// Creates a connection whose client has sent nothing yet. Takes no memory.
-    pub fn new(alloc: Global, export: Export) -> Connection
+    /// Creates a connection with the number `id`, whose client has sent nothing yet. Takes no memory. A caller with several
+    /// connections gives each another number.
+    pub fn new(alloc: Global, export: Export, id: u64) -> Connection
         ensures { result ≡ record {
+          of = id;
           export = export;
           phase = phase.Gather part.ClientFlags;
           held = [];
@@ -48,10 +55,22 @@ impl Connection {
     {
         Connection {
             alloc,
+            id,
             export,
             phase: Phase::Gather(Part::ClientFlags),
             held: Vec::new(alloc),
         }
+    }
+
+    /// Returns the bytes that a server sends first. `NoMemory` (7) is the only refusal.
+    pub fn greet(&self) -> Result<Sayings, Refusal>
+        ensures of { IfOk result (λ s. s.of ≡ self.now.of) }
+        ensures bytes { IfOk result (λ s. s.bytes ≡ greeting) }
+        ensures refused { IfErr result (λ e. e ≡ NoMemory) }
+    {
+        let mut bytes = Vec::new(self.alloc);
+        bytes.extend_from_slice(greeting().as_slice())?;
+        Ok(Sayings::new(self.id, bytes))
     }
 
     /// Returns whether the connection is closed: the client disconnected or broke the protocol, or memory ran out. The
@@ -74,38 +93,36 @@ impl Connection {
         }
     }
 
-    /// Takes the client's next bytes, and appends to `out` the bytes to send back and the requests to serve.
-    /// It does not matter how the bytes are cut.
+    /// Takes the client's next bytes, and returns the bytes to send back and the requests to serve. It does not matter how the bytes
+    /// are cut.
     ///
-    /// A request that [`Export::judge`] refuses gets one error reply, in `out`, and is not given to the
+    /// A request that [`Export::judge`] refuses gets one error reply, in the output, and is not given to the
     /// caller; the payload of a refused WRITE is skipped and never kept. A closed connection ignores all
-    /// further bytes. `NoMemory` (7), the only refusal, closes the connection and leaves `out` as it was.
-    pub fn feed(&mut self, piece: &[u8], out: &mut Output) -> Result<(), Refusal>
+    /// further bytes. `NoMemory` (7), the only refusal, closes the connection and gives no output.
+    pub fn feed(&mut self, piece: &[u8]) -> Result<Output, Refusal>
         ensures machine { OnOk result (self.new ≡ (fed self.old piece.now).machine) }
-        ensures sent { OnOk result (out.new.bytes.items
-            ≡ out.old.bytes.items ++ (fed self.old piece.now).sent) }
-        ensures given { OnOk result (out.new.requests.items
-            ≡ out.old.requests.items ++ (fed self.old piece.now).requests) }
+        ensures sent { IfOk result (λ out. out.bytes ≡ (fed self.old piece.now).sent) }
+        ensures given { IfOk result (λ out. out.requests ≡ (fed self.old piece.now).requests) }
         ensures closed { OnErr result (self.new.phase ≡ phase.Closed) }
-        ensures same_bytes { OnErr result (out.new.bytes.items ≡ out.old.bytes.items) }
-        ensures same_requests { OnErr result (out.new.requests.items ≡ out.old.requests.items) }
         ensures refused { IfErr result (λ e. e ≡ NoMemory) }
         // Each request lies inside the device.
         ensures inside { AllByRecursion (IsInside self.old.export.blocks) (fed self.old piece.now).requests }
+        // Each request is this connection's, and so is the output.
+        ensures of { AllByRecursion (IsOf self.old.of) (fed self.old piece.now).requests }
+        ensures number { self.new.of ≡ self.old.of }
+        ensures own { IfOk result (λ out. out.of ≡ self.old.of) }
         // The bytes that the connection holds between two calls.
         ensures bounded { length self.new.held ≤ 28 + 33554432 }
     {
         self.is_waiting();
-        let sent = out.bytes.len();
-        let given = out.requests.len();
-        let taken = self.take_all(piece, out);
+        let mut out = Output::new(self.alloc, self.id);
+        let taken = self.take_all(piece, &mut out);
         if taken.is_err() {
-            out.bytes.truncate(sent);
-            out.requests.truncate(given);
             self.close();
         }
         self.is_waiting();
-        taken
+        taken?;
+        Ok(out)
     }
 
     /// Proof hint: brings the invariant of the phase and the bound on the held bytes into scope.
@@ -118,6 +135,7 @@ impl Connection {
 
     /// Closes the connection.
     fn close(&mut self)
+        ensures number { self.new.of ≡ self.old.of }
         ensures phase { self.new.phase ≡ phase.Closed }
         ensures held { self.new.held ≡ [] }
     {
@@ -128,9 +146,11 @@ impl Connection {
     /// Takes a piece, portion after portion. An error may leave some output in `out`.
     fn take_all(&mut self, piece: &[u8], out: &mut Output) -> Result<(), Refusal>
         ensures adds { OnOk result (Adds (fed self.old piece.now) self.new
-            out.old.bytes.items out.new.bytes.items out.old.requests.items out.new.requests.items) }
-        ensures begins { Begins out.old.bytes.items out.new.bytes.items }
-        ensures begins_given { Begins out.old.requests.items out.new.requests.items }
+            out.old.bytes out.new.bytes out.old.requests out.new.requests) }
+        ensures number { self.new.of ≡ self.old.of }
+        ensures own { out.new.of ≡ out.old.of }
+        ensures begins { Begins out.old.bytes out.new.bytes }
+        ensures begins_given { Begins out.old.requests out.new.requests }
         ensures refused { IfErr result (λ e. e ≡ NoMemory) }
     {
         let mut rest = piece;
@@ -160,10 +180,12 @@ impl Connection {
     fn take(&mut self, bytes: &[u8], out: &mut Output) -> Result<(), Refusal>
         requires some { 0 < length bytes.now }
         requires portion { IsPortion self.old.phase self.old.held (length bytes.now) }
+        ensures number { self.new.of ≡ self.old.of }
+        ensures own { out.new.of ≡ out.old.of }
         ensures adds { OnOk result (Adds (fed self.old bytes.now) self.new
-            out.old.bytes.items out.new.bytes.items out.old.requests.items out.new.requests.items) }
-        ensures same_bytes { OnErr result (out.new.bytes.items ≡ out.old.bytes.items) }
-        ensures same_requests { OnErr result (out.new.requests.items ≡ out.old.requests.items) }
+            out.old.bytes out.new.bytes out.old.requests out.new.requests) }
+        ensures same_bytes { OnErr result (out.new.bytes ≡ out.old.bytes) }
+        ensures same_requests { OnErr result (out.new.requests ≡ out.old.requests) }
         ensures refused { IfErr result (λ e. e ≡ NoMemory) }
     {
         let phase = self.phase;
@@ -175,7 +197,7 @@ impl Connection {
             Phase::Gather(part) => {
                 let mut held = mem::replace(&mut self.held, Vec::new(self.alloc));
                 held.extend_from_slice(bytes)?;
-                let step = take_part(self.alloc, &self.export, part, &mut held)?;
+                let step = take_part(self.alloc, self.id, &self.export, part, &mut held)?;
                 held.clear();
                 self.take_step(step, held, out)
             }
@@ -200,10 +222,12 @@ impl Connection {
     fn take_step(&mut self, step: Step, mut held: Vec<u8>, out: &mut Output) -> Result<(), Refusal>
         requires empty { held.items ≡ [] }
         requires waits { Waits self.old.export step.phase [] }
-        ensures adds { OnOk result (Adds (after_step self.old.export (view step)) self.new
-            out.old.bytes.items out.new.bytes.items out.old.requests.items out.new.requests.items) }
-        ensures same_bytes { OnErr result (out.new.bytes.items ≡ out.old.bytes.items) }
-        ensures same_requests { OnErr result (out.new.requests.items ≡ out.old.requests.items) }
+        ensures number { self.new.of ≡ self.old.of }
+        ensures own { out.new.of ≡ out.old.of }
+        ensures adds { OnOk result (Adds (after_step self.old.of self.old.export (view step)) self.new
+            out.old.bytes out.new.bytes out.old.requests out.new.requests) }
+        ensures same_bytes { OnErr result (out.new.bytes ≡ out.old.bytes) }
+        ensures same_requests { OnErr result (out.new.requests ≡ out.old.requests) }
         ensures refused { IfErr result (λ e. e ≡ NoMemory) }
     {
         if let Phase::Gather(part) = step.phase {

@@ -2,6 +2,7 @@
 ghost use Rattle.std.specs.Prelude.{◌≡◌, ◌*◌, ◌≤◌, length, string_bytes};
 ghost use Rattle.nbd.specs.Judging.{judged, judged_flush, judged_range, is_whole};
 
+use crate::command::is_fast;
 use crate::{Errno, NbdCommand, RequestHeader};
 use blocks::BLOCK_BYTES;
 use std::marker::Model;
@@ -62,7 +63,8 @@ impl Export {
     /// 2. `Invalid` if the offset or the length is not of whole blocks, whether or not the client asked for
     ///    the block size, or if the length is 0, whose meaning the protocol leaves open;
     /// 3. `Overflow` for a READ or a WRITE of more than 33,554,432 bytes;
-    /// 4. for a range past the device's end `NoSpace` at a WRITE or a WRITE_ZEROES, `Invalid` at a READ.
+    /// 4. for a range past the device's end `NoSpace` at a WRITE or a WRITE_ZEROES, `Invalid` at a READ or a TRIM;
+    /// 5. `NotSupported` for a WRITE_ZEROES with FAST_ZERO: its zeros go over the link, so they are no faster than a WRITE.
     ///
     /// A FLUSH has no range: it is `Invalid` unless its offset and its length are 0, as the protocol demands.
     /// A request to disconnect is always accepted, since it has no reply.
@@ -76,9 +78,8 @@ impl Export {
         match command {
             NbdCommand::Disconnect => Ok(command),
             NbdCommand::Flush => judge_flush(header),
-            NbdCommand::Read | NbdCommand::Write | NbdCommand::WriteZeroes => {
-                self.judge_range(command, header)
-            }
+            NbdCommand::Read | NbdCommand::Write | NbdCommand::Trim | NbdCommand::WriteZeroes =>
+                self.judge_range(command, header),
         }
     }
 
@@ -96,6 +97,9 @@ impl Export {
         let length = u64::from(header.length);
         if length > bytes || header.offset > bytes - length {
             return Err(command.past_end());
+        }
+        if is_fast(header.flags) {
+            return Err(Errno::NotSupported);
         }
         Ok(command)
     }

@@ -19,27 +19,27 @@ pub fn one_piece_after_another()
 /// An option has one reply, whatever its length: if it has too much data, it is refused, or closes the connection if it
 /// is EXPORT_NAME.
 pub fn one_reply_to_an_option()
-    ensures { (e : Exported) (no_zeroes : Bool) (o : ClientOption) → FitsOption o
-        → fed (at_option e no_zeroes) (option_bytes o) ≡ option_answer e no_zeroes o }
+    ensures { (of : ℕ) (e : Exported) (no_zeroes : Bool) (o : ClientOption) → FitsOption o
+        → fed (at_option of e no_zeroes) (option_bytes o) ≡ option_answer of e no_zeroes o }
 {}
 
 /// A message has one answer: an accepted request is given out once, with its payload; a refused one gets one
 /// reply, with its cookie; there is no other output.
 pub fn one_answer()
-    ensures { (e : Exported) (m : Message) → IsMessage m
-        → fed (at_request e) (message_bytes m) ≡ answer e m }
+    ensures { (of : ℕ) (e : Exported) (m : Message) → IsMessage m
+        → fed (at_request of e) (message_bytes m) ≡ answer of e m }
 {}
 
 /// Each of several messages is answered in its turn.
 pub fn each_is_answered()
-    ensures { (e : Exported) (messages : List Message) → AllByRecursion IsMessage messages
-        → fed (at_request e) (stream_of messages) ≡ answers e messages }
+    ensures { (of : ℕ) (e : Exported) (messages : List Message) → AllByRecursion IsMessage messages
+        → fed (at_request of e) (stream_of messages) ≡ answers of e messages }
 {}
 
 /// The bytes that a client sends, whatever they are, are messages and then a rest that begins with no whole message.
 /// The output is the answers to those messages and nothing else.
 pub fn nothing_else()
-    ensures { (e : Exported) (bytes : List ℕ) → ((i : ℕ) → slice_index bytes i < 256) → Parses e bytes }
+    ensures { (of : ℕ) (e : Exported) (bytes : List ℕ) → ((i : ℕ) → slice_index bytes i < 256) → Parses of e bytes }
 {}
 
 /// The ranges of a request cover its blocks, each block once, and the device takes each of them.

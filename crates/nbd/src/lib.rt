@@ -15,6 +15,7 @@ mod phase;
 mod ranges;
 mod reply;
 mod request;
+mod sayings;
 mod step;
 
 pub use command::NbdCommand;
@@ -26,9 +27,9 @@ pub use laws::{
     each_is_answered, nothing_else, one_answer, one_piece_after_another, one_reply_to_an_option,
     ranges_cover,
 };
-pub use options::greeting;
 pub use output::Output;
 pub use packets::FixedPart;
 pub use ranges::Ranges;
 pub use reply::{REPLY_BYTES, Reply};
 pub use request::Request;
+pub use sayings::Sayings;

@@ -21,8 +21,9 @@ pub(crate) const OPTION_MAGIC: u64 = 0x4948_4156_454F_5054;
 /// The handshake flags: FIXED_NEWSTYLE (1) and NO_ZEROES (2).
 const HANDSHAKE_FLAGS: u16 = 3;
 
-/// The transmission flags: HAS_FLAGS (1), SEND_FLUSH (4), SEND_FUA (8), SEND_WRITE_ZEROES (64) and CAN_MULTI_CONN (256).
-const TRANSMISSION_FLAGS: u16 = 333;
+/// The transmission flags: HAS_FLAGS (1), SEND_FLUSH (4), SEND_FUA (8), SEND_TRIM (32), SEND_WRITE_ZEROES (64), CAN_MULTI_CONN (256)
+/// and SEND_FAST_ZERO (2048).
+const TRANSMISSION_FLAGS: u16 = 2413;
 
 /// NBD_OPT_EXPORT_NAME.
 pub(crate) const OPT_EXPORT_NAME: u32 = 1;
@@ -82,7 +83,7 @@ pub(crate) struct OptionReply {
 
 /// Returns the 18 bytes that a server sends first (NBD protocol, "Fixed newstyle negotiation").
 #[tactic(auto, unfolding(crate::specs::Options::greeting))]
-pub fn greeting() -> FixedPart
+pub(crate) fn greeting() -> FixedPart
     ensures { result ≡ greeting }
 {
     let mut out = FixedPart::new();

@@ -56,17 +56,18 @@ impl Step {
     }
 }
 
-/// Returns the step of a part whose bytes are all held. A payload is moved out of `held` and not copied. `NoMemory` (7)
-/// is the only refusal.
+/// Returns the step of a part whose bytes are all held, on the connection with the number `of`. A payload is moved out of `held`
+/// and not copied. `NoMemory` (7) is the only refusal.
 #[tactic(auto, unfolding(crate::specs::Steps::step))]
 pub(crate) fn take_part(
     alloc: Global,
+    of: u64,
     export: &Export,
     part: Part,
     held: &mut Vec<u8>,
 ) -> Result<Step, Refusal>
     requires { length held.old.items ≡ wanted part }
-    ensures made { IfOk result (λ s. view s ≡ step export.now part held.old.items) }
+    ensures made { IfOk result (λ s. view s ≡ step of export.now part held.old.items) }
     ensures waits { IfOk result (λ s. Waits export.now s.phase []) }
     ensures refused { IfErr result (λ e. e ≡ NoMemory) }
 {
@@ -82,10 +83,10 @@ pub(crate) fn take_part(
             no_zeroes,
             reply_to_option(alloc, export, no_zeroes, option, bytes)?,
         )),
-        Part::Request => Ok(after_header(export, RequestHeader::decode(bytes))),
+        Part::Request => Ok(after_header(of, export, RequestHeader::decode(bytes))),
         Part::Payload(header) => {
             let payload = Bytes::from_vec(mem::replace(held, Vec::new(alloc)))?;
-            Ok(give(NbdCommand::Write, &header, payload))
+            Ok(give(of, NbdCommand::Write, &header, payload))
         }
     }
 }
@@ -172,23 +173,23 @@ fn after_reply(no_zeroes: bool, answer: OptionReply) -> Step
 }
 
 /// Returns the step of a request's header. A client that sends anything else is out of step: the connection closes.
-fn after_header(export: &Export, header: Result<RequestHeader, Refusal>) -> Step
-    ensures { view result ≡ after_header export.now header }
+fn after_header(of: u64, export: &Export, header: Result<RequestHeader, Refusal>) -> Step
+    ensures { view result ≡ after_header of export.now header }
 {
     match header {
-        Ok(header) => begin(&header, export.judge(&header)),
+        Ok(header) => begin(of, &header, export.judge(&header)),
         Err(_) => Step::to(Phase::Closed),
     }
 }
 
 /// Returns the step of a request that was judged.
-fn begin(header: &RequestHeader, judged: Result<NbdCommand, Errno>) -> Step
-    ensures { view result ≡ begins header.now judged }
+fn begin(of: u64, header: &RequestHeader, judged: Result<NbdCommand, Errno>) -> Step
+    ensures { view result ≡ begins of header.now judged }
 {
     match judged {
         Ok(NbdCommand::Disconnect) => Step::to(Phase::Closed),
         Ok(NbdCommand::Write) => Step::to(Phase::Gather(Part::Payload(*header))),
-        Ok(command) => give(command, header, Bytes::new()),
+        Ok(command) => give(of, command, header, Bytes::new()),
         Err(errno) => refuse_request(header, errno),
     }
 }
@@ -223,11 +224,11 @@ fn fail(cookie: u64, errno: Errno) -> Step
 }
 
 /// Returns the step that gives a request to the caller.
-fn give(command: NbdCommand, header: &RequestHeader, payload: Bytes) -> Step
-    ensures { view result ≡ gives command header.now payload }
+fn give(of: u64, command: NbdCommand, header: &RequestHeader, payload: Bytes) -> Step
+    ensures { view result ≡ gives of command header.now payload }
 {
     Step {
         phase: Phase::Gather(Part::Request),
-        made: Made::Request(Request::with(command, header, payload)),
+        made: Made::Request(Request::with(of, command, header, payload)),
     }
 }

@@ -1,24 +1,19 @@
 //! The threads that let clients in, one for each address.
 use crate::client::Client;
 use crate::client_stream::ClientStream;
+use crate::conversation::Conversation;
 use crate::listener::Socket;
-use crate::reader::serve_client;
-use crate::service::Service;
+use crate::service::{MAX_CLIENTS, Service};
 use blocks::Refusal;
-use session_api::Runtime;
-use std::alloc::Global;
-use std::sync::Arc;
+use std::sync::{Arc, Wait};
 use std::thread;
-use std::time::Duration;
-
-/// The most clients at a time. Further ones are closed at once.
-const MAX_CLIENTS: u32 = 256;
+use std::time::{Clock, Duration};
 
 /// How long a thread that lets clients in waits after a failure, in milliseconds.
 const PAUSE_MS: u64 = 100;
 
-/// Lets clients in at an address, each with a thread of its own, until the server ends.
-pub(crate) fn accept_clients<R: Runtime>(rt: R, service: &Arc<Service, Global>, listener: &Socket) {
+/// Lets clients in at an address, until the server ends. A session gives each a thread.
+pub(crate) fn accept_clients<R: Wait + Clock>(rt: &R, service: &Service, listener: &Socket) {
     for _ in rt.forever() {
         let accepted = listener.accept();
         if service.is_over() {
@@ -28,33 +23,20 @@ pub(crate) fn accept_clients<R: Runtime>(rt: R, service: &Arc<Service, Global>, 
             Ok(stream) => {
                 let _ = welcome(rt, service, stream);
             }
-            Err(_) => thread::sleep(&rt, Duration::from_millis(PAUSE_MS)),
+            Err(_) => thread::sleep(rt, Duration::from_millis(PAUSE_MS)),
         }
     }
 }
 
-// Starts the thread of a client.
-fn welcome<R: Runtime>(
-    rt: R,
-    service: &Arc<Service, Global>,
-    stream: ClientStream,
-) -> Result<(), Refusal> {
-    let client = Arc::new(service.alloc, Client::new(service.alloc, stream))?;
-    let shared = Arc::try_clone(service)?;
-    if shared.enter() >= MAX_CLIENTS || client.prepare().is_err() {
-        shared.leave();
+// Has a client wait for a thread. If there are too many, it is closed.
+fn welcome<R: Wait>(rt: &R, service: &Service, stream: ClientStream) -> Result<(), Refusal> {
+    let number = service.client_number();
+    let client = Arc::new(service.alloc, Client::new(service.alloc, number, stream))?;
+    if service.enter() >= MAX_CLIENTS || client.prepare().is_err() {
+        service.leave();
         return Ok(());
     }
-    let started = thread::spawn(&rt, move || {
-        match serve_client(&rt, &shared, &client) {
-            Ok(()) => client.end(&rt),
-            Err(_) => client.close(),
-        }
-        shared.leave();
-    });
-    if started.is_err() {
-        service.leave();
-        return Err(Refusal::NoMemory);
-    }
+    let conversation = Conversation::new(service, client);
+    service.conversations.put(rt, conversation, service);
     Ok(())
 }

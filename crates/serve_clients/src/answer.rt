@@ -1,190 +1,227 @@
-//! Requests done together.
+//! Requests of a client done together.
 use crate::client::Client;
-use crate::job::Job;
+use crate::conversation::Conversation;
 use crate::request_budget::places_of;
 use crate::service::Service;
 use crate::sync_queue::Unsynced;
+use blocks::Refusal;
+use nbd::{NbdCommand, Request};
 use primary::Receipt;
-use serve_requests::{Answer, RequestUnderWay, asks_for_sync};
+use serve_requests::{RequestUnderWay, asks_for_sync};
 use session_api::Device;
-use std::alloc::{AllocError, Global};
+use std::alloc::Global;
+use std::sync::atomic::{AtomicBool, Ordering};
 use std::sync::{Arc, Wait};
-use std::time::Clock;
+use std::time::{Clock, Instant};
 
-/// The most requests that a thread does together.
+/// The most requests that are done together.
 const TOGETHER: usize = 16;
 
-/// The most blocks of a request that is done together with others: 2 MiB of data. A longer one is done by itself. A WRITE_ZEROES
-/// of 1 GiB begins 8,192 ranges, and shorter requests that began with it would wait for seconds until all of them have.
+/// The most blocks of the requests that are done together: 2 MiB of data. A longer request is done by itself. A WRITE_ZEROES of 4 GiB
+/// begins 32,768 ranges, and shorter requests that began with it would wait for seconds until all of them have.
 const SHORT_BLOCKS: u32 = 512;
 
-/// A request that was begun, and the client that waits for its reply.
-#[derive(Drop)]
-struct Pending {
-    under_way: RequestUnderWay,
-    client: Arc<Client, Global>,
-    // Whether it waits for stable storage.
-    syncs: bool,
-}
+/// The most blocks of data of a reply that is never sent by another thread: 32 KiB.
+const HELD_BLOCKS: u32 = 8;
 
-/// The requests that a thread does together.
+/// Requests of a client that were begun.
 #[derive(Drop)]
 struct Batch {
-    // Those that do not wait for stable storage.
-    quick: Vec<Pending>,
-    // Those that do, and those of them that have ended.
-    syncing: Vec<Pending>,
+    // Those that do not wait for stable storage, and those that do, first under way and then ended. Each has room for all, so that what was
+    // begun is also ended.
+    quick: Vec<RequestUnderWay>,
+    syncing: Vec<RequestUnderWay>,
     unsynced: Vec<Unsynced>,
-    // The clients whose replies are held.
-    answered: Vec<Arc<Client, Global>>,
-    // The long request that is done next, by itself.
-    long: Option<Job>,
+    // When they were taken, if there is a clock.
+    begun: Option<Instant>,
+    // Whether it is one long request, whose reply the caller sends.
+    is_long: bool,
+}
+
+/// Does the next requests of a client: begins as many as are done together, then ends one after another, and sends their replies in one
+/// piece. Those that wait for stable storage come last, and are left to the thread that syncs for all clients. Appends the receipts of
+/// their writes. Does none if the next request has to wait; the caller then calls again.
+pub(crate) fn answer_some<R: Wait + Clock>(
+    rt: &R,
+    service: &Service,
+    device: &impl Device,
+    conversation: &mut Conversation,
+    receipts: &mut Vec<Receipt>,
+) -> Result<(), Refusal> {
+    if conversation.next_blocks().unwrap_or(0) <= SHORT_BLOCKS {
+        let batch = begin_short(rt, service, device, conversation)?;
+        return end_all(rt, service, device, &conversation.client, batch, receipts);
+    }
+    // Few long requests are done at a time, so that they leave the device to the short ones of other clients. How long a client takes to
+    // read its reply is another matter.
+    if !service.long_requests.take(rt, 1) {
+        return Ok(());
+    }
+    let done = answer_long(rt, service, device, conversation, receipts);
+    service.long_requests.free(rt, 1);
+    conversation.client.send_held(rt);
+    done
+}
+
+// Does a long request by itself. It may have waited for its turn, so the session may be over.
+fn answer_long<R: Wait + Clock>(
+    rt: &R,
+    service: &Service,
+    device: &impl Device,
+    conversation: &mut Conversation,
+    receipts: &mut Vec<Receipt>,
+) -> Result<(), Refusal> {
+    if service.is_session_over() {
+        return Ok(());
+    }
+    let mut batch = Batch::new(rt, service)?;
+    batch.is_long = true;
+    batch.begin_next(rt, service, device, conversation)?;
+    end_all(rt, service, device, &conversation.client, batch, receipts)
+}
+
+// Begins the next short requests, until as many are begun as are done together, a long one comes, or one has to wait for places.
+fn begin_short<R: Wait + Clock>(
+    rt: &R,
+    service: &Service,
+    device: &impl Device,
+    conversation: &mut Conversation,
+) -> Result<Batch, Refusal> {
+    let mut batch = Batch::new(rt, service)?;
+    let mut blocks = 0u32;
+    for _ in 0..TOGETHER {
+        let Some(more) = conversation.next_blocks() else {
+            break;
+        };
+        blocks = blocks.saturating_add(more);
+        if blocks > SHORT_BLOCKS || !batch.begin_next(rt, service, device, conversation)? {
+            break;
+        }
+    }
+    Ok(batch)
 }
 
 impl Batch {
-    // Creates a batch with room for as many requests as are done together.
-    fn new(alloc: Global) -> Result<Batch, AllocError> {
+    // Creates a batch with no request.
+    fn new<R: Clock>(rt: &R, service: &Service) -> Result<Batch, Refusal> {
         Ok(Batch {
-            quick: Vec::with_capacity(alloc, TOGETHER)?,
-            syncing: Vec::with_capacity(alloc, TOGETHER)?,
-            unsynced: Vec::with_capacity(alloc, TOGETHER)?,
-            answered: Vec::with_capacity(alloc, TOGETHER)?,
-            long: None,
+            quick: Vec::with_capacity(service.alloc, TOGETHER)?,
+            syncing: Vec::with_capacity(service.alloc, TOGETHER)?,
+            unsynced: Vec::with_capacity(service.alloc, TOGETHER)?,
+            begun: Instant::now(rt).ok(),
+            is_long: false,
         })
     }
 
-    // Adds a request. There is room for it.
-    fn put(&mut self, pending: Pending) {
-        let list = if pending.syncs {
-            &mut self.syncing
+    // Begins the next request of a client. Returns whether it did: not if its reply may wait and it gets no places.
+    fn begin_next<R: Wait + Clock>(
+        &mut self,
+        rt: &R,
+        service: &Service,
+        device: &impl Device,
+        conversation: &mut Conversation,
+    ) -> Result<bool, Refusal> {
+        let Some(next) = conversation.next() else {
+            return Ok(false);
+        };
+        let syncs = asks_for_sync(next);
+        // Those that were begun do not wait for it.
+        let waits = self.quick.is_empty() && self.syncing.is_empty();
+        if needs_places(next) && !conversation.client.take_places(rt, places_of(next), waits) {
+            return Ok(false);
+        }
+        let Some(request) = conversation.take_next() else {
+            return Ok(false);
+        };
+        let under_way = service.requests.begin(device, request);
+        if syncs {
+            self.syncing.push(under_way)?;
         } else {
-            &mut self.quick
-        };
-        let _ = list.push(pending);
-    }
-}
-
-/// Does a request and those that already wait behind it: begins all of them, then ends one after another, and sends their
-/// replies. Those that wait for stable storage come last, or are left to a thread that syncs for others. A long request is
-/// done by itself: if one waits, those before it are answered first. Appends the receipts of their writes.
-pub(crate) fn answer<R: Wait + Clock>(
-    rt: &R,
-    service: &Service,
-    device: &impl Device,
-    job: Job,
-    receipts: &mut Vec<Receipt>,
-) {
-    if let Some(long) = answer_batch(rt, service, device, job, receipts) {
-        // It takes no further requests, so none is left.
-        let _ = answer_batch(rt, service, device, long, receipts);
-    }
-}
-
-// Does a request and, if it is short, the short ones that already wait behind it. Returns the long one at which it stopped.
-fn answer_batch<R: Wait + Clock>(
-    rt: &R,
-    service: &Service,
-    device: &impl Device,
-    job: Job,
-    receipts: &mut Vec<Receipt>,
-) -> Option<Job> {
-    let takes_more = !is_long(&job);
-    let first = begin(service, device, job);
-    let Ok(mut batch) = Batch::new(service.alloc) else {
-        let ended = end(service, device, first, receipts);
-        finish(rt, service, device, ended).send_held(rt);
-        return None;
-    };
-    batch.put(first);
-    if takes_more {
-        fill(rt, service, device, &mut batch);
-    }
-    end_all(rt, service, device, batch, receipts)
-}
-
-// Begins the short requests that already wait, until the batch is full or a long one comes.
-fn fill<R: Wait>(rt: &R, service: &Service, device: &impl Device, batch: &mut Batch) {
-    for _ in 1..TOGETHER {
-        // The other threads may have ended the session meanwhile: then its room is kept for what is begun.
-        if service.is_session_over() {
-            break;
+            self.quick.push(under_way)?;
         }
-        let Ok(job) = service.queue.try_recv(rt) else {
-            break;
-        };
-        if is_long(&job) {
-            batch.long = Some(job);
-            break;
-        }
-        batch.put(begin(service, device, job));
+        Ok(true)
     }
 }
 
-// Returns whether a request is done by itself.
-fn is_long(job: &Job) -> bool {
-    job.request.block_count > SHORT_BLOCKS
+// Returns whether the reply to a request may wait while its client's thread goes on: it waits for stable storage, or another thread sends
+// its data.
+fn needs_places(request: &Request) -> bool {
+    asks_for_sync(request)
+        || (request.command() == NbdCommand::Read && request.block_count() > HELD_BLOCKS)
 }
 
-// Ends the requests of a batch, and sends their replies. Those that wait for stable storage have all ended before the first of
-// them is finished, so that one sync does for them. Returns the long request that is done next.
+// Sends the replies that are held if they are many bytes, by another thread if one has nothing to do: this one has more.
+fn send_if_full<R: Wait + Clock>(rt: &R, service: &Service, client: &Arc<Client, Global>) {
+    if client.is_full(rt) && !service.senders.send(rt, client) {
+        client.send_held(rt);
+    }
+}
+
+// Ends the requests of a batch, and sends their replies. Those that wait for stable storage have all ended before the first of them is
+// finished, so that one sync does for them.
 fn end_all<R: Wait + Clock>(
     rt: &R,
     service: &Service,
     device: &impl Device,
+    client: &Arc<Client, Global>,
     batch: Batch,
     receipts: &mut Vec<Receipt>,
-) -> Option<Job> {
+) -> Result<(), Refusal> {
     let Batch {
         quick,
         syncing,
         mut unsynced,
-        mut answered,
-        long,
+        begun,
+        is_long,
     } = batch;
-    for pending in quick {
-        let ended = end(service, device, pending, receipts);
-        let _ = answered.push(finish(rt, service, device, ended));
+    for under_way in quick {
+        let ended = service.requests.end(device, under_way, receipts);
+        let command = ended.request().command();
+        let places = if needs_places(ended.request()) {
+            places_of(ended.request())
+        } else {
+            0
+        };
+        let answer = service.requests.finish(rt, device, ended);
+        service.counts.latencies.note(rt, command, begun);
+        client.reply(rt, answer, places);
+        if !is_long {
+            send_if_full(rt, service, client);
+        }
     }
-    send_all(rt, &mut answered);
-    for pending in syncing {
-        let _ = unsynced.push(end(service, device, pending, receipts));
+    if !is_long {
+        client.send_held(rt);
     }
-    if !unsynced.is_empty() {
-        sync_for(rt, service, device, unsynced, long.is_some());
+    for under_way in syncing {
+        let ended = service.requests.end(device, under_way, receipts);
+        let client = Arc::try_clone(client)?;
+        unsynced.push(Unsynced {
+            ended,
+            client,
+            begun,
+        })?;
     }
-    long
+    if !unsynced.is_empty() && !service.syncs.put(rt, &mut unsynced) {
+        finish_all(rt, service, device, unsynced);
+    }
+    Ok(())
 }
 
-// Has requests finished that wait for stable storage: by the thread that syncs now, or else by this one, which then syncs for
-// all threads. If a long request is next, it syncs for these alone: further ones may come without end, and it would wait for them.
-fn sync_for<R: Wait + Clock>(
+/// Finishes the requests of all clients that wait for stable storage as they come, until the session is over and none is left.
+pub(crate) fn finish_waiting<R: Wait + Clock>(
     rt: &R,
     service: &Service,
     device: &impl Device,
-    unsynced: Vec<Unsynced>,
-    is_long_next: bool,
+    over: &AtomicBool,
 ) {
-    let mut unsynced = unsynced;
-    let is_left = if is_long_next {
-        service.syncs.leave(rt, &mut unsynced)
-    } else {
-        service.syncs.put(rt, &mut unsynced).is_ok()
-    };
-    if !is_left {
-        finish_all(rt, service, device, unsynced);
-    } else if !is_long_next {
-        finish_waiting(rt, service, device);
-    }
-}
-
-// Finishes the requests of all threads that wait for stable storage, unless another thread does.
-fn finish_waiting<R: Wait + Clock>(rt: &R, service: &Service, device: &impl Device) {
+    service.syncs.attend(rt);
     for _ in rt.forever() {
-        let Some(waiting) = service.syncs.begin(rt) else {
-            break;
-        };
+        let is_over = over.load(Ordering::SeqCst);
+        let waiting = service.syncs.take(rt);
         finish_all(rt, service, device, waiting);
-        service.syncs.end(rt);
+        if is_over && service.syncs.retire(rt) {
+            break;
+        }
     }
 }
 
@@ -195,68 +232,17 @@ fn finish_all<R: Wait + Clock>(
     device: &impl Device,
     unsynced: Vec<Unsynced>,
 ) {
-    let mut answered = Vec::new(service.alloc);
-    let is_room = answered.try_reserve(unsynced.len()).is_ok();
     for ended in unsynced {
-        let client = finish(rt, service, device, ended);
-        if is_room {
-            let _ = answered.push(client);
-        } else {
-            client.send_held(rt);
-        }
-    }
-    send_all(rt, &mut answered);
-}
-
-// Begins a request.
-fn begin(service: &Service, device: &impl Device, job: Job) -> Pending {
-    let Job { request, client } = job;
-    let syncs = asks_for_sync(&request);
-    Pending {
-        under_way: service.requests.begin(device, request),
-        client,
-        syncs,
-    }
-}
-
-// Ends a request.
-fn end(
-    service: &Service,
-    device: &impl Device,
-    pending: Pending,
-    receipts: &mut Vec<Receipt>,
-) -> Unsynced {
-    let Pending {
-        under_way,
-        client,
-        ..
-    } = pending;
-    Unsynced {
-        ended: service.requests.end(device, under_way, receipts),
-        client,
-    }
-}
-
-// Finishes a request, and holds its reply at its client's connection.
-fn finish<R: Wait + Clock>(
-    rt: &R,
-    service: &Service,
-    device: &impl Device,
-    unsynced: Unsynced,
-) -> Arc<Client, Global> {
-    let Unsynced { ended, client } = unsynced;
-    let places = places_of(ended.request());
-    let Answer { reply, data } = service.requests.finish(rt, device, ended);
-    client.reply(rt, &reply, data, places);
-    client
-}
-
-// Sends the replies that these clients wait for.
-fn send_all<R: Wait + Clock>(rt: &R, answered: &mut Vec<Arc<Client, Global>>) {
-    for _ in 0..answered.len() {
-        let Some(client) = answered.pop() else {
-            break;
-        };
+        let Unsynced {
+            ended,
+            client,
+            begun,
+        } = ended;
+        let command = ended.request().command();
+        let places = places_of(ended.request());
+        let answer = service.requests.finish(rt, device, ended);
+        service.counts.latencies.note(rt, command, begun);
+        client.reply(rt, answer, places);
         client.send_held(rt);
     }
 }

@@ -3,29 +3,28 @@ ghost use Rattle.std.specs.Io.{ReadsAtMost};
 
 use crate::client_stream::ClientStream;
 use crate::reply_queue::ReplyQueue;
-use crate::request_budget::RequestBudget;
+use crate::request_budget::{PLACES, RequestBudget};
 use crate::timed_writer::{Outcome, is_passing};
 use crate::waiting::Waiting;
-use nbd::Reply;
+use nbd::Sayings;
+use serve_requests::Answer;
 use std::alloc::Global;
+use std::io;
 use std::net::Shutdown;
 use std::sync::atomic::{AtomicBool, Ordering};
 use std::sync::{Mutex, Wait};
 use std::time::{Clock, Duration, Instant};
-use std::{io, thread};
 
 /// How long a client has for each MiB of replies that it begins, in milliseconds. If it is slower, its connection is
 /// closed.
 const PATIENCE_MS: u16 = 10_000;
 
-/// How long it has while a thread writes to it that also answers others. If it is slower, its own thread goes on.
+/// How long it has while a thread of a session writes to it. If it is slower, a thread outside of the session goes on.
 const SHORT_PATIENCE_MS: u16 = 20;
 
-/// The time between two looks whether another thread has ended its turn, in milliseconds.
-const TURN_MS: u64 = 1;
-
-/// How long a read waits before its thread looks whether the server ends, in milliseconds.
-const LOOK_MS: u64 = 250;
+/// How long a read waits before its thread looks whether the session or the server ends, in milliseconds: a session ends for all clients
+/// only once each thread has looked.
+const LOOK_MS: u64 = 100;
 
 /// How long a client has to end its side once all replies are written, in seconds.
 const LINGER_S: u64 = 2;
@@ -33,30 +32,36 @@ const LINGER_S: u64 = 2;
 /// The most bytes that are discarded at once.
 const DISCARDED_BYTES: usize = 4096;
 
-/// A client's connection. Threads that answer requests write to it only while it takes bytes at once, so that no client
-/// waits for another one. If it does not, the client's own thread writes, and the others leave their replies to it. One
-/// thread writes at a time, without the lock, so that no other one waits for it.
+/// A client's connection. The threads of a session write to it only while it takes bytes at once, so that neither a session nor another
+/// client waits for it. If it does not, a thread outside of the session writes, and the others leave their replies to that. One thread
+/// writes at a time, without the lock, so that no other one waits for it.
 #[derive(Drop)]
 pub(crate) struct Client {
+    // Its connection's number, which no other client has.
+    number: u64,
     stream: ClientStream,
     // No thread writes to the socket, or frees places, while it holds this lock.
     waiting: Mutex<Waiting>,
     // Whether the connection failed. Then nothing more is written.
     is_closed: AtomicBool,
     places: RequestBudget,
-    alloc: Global,
 }
 
 impl Client {
-    /// Creates the client at the other end of a socket.
-    pub(crate) fn new(alloc: Global, stream: ClientStream) -> Client {
+    /// Creates the client at the other end of a socket, with this number, which no other client has.
+    pub(crate) fn new(alloc: Global, number: u64, stream: ClientStream) -> Client {
         Client {
+            number,
             stream,
-            waiting: Mutex::new(Waiting::new(alloc)),
+            waiting: Mutex::new(Waiting::new(alloc, number)),
             is_closed: AtomicBool::new(false),
-            places: RequestBudget::new(),
-            alloc,
+            places: RequestBudget::new(PLACES),
         }
+    }
+
+    /// Returns its number, for its connection.
+    pub(crate) fn number(&self) -> u64 {
+        self.number
     }
 
     /// Makes the socket send without delay, and limits how long a read waits.
@@ -65,32 +70,23 @@ impl Client {
         self.stream.limit_reads(Duration::from_millis(LOOK_MS))
     }
 
-    /// Holds a reply, and the data that follow it, until the next `send_held`; its request has `places` places. If much
-    /// is held, sends it at once. If there is no memory to hold it, closes the connection.
-    pub(crate) fn reply<R: Wait + Clock>(
-        &self,
-        rt: &R,
-        header: &Reply,
-        data: Vec<u8>,
-        places: u32,
-    ) {
-        let mut waiting = self.waiting.lock(rt);
-        if waiting
-            .put(header.encode().as_slice(), data, places)
-            .is_err()
-        {
+    /// Holds an answer until the next `send_held`; its request has `places` places. If there is no memory to hold it, or it is for
+    /// another client, closes the connection: no clause can say whose answer comes here, over the locks between the threads, so the
+    /// queue compares the numbers.
+    pub(crate) fn reply<R: Wait>(&self, rt: &R, answer: Answer, places: u32) {
+        if self.waiting.lock(rt).put(answer, places).is_err() {
             self.close();
-        }
-        let is_full = waiting.is_full();
-        drop(waiting);
-        if is_full {
-            self.send_held(rt);
         }
     }
 
+    /// Returns whether many bytes are held.
+    pub(crate) fn is_full<R: Wait>(&self, rt: &R) -> bool {
+        self.waiting.lock(rt).is_full()
+    }
+
     /// Sends the replies that are held, and those that other threads are to send meanwhile, and frees the places of their
-    /// requests. If the client does not take them at once, leaves the rest to its own thread. If the connection fails, closes
-    /// it and drops them. Returns at once if another thread writes: that one sends them.
+    /// requests. If the client does not take them at once, leaves the rest to a thread that writes late. If the connection fails,
+    /// closes it and drops them. Returns at once if another thread writes: that one sends them.
     pub(crate) fn send_held<R: Wait + Clock>(&self, rt: &R) {
         let Some(mut taken) = self.begin(rt) else {
             return;
@@ -114,14 +110,13 @@ impl Client {
         self.waiting.lock(rt).begin()
     }
 
-    // Takes what other threads were to send meanwhile. If there is nothing, or the client's own thread waits for the turn, ends
-    // it.
+    // Takes what other threads were to send meanwhile. If there is nothing, ends the turn.
     fn go_on<R: Wait>(&self, rt: &R, written: ReplyQueue) -> Option<ReplyQueue> {
         self.waiting.lock(rt).go_on(written)
     }
 
-    // Leaves the turn, and what is left, to the client's own thread. If there is no memory for that, closes the connection:
-    // under the lock, so that no thread writes what stands behind missing bytes.
+    // Leaves the turn, and what is left, to a thread that writes late. If there is no memory for that, closes the connection: under the
+    // lock, so that no thread writes what stands behind missing bytes.
     fn leave<R: Wait>(&self, rt: &R, left: ReplyQueue) {
         let mut waiting = self.waiting.lock(rt);
         if waiting.leave(left).is_err() {
@@ -137,45 +132,24 @@ impl Client {
         self.places.free(rt, taken.clear().saturating_add(dropped));
     }
 
-    /// Writes bytes to the client, after the replies that wait. For the client's own thread.
-    pub(crate) fn send<R: Wait + Clock>(&self, rt: &R, bytes: &[u8]) {
-        self.await_turn(rt);
+    /// Writes what its connection says to the client, after the replies that wait.
+    pub(crate) fn say<R: Wait + Clock>(&self, rt: &R, sayings: Sayings) {
         let mut waiting = self.waiting.lock(rt);
-        if waiting.put(bytes, Vec::new(self.alloc), 0).is_err() {
+        if waiting.say(sayings).is_err() {
             self.close();
         }
         drop(waiting);
-        self.send_late(rt);
+        self.send_held(rt);
     }
 
-    // Takes the turn for the client's own thread. If another thread writes, waits until its write is done, for which it has
-    // little time.
-    fn await_turn<R: Wait + Clock>(&self, rt: &R) {
-        for _ in rt.forever() {
-            if self.claim(rt) {
-                break;
-            }
-            thread::sleep(rt, Duration::from_millis(TURN_MS));
-        }
+    /// Returns whether replies were left to a thread that writes late.
+    pub(crate) fn is_left<R: Wait>(&self, rt: &R) -> bool {
+        self.waiting.lock(rt).is_left()
     }
 
-    // Takes the turn for the client's own thread, unless another one writes.
-    fn claim<R: Wait>(&self, rt: &R) -> bool {
-        self.waiting.lock(rt).claim()
-    }
-
-    // Returns whether a thread that also answers others has written for long.
-    fn is_long<R: Wait>(&self, rt: &R) -> bool {
-        self.waiting.lock(rt).is_long()
-    }
-
-    /// Writes the replies that were left to the client's own thread, which calls this, until there are none, and frees
-    /// the places of their requests. Takes over from a thread that also answers others and has written for long. If the
-    /// client is too slow or the connection fails, closes it and drops them.
+    /// Writes the replies that were left to a thread that writes late, which calls this, until there are none, and frees the places of
+    /// their requests. If the client is too slow or the connection fails, closes it and drops them.
     pub(crate) fn send_late<R: Wait + Clock>(&self, rt: &R) {
-        if self.is_long(rt) {
-            self.await_turn(rt);
-        }
         for _ in rt.forever() {
             let Some(mut taken) = self.take_late(rt) else {
                 break;
@@ -187,7 +161,7 @@ impl Client {
         }
     }
 
-    // Takes all that was left to the client's own thread. If nothing waits, lets any thread write again.
+    // Takes all that was left. If nothing waits, lets any thread write again.
     fn take_late<R: Wait>(&self, rt: &R) -> Option<ReplyQueue> {
         self.waiting.lock(rt).take_late()
     }
@@ -200,11 +174,19 @@ impl Client {
         outbox.write(rt, &self.stream, ms_per_mib)
     }
 
-    /// Takes `count` places for a request; waits until they are free. Meanwhile writes what is left to the client's own
-    /// thread, which calls this.
-    pub(crate) fn take_places<R: Wait + Clock>(&self, rt: &R, count: u32) {
+    /// Takes `count` places for a request whose reply may wait. Returns whether they were free, or became so in a moment if `waits`.
+    pub(crate) fn take_places<R: Wait + Clock>(&self, rt: &R, count: u32, waits: bool) -> bool {
+        if waits {
+            self.places.take(rt, count)
+        } else {
+            self.places.take_now(rt, count)
+        }
+    }
+
+    /// Waits until no request is under way. Meanwhile writes what was left to a thread that writes late, which calls this.
+    pub(crate) fn wait_for_requests<R: Wait + Clock>(&self, rt: &R) {
         for _ in rt.forever() {
-            if self.places.take(rt, count) {
+            if self.places.take(rt, PLACES) {
                 break;
             }
             self.send_late(rt);
@@ -223,7 +205,7 @@ impl Client {
         self.stream.read_some(buffer)
     }
 
-    /// Ends the connection once all replies are written. For the client's own thread.
+    /// Ends the connection once all replies are written. For a thread that writes late.
     pub(crate) fn end<R: Wait + Clock>(&self, rt: &R) {
         if !self.is_closed() {
             let _ = self.linger(rt);

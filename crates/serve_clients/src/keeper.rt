@@ -113,7 +113,7 @@ impl KeptLink {
         self.copying = match self.copying {
             _ if !is_resyncing(progress) => None,
             None => Copying::begin(rt, progress.primary.marks),
-            Some(copying) => Some(copying),
+            Some(copying) => Some(copying.look(rt, progress.primary.marks)),
         };
     }
 
@@ -143,6 +143,11 @@ impl KeptLink {
             start: service.start(),
             resync,
             is_peer_failed: service.requests.is_peer_failed(),
+            clients: service.clients(),
+            receipts: service.counts.receipts(),
+            latencies: service.counts.latencies.latencies(),
+            local_metadata: service.shown.local_metadata.now(),
+            peer_metadata: service.shown.peer_metadata.now(),
         }
     }
 }

@@ -20,6 +20,8 @@ pub enum ListenFault {
     NoSocket(String),
     /// This folder, for the status socket of a named server, is not there and could not be made.
     NoFolder(String, io::Error),
+    /// A socket that a service manager passed cannot be used.
+    Unpassed(io::Error),
     /// There was no memory.
     NoMemory,
 }
@@ -51,6 +53,10 @@ impl fmt::Display for ListenFault {
             ListenFault::NoFolder(folder, error) => write!(
                 f,
                 "{folder}, for the status socket, could not be made: {error}; make it for the user of the server, or name another place by --run-dir"
+            ),
+            ListenFault::Unpassed(error) => write!(
+                f,
+                "the socket that the service manager passed (LISTEN_FDS) cannot be used: {error}; one is taken, of TCP or with a path"
             ),
             ListenFault::NoMemory => f.write_str("there was no memory to listen"),
         }

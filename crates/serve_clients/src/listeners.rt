@@ -2,9 +2,11 @@
 use crate::address::Address;
 use crate::listener::{ListenFault, Listener};
 use crate::lists::append;
+use crate::passed::passed_socket;
 use crate::socket_file::SocketFiles;
 use program_values::{ListenAt, ServerName};
 use std::alloc::{AllocError, Global};
+use std::env::Env;
 use std::fs;
 use std::net::{Net, TcpListener, TcpStream};
 use std::rt::Files;
@@ -19,11 +21,13 @@ pub struct Listeners {
 impl Listeners {
     /// Listens at these places for block clients and for clients of the status page, and for the latter also at the socket
     /// `status` in the folder of a server that has a name: the folder is made if it is not there. Also returns the files of
-    /// the Unix sockets, which are to be removed at the end. What a dead server left at their paths is removed before.
+    /// the Unix sockets, which are to be removed at the end. What a dead server left at their paths is removed before. A socket that a service
+    /// manager passed takes the place of all those for block clients.
     ///
     /// `InUse` if a server answers at a path, `NoSocket` if something else is there, `NoFolder` if there is no folder and none
-    /// can be made, and `Unbound` for any other fault of an address. Then nothing listens, and no socket is left.
-    pub fn open<H: Files + Net<Listener = TcpListener, Stream = TcpStream> + AllocGlobal>(
+    /// can be made, `Unpassed` if a passed socket cannot be used, and `Unbound` for any other fault of an address. Then nothing listens, and no
+    /// socket is left.
+    pub fn open<H: Files + Net<Listener = TcpListener, Stream = TcpStream> + Env + AllocGlobal>(
         rt: &H,
         clients: &[ListenAt<'_>],
         pages: &[ListenAt<'_>],
@@ -59,14 +63,22 @@ impl Listeners {
 }
 
 // Listens at all places. The files of Unix sockets are added to `files`.
-fn open_all<H: Files + Net<Listener = TcpListener, Stream = TcpStream> + AllocGlobal>(
+fn open_all<H: Files + Net<Listener = TcpListener, Stream = TcpStream> + Env + AllocGlobal>(
     rt: &H,
     clients: &[ListenAt<'_>],
     pages: &[ListenAt<'_>],
     name: Option<ServerName<'_>>,
     files: &mut SocketFiles,
 ) -> Result<Listeners, ListenFault> {
-    let clients = open_each(rt, clients, files)?;
+    let clients = match passed_socket(rt) {
+        Ok(None) => open_each(rt, clients, files)?,
+        Ok(Some(passed)) => {
+            let mut listeners = Vec::new(rt.alloc());
+            append(&mut listeners, passed)?;
+            listeners
+        }
+        Err(error) => return Err(ListenFault::Unpassed(error)),
+    };
     let mut pages = open_each(rt, pages, files)?;
     if let Some(name) = name {
         append(&mut pages, open_named(rt, name, files)?)?;

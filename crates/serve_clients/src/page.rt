@@ -4,7 +4,7 @@ use crate::limited_stream::LimitedStream;
 use crate::listener::Socket;
 use crate::service::Service;
 use blocks::Refusal;
-use serve_page::{ReportSource, StatusReport, answer_one};
+use serve_page::{DeviceMap, ReportSource, StatusReport, answer_one};
 use session_api::Runtime;
 use std::alloc::Global;
 use std::hash::RandomState;
@@ -78,6 +78,15 @@ struct Asking<'a, R> {
 impl<R: Wait + Clock> ReportSource for Asking<'_, R> {
     fn report(&self) -> Option<StatusReport> {
         self.service.reports.ask(self.rt)
+    }
+
+    fn name(&self) -> Option<&str> {
+        self.service.shown.name.as_ref().map(|name| name.as_str())
+    }
+
+    fn map(&self) -> Option<io::Result<DeviceMap>> {
+        let file = self.service.shown.map.as_ref()?;
+        Some(file.read(self.service.alloc, self.service.blocks))
     }
 }
 

@@ -1,95 +1,115 @@
-//! The thread of a client, which takes its requests.
-use crate::client::Client;
-use crate::job::Job;
-use crate::request_budget::{PLACES, places_of};
+//! A client's thread of one session, which takes its requests and does them.
+use crate::answer::answer_some;
+use crate::conversation::Conversation;
 use crate::service::Service;
 use crate::timed_writer::is_passing;
 use blocks::Refusal;
-use nbd::{Connection, Errno, Export, Output, greeting};
-use std::alloc::Global;
-use std::sync::{Arc, Wait};
-use std::time::{Clock, Duration, Instant};
-
-/// How long a client has for its handshake, in seconds: as long as QEMU's server gives it. Without a limit 256 connections that
-/// ask for nothing would keep all other clients out.
-const HANDSHAKE_S: u64 = 10;
+use primary::Receipt;
+use session_api::Device;
+use std::sync::{Mutex, Wait};
+use std::time::Clock;
 
 /// The most bytes that are read at once: a request for the longest range and its payload.
 const BUFFER_BYTES: usize = 132 * 1024;
 
-/// Takes the requests of a client until it leaves, or has not ended its handshake in time, or the server ends. When this returns
-/// without a refusal, all of its requests are answered.
+/// What becomes of a client once its thread of a session leaves it.
+#[derive(Clone, Copy, Debug, PartialEq, Eq)]
+enum Next {
+    /// The next session serves it.
+    Serve,
+    /// It takes its replies slowly: another thread writes them, and then it is served again.
+    Write,
+    /// It has its last replies, and goes.
+    End,
+}
+
+/// Serves a client over one session, until it leaves, takes its replies slowly, or the session or the server ends, and hands it on. Puts the
+/// receipts of its writes into `gathered`.
 pub(crate) fn serve_client<R: Wait + Clock>(
     rt: &R,
     service: &Service,
-    client: &Arc<Client, Global>,
-) -> Result<(), Refusal> {
-    let alloc = service.alloc;
-    let mut buffer = Vec::from_elem(alloc, 0u8, BUFFER_BYTES)?;
-    let export = Export::new(String::new(alloc), service.blocks);
-    let mut connection = Connection::new(alloc, export);
-    let start = Instant::now(rt).ok();
-    client.send(rt, greeting().as_slice());
-    for _ in rt.forever() {
-        if service.is_over() || is_late(rt, &connection, start) {
-            break;
-        }
-        client.send_late(rt);
-        let count = match client.read(&mut buffer) {
-            Ok(count) => count,
-            Err(error) if is_passing(error.kind()) => continue,
-            Err(_) => break,
-        };
-        if count == 0 || !take(rt, service, client, &mut connection, &buffer[..count])? {
-            break;
-        }
+    device: &impl Device,
+    conversation: Conversation,
+    gathered: &Mutex<Vec<Receipt>>,
+) {
+    let mut conversation = conversation;
+    match converse(rt, service, device, &mut conversation, gathered) {
+        Ok(Next::Serve) => service.conversations.put(rt, conversation, service),
+        Ok(Next::Write) => service.conversations.write_late(rt, conversation, service),
+        Ok(Next::End) => service.conversations.end(rt, conversation, service),
+        Err(_) => service.drop_conversation(conversation),
     }
-    // No request is under way once all places are taken.
-    client.take_places(rt, PLACES);
-    Ok(())
 }
 
-// Returns whether a client that came at `start` has had its time and is still in its handshake.
-fn is_late<R: Clock>(rt: &R, connection: &Connection, start: Option<Instant>) -> bool {
-    let Some(Ok(elapsed)) = start.map(|start| start.elapsed(rt)) else {
-        return false;
-    };
-    connection.is_negotiating() && elapsed >= Duration::from_secs(HANDSHAKE_S)
-}
-
-// Takes the client's next bytes. Returns whether the connection goes on. One read may have thousands of requests, so those
-// that are left once the server ends are refused (ESHUTDOWN): it would wait for a slow client as long as for all of them.
-fn take<R: Wait + Clock>(
+// Serves a client until it is handed on. A refusal ends its connection at once.
+fn converse<R: Wait + Clock>(
     rt: &R,
     service: &Service,
-    client: &Arc<Client, Global>,
-    connection: &mut Connection,
-    bytes: &[u8],
-) -> Result<bool, Refusal> {
-    let mut out = Output::new(service.alloc);
-    connection.feed(bytes, &mut out)?;
-    if !out.bytes.is_empty() {
-        client.send(rt, out.bytes.as_slice());
-    }
-    let mut refusals = Vec::new(service.alloc);
-    for request in out.requests {
-        if service.is_over() {
-            let refusal = request.reply(Some(Errno::Shutdown));
-            refusals.extend_from_slice(refusal.encode().as_slice())?;
-            continue;
+    device: &impl Device,
+    conversation: &mut Conversation,
+    gathered: &Mutex<Vec<Receipt>>,
+) -> Result<Next, Refusal> {
+    let mut buffer = Vec::from_elem(service.alloc, 0u8, BUFFER_BYTES)?;
+    conversation.greet(rt)?;
+    for _ in rt.forever() {
+        do_requests(rt, service, device, conversation, gathered)?;
+        if let Some(next) = next_of(rt, service, conversation) {
+            return Ok(next);
         }
-        let client = Arc::try_clone(client)?;
-        if client.is_closed() {
-            return Ok(false);
-        }
-        client.take_places(rt, places_of(&request));
-        // The places of a request that is not handed on are never freed, so nobody may wait for all of them.
-        if service.jobs.send(rt, Job { request, client }).is_err() {
-            return Err(Refusal::NoMemory);
-        }
+        let count = match conversation.client.read(&mut buffer) {
+            Ok(0) => return Ok(Next::End),
+            Ok(count) => count,
+            Err(error) if is_passing(error.kind()) => continue,
+            Err(_) => return Ok(Next::End),
+        };
+        conversation.take(rt, &buffer[..count])?;
     }
-    if !refusals.is_empty() {
-        client.send(rt, refusals.as_slice());
+    unreachable!()
+}
+
+// Returns what becomes of a client, or `None` if its thread goes on.
+fn next_of<R: Wait + Clock>(
+    rt: &R,
+    service: &Service,
+    conversation: &Conversation,
+) -> Option<Next> {
+    if conversation.client.is_left(rt) {
+        return Some(Next::Write);
     }
-    Ok(!connection.is_closed())
+    if conversation.next().is_some() {
+        return Some(Next::Serve);
+    }
+    if service.is_over() || conversation.has_ended() || conversation.is_late(rt) {
+        return Some(Next::End);
+    }
+    service.is_session_over().then_some(Next::Serve)
+}
+
+// Does the requests that a client has sent, until none is left, the session ends, or the client takes its replies slowly. One read may
+// have thousands of them, so those that are left once the server ends are refused: it would wait for a slow client as long as for all.
+fn do_requests<R: Wait + Clock>(
+    rt: &R,
+    service: &Service,
+    device: &impl Device,
+    conversation: &mut Conversation,
+    gathered: &Mutex<Vec<Receipt>>,
+) -> Result<(), Refusal> {
+    let mut receipts = Vec::new(service.alloc);
+    for _ in rt.forever() {
+        if conversation.next().is_none() {
+            break;
+        }
+        if service.is_over() || conversation.client.is_closed() {
+            conversation.refuse_all(rt, service);
+            break;
+        }
+        if service.is_session_over() || conversation.client.is_left(rt) {
+            break;
+        }
+        let answered = answer_some(rt, service, device, conversation, &mut receipts);
+        service.counts.note_receipts(&receipts);
+        gathered.lock(rt).append(&mut receipts)?;
+        answered?;
+    }
+    Ok(())
 }

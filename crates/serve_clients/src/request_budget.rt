@@ -1,4 +1,4 @@
-//! The limit on a client's requests under way.
+//! Limits on requests under way.
 ghost use Rattle.std.specs.Prelude.{◌≡◌};
 ghost use Rattle.serve_clients.specs.RequestBudget.{places_for, places_of};
 
@@ -6,8 +6,8 @@ use nbd::{NbdCommand, Request};
 use std::sync::{Condvar, Mutex, Wait};
 use std::time::{Clock, Duration};
 
-/// The places of a client. A request has one for each 2 MiB that it reads or writes, zeros too, so those under way are 16 at
-/// most, with 32 MiB of data together: one client's long WRITE_ZEROES do not take all threads for long.
+/// The places of a client for requests that wait for stable storage. A request has one for each 2 MiB that it reads or writes, zeros too, so
+/// those under way are 16 at most, with 32 MiB of data together.
 pub(crate) const PLACES: u32 = 16;
 
 /// Blocks of data for each place: 2 MiB.
@@ -16,7 +16,7 @@ const BLOCKS_A_PLACE: u32 = 512;
 /// How long a thread waits for places before it looks whether it has anything else to do, in milliseconds.
 const LOOK_MS: u64 = 20;
 
-/// The places for requests under way.
+/// Places for requests under way.
 #[derive(Drop)]
 pub(crate) struct RequestBudget {
     free: Mutex<u32>,
@@ -24,10 +24,10 @@ pub(crate) struct RequestBudget {
 }
 
 impl RequestBudget {
-    /// Creates the places, with no request under way.
-    pub(crate) fn new() -> RequestBudget {
+    /// Creates this many places, with no request under way.
+    pub(crate) fn new(places: u32) -> RequestBudget {
         RequestBudget {
-            free: Mutex::new(PLACES),
+            free: Mutex::new(places),
             freed: Condvar::new(),
         }
     }
@@ -39,6 +39,18 @@ impl RequestBudget {
             let look = Duration::from_millis(LOOK_MS);
             free = self.freed.wait_timeout(rt, free, look).0;
         }
+        match free.checked_sub(count) {
+            Some(left) => {
+                *free = left;
+                true
+            }
+            None => false,
+        }
+    }
+
+    /// Takes `count` places, or none, at once. Returns whether it took them.
+    pub(crate) fn take_now<R: Wait>(&self, rt: &R, count: u32) -> bool {
+        let mut free = self.free.lock(rt);
         match free.checked_sub(count) {
             Some(left) => {
                 *free = left;
@@ -63,10 +75,10 @@ impl RequestBudget {
 pub(crate) fn places_of(request: &Request) -> u32
     ensures { result ≡ places_of request.now }
 {
-    match request.command {
-        NbdCommand::Read | NbdCommand::Write | NbdCommand::WriteZeroes => places_for(
-            request.block_count,
-        ),
+    match request.command() {
+        NbdCommand::Read | NbdCommand::Write | NbdCommand::Trim | NbdCommand::WriteZeroes => {
+            places_for(request.block_count())
+        }
         NbdCommand::Flush | NbdCommand::Disconnect => 1,
     }
 }

@@ -1,23 +1,33 @@
 //! The state that all threads of a server share.
 ghost use Rattle.std.specs.Prelude.{◌≡◌, IfOk};
 
-use crate::job::Job;
+use crate::conversation::Conversation;
+use crate::conversations::Conversations;
+use crate::counts::Counts;
 use crate::reports::Reports;
+use crate::request_budget::RequestBudget;
+use crate::senders::Senders;
+use crate::shown::Shown;
 use crate::sync_queue::SyncQueue;
+use crate::watch::Watch;
 use blocks::{ConnectionWords, Protocol, Refusal};
-use crossbeam_channel::{Receiver, Sender, bounded};
 use serve_page::{ServerStart, StartedAfter};
 use serve_requests::Requests;
+use server_log::Style;
 use std::alloc::Global;
+use std::sync::Mutex;
 use std::sync::atomic::{AtomicBool, AtomicU32, AtomicU64, Ordering};
 
-/// The most requests of all clients that may wait for a thread that does them.
-const QUEUE: usize = 256;
+/// The most clients at a time. Further ones are closed at once.
+pub(crate) const MAX_CLIENTS: u32 = 256;
 
-/// The writes after which a session ends, and the next one begins. A session has room for 1,048,576, and each of the four
-/// threads may begin one more request when the count gets there, which it had taken before. Together these have at most 32,768
-/// writes, since a WRITE_ZEROES over the largest device has 8,192 ranges.
-const SESSION_WRITES: u64 = 1_000_000;
+/// The long requests of all clients that are done at a time.
+const LONG_REQUESTS: u32 = 2;
+
+/// The writes after which a session ends, and the next one begins. A session has room for 1,048,576, and each client's thread may begin
+/// more when the count gets there: short requests with at most 32 ranges together, and two of them one of up to 32,768 ranges, a
+/// WRITE_ZEROES of 4 GiB. Together these are 73,728.
+const SESSION_WRITES: u64 = 960_000;
 
 /// The state that all threads of a server share, through all of its sessions.
 #[derive(Drop)]
@@ -28,14 +38,23 @@ pub struct Service {
     pub blocks: u32,
     /// When a write is completed.
     pub protocol: Protocol,
-    pub(crate) jobs: Sender<Job>,
-    pub(crate) queue: Receiver<Job>,
+    pub(crate) conversations: Conversations,
+    // One place for each long request that may be done now.
+    pub(crate) long_requests: RequestBudget,
+    pub(crate) senders: Senders,
     pub(crate) reports: Reports,
+    pub(crate) counts: Counts,
+    pub(crate) watch: Mutex<Watch>,
     pub(crate) syncs: SyncQueue,
     /// Does what clients ask of the device.
     pub requests: Requests,
+    /// What stands before the lines of its log.
+    pub style: Style,
+    pub(crate) shown: Shown,
     stop: AtomicBool,
     clients: AtomicU32,
+    // The number of the next client.
+    next_client: AtomicU64,
     // Clients of the status page.
     askers: AtomicU32,
     next_word: AtomicU64,
@@ -48,8 +67,8 @@ pub struct Service {
 
 impl Service {
     /// Creates the state of a server of a device of `blocks` blocks, which gives its connections the words from `first_word` on: none of
-    /// them may be an identifier of a disk at the start; `after` says what the server found at its start. `NoMemory` (7) if there is no
-    /// memory.
+    /// them may be an identifier of a disk at the start; `after` says what the server found at its start, `style` what stands before the
+    /// lines of its log, and `shown` what its page shows beside the reports. `NoMemory` (7) if there is no memory.
     pub fn new(
         alloc: Global,
         blocks: u32,
@@ -57,21 +76,28 @@ impl Service {
         requests: Requests,
         first_word: u64,
         after: StartedAfter,
+        style: Style,
+        shown: Shown,
     ) -> Result<Service, Refusal>
         ensures { IfOk result (λ service. (service.protocol ≡ protocol) × (service.blocks ≡ blocks)) }
     {
-        let (jobs, queue) = bounded(alloc, QUEUE)?;
         Ok(Service {
             alloc,
             blocks,
             protocol,
-            jobs,
-            queue,
+            conversations: Conversations::new(alloc, MAX_CLIENTS as usize)?,
+            long_requests: RequestBudget::new(LONG_REQUESTS),
+            senders: Senders::new(alloc)?,
             reports: Reports::new(),
+            counts: Counts::new(),
+            watch: Mutex::new(Watch::new(style)),
             syncs: SyncQueue::new(alloc),
             requests,
+            style,
+            shown,
             stop: AtomicBool::new(false),
             clients: AtomicU32::new(0),
+            next_client: AtomicU64::new(0),
             askers: AtomicU32::new(0),
             next_word: AtomicU64::new(first_word),
             most_marks: AtomicU32::new(0),
@@ -85,9 +111,14 @@ impl Service {
         self.stop.load(Ordering::SeqCst)
     }
 
-    /// Returns whether the session ends: it was asked for about a million writes, and a thread begins no further request.
+    /// Returns whether the session ends: it was asked for 960,000 writes, and a thread begins no further request.
     pub(crate) fn is_session_over(&self) -> bool {
         self.requests.writes() >= SESSION_WRITES
+    }
+
+    /// Returns whether no client is served any more in this session.
+    pub(crate) fn has_session_ended(&self) -> bool {
+        self.is_session_over() || (self.is_over() && self.clients() == 0)
     }
 
     /// Ends the server: no further requests are taken.
@@ -100,9 +131,21 @@ impl Service {
         self.clients.fetch_add(1, Ordering::SeqCst)
     }
 
+    /// Returns a number for a client, which no other one has.
+    pub(crate) fn client_number(&self) -> u64 {
+        self.next_client.fetch_add(1, Ordering::SeqCst)
+    }
+
     /// Counts a client that goes.
     pub(crate) fn leave(&self) {
         self.clients.fetch_sub(1, Ordering::SeqCst);
+    }
+
+    /// Closes the connection of a client at once, and counts it as gone.
+    pub(crate) fn drop_conversation(&self, conversation: Conversation) {
+        conversation.client.close();
+        drop(conversation);
+        self.leave();
     }
 
     /// Returns how many clients there are.

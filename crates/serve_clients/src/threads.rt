@@ -1,6 +1,7 @@
 //! The start of a server's threads.
 use crate::accept::accept_clients;
 use crate::address::Address;
+use crate::conversations::run_errands;
 use crate::listener::Listener;
 use crate::listeners::Listeners;
 use crate::lists::append;
@@ -44,8 +45,8 @@ impl From<AllocError> for StartFault {
 }
 
 /// Starts the threads of a server that outlast its sessions: those that let clients in and those that answer clients of the status
-/// page, one for each address, and the one that waits for the order to end. If one cannot be started, those that were started go
-/// on.
+/// page, one for each address, the one that has replies written which clients take slowly, and the one that waits for the order to end. If
+/// one cannot be started, those that were started go on.
 pub fn start_threads<
     H: Runtime + Net<Listener = TcpListener, Stream = TcpStream> + RandomSource,
     I: Read + Drop + Send + 'static,
@@ -66,6 +67,10 @@ pub fn start_threads<
         for page in pages {
             append(&mut addresses, start_page(rt, service, keys, page)?)?;
         }
+    }
+    let serving = Arc::try_clone(service)?;
+    if thread::spawn(&rt, move || run_errands(rt, &serving)).is_err() {
+        return Err(StartFault::Unthreaded);
     }
     for listener in clients {
         append(&mut addresses, start_letting(rt, service, listener)?)?;
@@ -88,7 +93,7 @@ fn start_letting<H: Runtime>(
 ) -> Result<Address, StartFault> {
     let Listener { socket, address } = listener;
     let service = Arc::try_clone(service)?;
-    if thread::spawn(&rt, move || accept_clients(rt, &service, &socket)).is_err() {
+    if thread::spawn(&rt, move || accept_clients(&rt, &service, &socket)).is_err() {
         return Err(StartFault::Unthreaded);
     }
     Ok(address)

@@ -1,77 +1,62 @@
 //! What waits to be written to a client, and whose turn it is to write it.
-use crate::reply_queue::ReplyQueue;
-use std::alloc::{AllocError, Global};
+use crate::reply_queue::{QueueFault, ReplyQueue};
+use nbd::Sayings;
+use serve_requests::Answer;
+use std::alloc::Global;
 use std::mem;
-
-/// Writes after which a worker's turn is long: the owner takes it over before its next read, since other clients wait for that
-/// worker. While the owner is in a read, no further request has a place, and those that have one are answered in few writes.
-const LONG_TURN: u32 = 16;
 
 /// Whose turn it is to write to a client. A turn begins and ends under the lock of what waits, and whoever has it writes
 /// without the lock what it took. So all that waits is written, or dropped with the connection:
 ///
 /// - What is held in nobody's turn is sent by the thread that held it, which calls `send_held` then, unless another turn
 ///   took it before.
-/// - A thread that calls `send_held` in a worker's turn asks that worker to send, under the lock under which its turn ends: it
+/// - A thread that calls `send_held` in another one's turn asks that one to send, under the lock under which its turn ends: it
 ///   goes on. What is held by threads that have not called `send_held` yet may stay there when the turn ends.
-/// - If a worker leaves the turn to the owner, since the client is slow, what it has not written goes before what came
-///   meanwhile.
-/// - A worker that has written all that it took leaves what came meanwhile to the owner only if that waits for the turn: it
-///   waits for the write under way at most, and then takes the turn. An owner in a read would leave the client waiting.
-/// - What is held in the owner's turn has places. The owner looks in each of its loops, and leaves them only once all places
-///   are free, or with the connection closed.
-/// - Bytes without places are put by the owner alone, in its own turn, and it writes them before it does anything else. So
-///   no worker ever takes them.
-/// - A worker frees places before its last look. The owner may end the connection between the two: all places are free then,
-///   so no reply waits, and the worker finds nothing.
+/// - If a thread of a session leaves the turn, since the client is slow, what it has not written goes before what came meanwhile.
+///   The client's own thread of the session sees that before its next read, and hands the client on to a thread that writes late.
+/// - That thread writes until nothing waits, and only then lets the others write again.
+/// - A thread frees places before its last look. The client may go between the two: all places are free then, so no reply waits,
+///   and the thread finds nothing.
 /// - When the connection fails, whoever has the turn drops what it took. What is held later is dropped by the next turn, or
 ///   with the client.
 #[derive(Clone, Copy, Debug, PartialEq, Eq)]
 pub(crate) enum Writer {
     /// No thread writes, and any may begin.
     Anyone,
-    /// A thread that answers requests.
-    Worker,
-    /// The client's own thread.
-    Owner,
+    /// A thread of a session.
+    InSession,
+    /// A thread that writes late, or the next one that does.
+    Late,
 }
 
 /// What waits to be written to a client, and whose turn it is to write it.
 #[derive(Drop)]
 pub(crate) struct Waiting {
-    alloc: Global,
     // Whole replies. What was left of one that is written in part stands at the front.
     outbox: ReplyQueue,
     writer: Writer,
-    // Writes of the worker that has the turn.
-    writes: u32,
-    // Whether another worker asked that one to send what came since its last look.
+    // Whether another thread asked the one that writes to send what came since its last look.
     is_asked: bool,
-    // Whether the owner waits for a worker's turn to end.
-    is_wanted: bool,
 }
 
 impl Waiting {
-    /// Creates one in which nothing waits. Takes no memory yet.
-    pub(crate) fn new(alloc: Global) -> Waiting {
+    /// Creates one in which nothing waits, for the client with the number `of`. Takes no memory yet.
+    pub(crate) fn new(alloc: Global, of: u64) -> Waiting {
         Waiting {
-            alloc,
-            outbox: ReplyQueue::new(alloc),
+            outbox: ReplyQueue::new(alloc, of),
             writer: Writer::Anyone,
-            writes: 0,
             is_asked: false,
-            is_wanted: false,
         }
     }
 
-    /// Appends a header and the data behind it, as `ReplyQueue::put` does.
-    pub(crate) fn put(
-        &mut self,
-        header: &[u8],
-        data: Vec<u8>,
-        places: u32,
-    ) -> Result<(), AllocError> {
-        self.outbox.put(header, data, places)
+    /// Appends an answer, as `ReplyQueue::put` does.
+    pub(crate) fn put(&mut self, answer: Answer, places: u32) -> Result<(), QueueFault> {
+        self.outbox.put(answer, places)
+    }
+
+    /// Appends what the connection says, as `ReplyQueue::say` does.
+    pub(crate) fn say(&mut self, sayings: Sayings) -> Result<(), QueueFault> {
+        self.outbox.say(sayings)
     }
 
     /// Returns whether so much waits that it is sent at once.
@@ -79,8 +64,8 @@ impl Waiting {
         self.outbox.is_full()
     }
 
-    /// Begins a worker's turn, and takes all that waits. Returns `None` if nothing waits, or if another thread has the turn:
-    /// that one sends it.
+    /// Begins the turn of a session's thread, and takes all that waits. Returns `None` if nothing waits, or if another thread has the
+    /// turn: that one sends it.
     pub(crate) fn begin(&mut self) -> Option<ReplyQueue> {
         if self.outbox.is_empty() {
             return None;
@@ -89,22 +74,16 @@ impl Waiting {
             self.is_asked = true;
             return None;
         }
-        self.writer = Writer::Worker;
-        self.writes = 0;
+        self.writer = Writer::InSession;
         self.is_asked = false;
-        Some(mem::replace(&mut self.outbox, ReplyQueue::new(self.alloc)))
+        Some(self.outbox.take())
     }
 
-    /// Goes on with a worker's turn after a write: takes what waits if another worker asked for that since the last look. If
-    /// none did, or the owner waits for the turn, ends it. The room of `written`, which is empty, is used again.
+    /// Goes on with a turn after a write: takes what waits if another thread asked for that since the last look. If none did, ends it. The
+    /// room of `written`, which is empty, is used again.
     pub(crate) fn go_on(&mut self, written: ReplyQueue) -> Option<ReplyQueue> {
-        if self.is_wanted {
-            self.writer = Writer::Owner;
-            return None;
-        }
         if self.is_asked {
             self.is_asked = false;
-            self.writes = self.writes.saturating_add(1);
             return Some(mem::replace(&mut self.outbox, written));
         }
         self.writer = Writer::Anyone;
@@ -114,45 +93,34 @@ impl Waiting {
         None
     }
 
-    /// Leaves a worker's turn to the client's own thread: what the worker has taken and not written goes before what came
-    /// meanwhile. If there is no memory for that, bytes are missing and only the places count, so the caller closes the
-    /// connection.
-    pub(crate) fn leave(&mut self, left: ReplyQueue) -> Result<(), AllocError> {
-        self.writer = Writer::Owner;
+    /// Leaves the turn to a thread that writes late: what was taken and not written goes before what came meanwhile. If there is no
+    /// memory for that, bytes are missing and only the places count, so the caller closes the connection.
+    pub(crate) fn leave(&mut self, left: ReplyQueue) -> Result<(), QueueFault> {
+        self.writer = Writer::Late;
         let newer = mem::replace(&mut self.outbox, left);
         self.outbox.append(newer)
     }
 
-    /// Ends a worker's turn, and drops all that waits. Returns the places of the requests.
+    /// Ends a turn, and drops all that waits. Returns the places of the requests.
     pub(crate) fn give_up(&mut self) -> u32 {
         self.writer = Writer::Anyone;
         self.outbox.clear()
     }
 
-    /// Begins the owner's turn. If a worker has the turn, asks it to end it, and returns false: the owner tries again.
-    pub(crate) fn claim(&mut self) -> bool {
-        self.is_wanted = self.writer == Writer::Worker;
-        if self.is_wanted {
-            return false;
-        }
-        self.writer = Writer::Owner;
-        true
+    /// Returns whether the turn was left to a thread that writes late.
+    pub(crate) fn is_left(&self) -> bool {
+        self.writer == Writer::Late
     }
 
-    /// Returns whether a worker has had the turn for long.
-    pub(crate) fn is_long(&self) -> bool {
-        self.writer == Writer::Worker && self.writes >= LONG_TURN
-    }
-
-    /// Takes all that waits in the owner's turn. If nothing does, ends the turn. Returns `None` also if it is not its turn.
+    /// Takes all that waits for a thread that writes late. If nothing does, ends the turn. Returns `None` also if the turn was not left.
     pub(crate) fn take_late(&mut self) -> Option<ReplyQueue> {
-        if self.writer != Writer::Owner {
+        if self.writer != Writer::Late {
             return None;
         }
         if self.outbox.is_empty() {
             self.writer = Writer::Anyone;
             return None;
         }
-        Some(mem::replace(&mut self.outbox, ReplyQueue::new(self.alloc)))
+        Some(self.outbox.take())
     }
 }

@@ -1,20 +1,21 @@
 //! The threads that do requests over one session.
-use crate::answer::answer;
+use crate::answer::finish_waiting;
 use crate::housekeeper::keep_house;
 use crate::keeper::keep;
+use crate::reader::serve_client;
+use crate::senders::SENDERS;
 use crate::service::Service;
+use crate::teller::tell_events;
 use blocks::Refusal;
 use primary::Receipt;
 use session_api::{Device, Runtime};
+use std::io::Write;
 use std::sync::atomic::{AtomicBool, Ordering};
 use std::sync::{Mutex, Wait};
 use std::thread;
 use std::time::{Clock, Duration};
 
-/// The threads that do the requests of all clients. Each does several together.
-const WORKERS: usize = 4;
-
-/// How long a thread waits for a request before it looks whether the session ends, in milliseconds.
+/// The time between two looks whether the disks are alike, in milliseconds.
 const LOOK_MS: u64 = 100;
 
 /// Looks for the thread that keeps the link up, after which a session ends without it: one second.
@@ -40,18 +41,20 @@ const MOST_LOOKS_TO_GO_ON: u32 = 100;
 /// The most receipts of a session: one for each write that it has room for.
 const MOST_RECEIPTS: usize = 1_048_576;
 
-/// Does the requests of clients over this device until the server ends or the session has accepted about a million writes,
+/// Does the requests of clients over this device until the server ends or the session has accepted some 960,000 writes,
 /// and returns the receipts of all their writes. After the last request it waits for the link to come to rest: until both disks
 /// are alike and the link has nothing to do, or a sync of the peer's image has failed, or ten seconds pass in which no marked
-/// block is copied and the peer's disk does no item. If another session follows it waits one such second, and ten in all.
+/// block is copied and the peer's disk does no item. If another session follows it waits one such second, and ten in all. Meanwhile a
+/// line on `err` tells each event of the link and of the disks.
 ///
 /// `NoMemory` (7) if there is no memory for the receipts, or if the thread that keeps the link up does not run within a
 /// second, as where it cannot be started: then no request is done, since nothing would reconnect the link.
-pub fn work<R: Runtime>(
+pub fn work<R: Runtime, E: Write + Send>(
     rt: &R,
     service: &Service,
     device: &(impl Device + Sync),
     cut_every: Option<u32>,
+    err: &mut E,
 ) -> Result<Vec<Receipt>, Refusal> {
     let is_kept = AtomicBool::new(false);
     let over = AtomicBool::new(false);
@@ -63,7 +66,29 @@ pub fn work<R: Runtime>(
             keep(rt, service, device, cut_every, &over)
         },
         || -> Result<Vec<Receipt>, Refusal> {
-            let done = work_beside_housekeeper(rt, service, device, &is_kept, &over);
+            let done = work_beside_teller(rt, service, device, &is_kept, &over, err);
+            over.store(true, Ordering::SeqCst);
+            done
+        },
+    );
+    done
+}
+
+// Does requests until the session ends, beside the thread that writes the log. Where that one cannot be started, its last look tells what
+// has come of the link.
+fn work_beside_teller<R: Runtime, E: Write + Send>(
+    rt: &R,
+    service: &Service,
+    device: &(impl Device + Sync),
+    is_kept: &AtomicBool,
+    over: &AtomicBool,
+    err: &mut E,
+) -> Result<Vec<Receipt>, Refusal> {
+    let (_, done) = thread::join(
+        rt,
+        || tell_events(rt, service, device, over, err),
+        || -> Result<Vec<Receipt>, Refusal> {
+            let done = work_beside_housekeeper(rt, service, device, is_kept, over);
             over.store(true, Ordering::SeqCst);
             done
         },
@@ -118,53 +143,55 @@ fn is_keeper_running<R: Clock>(rt: &R, is_kept: &AtomicBool) -> bool {
     is_kept.load(Ordering::SeqCst)
 }
 
-// Does requests in all threads, and gathers the receipts. Their room is made at once: if it grew, the memory of a
-// session would depend on those before it. Where fewer threads can be started, these do all requests, and more slowly.
+// Does requests of all clients, and gathers the receipts. Their room is made at once: if it grew, the memory of a session would depend on
+// those before it. Where no thread can be started that syncs for all, each client's thread syncs by itself.
 fn do_requests<R: Runtime>(
     rt: &R,
     service: &Service,
     device: &(impl Device + Sync),
 ) -> Result<Vec<Receipt>, Refusal> {
     let gathered = Mutex::new(Vec::with_capacity(service.alloc, MOST_RECEIPTS)?);
-    let left = thread::map_indices(
+    let over = AtomicBool::new(false);
+    thread::join(
         rt,
-        service.alloc,
-        WORKERS,
-        &|_| -> Vec<Receipt> { do_some(rt, service, device, &gathered) },
-    )?;
-    let mut all = gathered.into_inner();
-    for receipts in left {
-        let mut receipts = receipts;
-        all.append(&mut receipts)?;
-    }
-    Ok(all)
+        || finish_waiting(rt, service, device, &over),
+        || {
+            serve_clients(rt, service, device, &gathered);
+            over.store(true, Ordering::SeqCst);
+        },
+    );
+    Ok(gathered.into_inner())
 }
 
-// Does requests as they come. Returns the receipts for which `gathered` had no room.
-fn do_some<R: Wait + Clock>(
+// Gives each client a thread, until the session is over or the server has ended and no client is left, and waits for all of them.
+fn serve_clients<R: Runtime>(
     rt: &R,
     service: &Service,
-    device: &impl Device,
+    device: &(impl Device + Sync),
     gathered: &Mutex<Vec<Receipt>>,
-) -> Vec<Receipt> {
-    let mut receipts = Vec::new(service.alloc);
-    for _ in rt.forever() {
-        if service.is_session_over() {
-            break;
+) {
+    service.senders.begin_session();
+    thread::scope(thread::scope_env(), rt, |scope| {
+        for _ in 0..SENDERS {
+            // Where one cannot be started, the clients' threads send all by themselves.
+            let _ = scope.spawn(move || service.senders.work(rt, service));
         }
-        match service
-            .queue
-            .recv_timeout(rt, Duration::from_millis(LOOK_MS))
-        {
-            Ok(job) => {
-                answer(rt, service, device, job, &mut receipts);
-                let _ = gathered.lock(rt).append(&mut receipts);
+        for _ in rt.forever() {
+            if service.has_session_ended() {
+                break;
             }
-            Err(_) if service.is_over() && service.clients() == 0 => break,
-            Err(_) => {}
+            let Some(conversation) = service.conversations.next(rt) else {
+                continue;
+            };
+            let started = scope.spawn(move || {
+                serve_client(rt, service, device, conversation, gathered);
+            });
+            // A client without a thread is closed.
+            if started.is_err() {
+                service.leave();
+            }
         }
-    }
-    receipts
+    });
 }
 
 // Waits until both disks are alike and the link has nothing more to do, or there is no progress. Blocks that are not copied, as

@@ -1,6 +1,8 @@
 -- The metrics of a report: under which name each number of it stands.
 use Rattle.std.specs.Prelude.{ℕ, ◌+◌, ◌*◌, ◌/◌, ◌%◌, ◌^◌, ◌-◌, ◌==◌, min, List, [], ◌++◌, Bool, true, false, Option, Some, None, codes, if◌then◌else◌}
-use Rattle.serve_page.specs.Samples.{counter_text, gauge_text, info_text, node_gauge_text}
+use Rattle.serve_page.specs.Latencies.{command_text}
+use Rattle.serve_page.specs.Samples.{counter_text, gauge_text, head_text, info_text, node_counter_text, node_gauge_text}
+use Rattle.serve_page.specs.declared.latencies.Latencies.{Latencies}
 use Rattle.serve_page.specs.declared.report.Resync.{Resync}
 use Rattle.serve_page.specs.declared.report.StatusReport.{StatusReport}
 use Rattle.serve_page.specs.declared.start.ServerStart.{ServerStart}
@@ -75,6 +77,28 @@ peer_metrics report =
     ++ node_gauge_text (codes "metadata_failed") (codes "Whether the metadata of the node could not be written.")
     (truth report.primary.is_metadata_broken) (truth report.secondary.is_metadata_broken)))
 
+-- how many writes the metadata of both nodes got
+abbrev pub metadata_metrics : StatusReport → List ℕ
+metadata_metrics report =
+    node_counter_text (codes "activitylog_writes_total") (codes "Writes to the activity log of the node, since the server began.")
+    report.local_metadata.activity_log report.peer_metadata.activity_log
+    ++ node_counter_text (codes "bitmap_writes_total") (codes "Writes to the bitmap of the node, since the server began.")
+    report.local_metadata.bitmap report.peer_metadata.bitmap
+
+-- the block clients, and what they were told of their writes
+abbrev pub client_metrics : StatusReport → List ℕ
+client_metrics report =
+    gauge_text (codes "clients") (codes "Block clients that are connected.") report.clients
+    ++ (counter_text (codes "receipts_linked_total") (codes "Completed ranges that the peer has, as the protocol asks, since the server began.") report.receipts.linked
+    ++ counter_text (codes "receipts_alone_total") (codes "Completed ranges that the local image alone had, since the server began.") report.receipts.alone)
+
+-- how long requests took, by their command
+abbrev pub latency_metrics : Latencies → List ℕ
+latency_metrics latencies =
+    head_text (codes "request_seconds") (codes "How long requests took, from when a thread took them to their reply; in seconds.") (codes "histogram")
+    ++ (command_text (codes "read") latencies.read ++ (command_text (codes "write") latencies.write
+    ++ (command_text (codes "flush") latencies.flush ++ command_text (codes "write_zeroes") latencies.write_zeroes)))
+
 -- how the server began: after what, and how much it had to copy
 abbrev pub start_metrics : ServerStart → List ℕ
 start_metrics start =
@@ -110,4 +134,5 @@ resync_metrics (Some resync) =
 abbrev pub metrics_text : StatusReport → List ℕ
 metrics_text report =
     link_metrics report.primary.line ++ (count_metrics report.primary.line ++ (device_metrics report ++ (peer_metrics report
-    ++ (start_metrics report.start ++ resync_metrics report.resync))))
+    ++ (metadata_metrics report ++ (client_metrics report ++ (latency_metrics report.latencies ++ (start_metrics report.start
+    ++ resync_metrics report.resync)))))))

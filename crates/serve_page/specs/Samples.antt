@@ -28,6 +28,11 @@ abbrev pub node_gauge_text : List ℕ → List ℕ → ℕ → ℕ → List ℕ
 node_gauge_text name help local remote =
     head_text name help (codes "gauge") ++ (node_sample_text name (codes "local") local ++ node_sample_text name (codes "remote") remote)
 
+-- a number of each node that goes up alone
+abbrev pub node_counter_text : List ℕ → List ℕ → ℕ → ℕ → List ℕ
+node_counter_text name help local remote =
+    head_text name help (codes "counter") ++ (node_sample_text name (codes "local") local ++ node_sample_text name (codes "remote") remote)
+
 -- a text, as the label of a sample that is 1
 abbrev pub info_text : List ℕ → List ℕ → List ℕ → List ℕ → List ℕ
 info_text name help label text =

@@ -1,25 +1,36 @@
 //! A report as a page for people: one document, which needs no other file.
-use crate::document::{HEAD, TAIL};
+use crate::document::{HEAD, STYLES, TAIL};
+use crate::map::DeviceMap;
+use crate::map_html::add_map;
 use crate::meanings::{
     AFTER, DISK, Meaning, PRIMARY_LINK, PROTOCOL, ROLE, SECONDARY_LINK, STATES, USABLE,
 };
 use crate::{Resync, ServerStart, StatusReport};
 use status_lines::{LinkState, PrimaryLine, SecondaryLine, protocol_name};
 use std::alloc::{AllocError, Global};
-use std::fmt;
+use std::{fmt, io};
 
 impl StatusReport {
-    /// Returns the report as a document of HTML: what the mirror is in, the words and numbers of both nodes with what they mean, the
-    /// progress of a resync, and how the server began. A script in it follows `/status.json`; without one the words stand all the same.
-    pub(crate) fn html(&self, alloc: Global) -> Result<String, AllocError> {
+    /// Returns the report as a document of HTML: the name of the server, if it has one, what the mirror is in, the words and numbers of both nodes
+    /// with what they mean, the progress of a resync, the clients, how the server began, and a map of the device. A script in it follows `/status.json`
+    /// and `/map.json`; without one the words stand all the same.
+    pub(crate) fn html(
+        &self,
+        alloc: Global,
+        name: Option<&str>,
+        map: &Option<io::Result<DeviceMap>>,
+    ) -> Result<String, AllocError> {
         let mut page = String::from_str(alloc, HEAD)?;
+        add_heading(&mut page, name.unwrap_or(""))?;
         add_state(&mut page, state_of(self))?;
         add_resync(&mut page, self.resync)?;
         page.push_str("<div class=\"nodes\">\n")?;
         add_primary(&mut page, self)?;
-        add_secondary(&mut page, &self.secondary.line)?;
-        page.push_str("</div>\n")?;
+        add_secondary(&mut page, self)?;
+        add_clients(&mut page, self)?;
         add_start(&mut page, self.start)?;
+        page.push_str("</div>\n")?;
+        add_map(&mut page, map)?;
         page.push_str(TAIL)?;
         Ok(page)
     }
@@ -45,10 +56,25 @@ impl fmt::Display for Escaped<'_> {
     }
 }
 
+// Adds the title, the styles and the heading, for a server of this name or of an empty one.
+fn add_heading(page: &mut String, name: &str) -> Result<(), AllocError> {
+    let space = if name.is_empty() { "" } else { " " };
+    let name = Escaped(name);
+    write!(page, "<title>drbdpair{space}{name}</title>\n")?;
+    page.push_str(STYLES)?;
+    write!(
+        page,
+        "<header><h1>drbdpair{space}{name}</h1></header>\n<main>\n"
+    )
+}
+
 // Returns the name of what the mirror is in.
 fn state_of(report: &StatusReport) -> &'static str {
     if report.is_peer_failed {
         return "left-out";
+    }
+    if report.primary.is_metadata_broken || report.secondary.is_metadata_broken {
+        return "metadata-failed";
     }
     match report.primary.line.words.link {
         LinkState::SyncSource => "copying",
@@ -105,59 +131,9 @@ fn add_known(page: &mut String, key: &str, number: Option<u64>) -> Result<(), Al
 
 // Adds the table of the primary.
 fn add_primary(page: &mut String, report: &StatusReport) -> Result<(), AllocError> {
-    let PrimaryLine {
-        words,
-        protocol,
-        pe,
-        ap,
-        ep,
-        oos,
-    } = report.primary.line;
     page.push_str("<section>\n<h2>Primary, with the local image</h2>\n<table>\n")?;
-    add_word(
-        page,
-        "Link",
-        "primary.connection",
-        words.link.name(),
-        &PRIMARY_LINK,
-    )?;
-    add_word(page, "Role", "primary.role", words.own_role.name(), &ROLE)?;
-    add_word(page, "Disk", "primary.disk", words.own_disk.name(), &DISK)?;
-    add_word(
-        page,
-        "Protocol",
-        "primary.protocol",
-        protocol_name(protocol),
-        &PROTOCOL,
-    )?;
-    add_number(
-        page,
-        "Out of sync",
-        "primary.out_of_sync_kib",
-        oos,
-        "KiB that the peer's image may lack.",
-    )?;
-    add_number(
-        page,
-        "Open writes",
-        "primary.open_writes",
-        ap,
-        "Writes that clients wait for.",
-    )?;
-    add_number(
-        page,
-        "Unanswered",
-        "primary.unanswered_writes",
-        pe,
-        "Writes that the peer has not answered.",
-    )?;
-    add_number(
-        page,
-        "Epochs",
-        "primary.open_epochs",
-        ep,
-        "Groups of writes that the peer has not acknowledged.",
-    )?;
+    add_primary_words(page, &report.primary.line)?;
+    add_primary_numbers(page, &report.primary.line)?;
     add_number(
         page,
         "Writes",
@@ -175,17 +151,106 @@ fn add_primary(page: &mut String, report: &StatusReport) -> Result<(), AllocErro
     page.push_str("</table>\n</section>\n")
 }
 
-// Adds the table of the secondary.
-fn add_secondary(page: &mut String, line: &SecondaryLine) -> Result<(), AllocError> {
+// Adds the words of the primary's line.
+fn add_primary_words(page: &mut String, line: &PrimaryLine) -> Result<(), AllocError> {
+    let PrimaryLine {
+        words,
+        protocol,
+        ..
+    } = *line;
+    add_word(
+        page,
+        "Link",
+        "primary.connection",
+        words.link.name(),
+        &PRIMARY_LINK,
+    )?;
+    add_word(page, "Role", "primary.role", words.own_role.name(), &ROLE)?;
+    add_word(page, "Disk", "primary.disk", words.own_disk.name(), &DISK)?;
+    add_word(
+        page,
+        "Protocol",
+        "primary.protocol",
+        protocol_name(protocol),
+        &PROTOCOL,
+    )
+}
+
+// Adds the numbers of the primary's line.
+fn add_primary_numbers(page: &mut String, line: &PrimaryLine) -> Result<(), AllocError> {
+    add_number(
+        page,
+        "Out of sync <small>oos</small>",
+        "primary.out_of_sync_kib",
+        line.oos,
+        "KiB that the peer's image may lack.",
+    )?;
+    add_number(
+        page,
+        "Open writes <small>ap</small>",
+        "primary.open_writes",
+        line.ap,
+        "Writes that clients wait for.",
+    )?;
+    add_number(
+        page,
+        "Unanswered <small>pe</small>",
+        "primary.unanswered_writes",
+        line.pe,
+        "Writes that the peer has not answered.",
+    )?;
+    add_number(
+        page,
+        "Epochs <small>ep</small>",
+        "primary.open_epochs",
+        line.ep,
+        "Groups of writes that the peer has not acknowledged.",
+    )
+}
+
+// Adds the table of the block clients.
+fn add_clients(page: &mut String, report: &StatusReport) -> Result<(), AllocError> {
+    page.push_str("<section>\n<h2>Clients</h2>\n<table>\n")?;
+    add_number(
+        page,
+        "Connected",
+        "clients",
+        u64::from(report.clients),
+        "Block clients.",
+    )?;
+    add_number(
+        page,
+        "Mirrored",
+        "receipts_linked",
+        report.receipts.linked,
+        "Ranges that they wrote and that the peer has, as the protocol asks, since the server began.",
+    )?;
+    add_number(
+        page,
+        "Alone",
+        "receipts_alone",
+        report.receipts.alone,
+        "Ranges that they wrote and that the local image alone had.",
+    )?;
+    page.push_str("</table>\n</section>\n")
+}
+
+// Adds the table of the secondary, and that its words are to be doubted if a sync of its image has failed.
+fn add_secondary(page: &mut String, report: &StatusReport) -> Result<(), AllocError> {
     let SecondaryLine {
         words,
         protocol: _,
         pending,
         usable,
         whole,
-    } = *line;
+    } = report.secondary.line;
     let usable = if usable { "Yes" } else { "No" };
-    page.push_str("<section>\n<h2>Secondary, with the peer's image</h2>\n<table>\n")?;
+    page.push_str("<section>\n<h2>Secondary, with the peer's image</h2>\n")?;
+    let hidden = hidden_unless(report.is_peer_failed);
+    write!(
+        page,
+        "<p id=\"doubted\" class=\"now bad\"{hidden}>A sync of this image has failed: it may lack what its words tell.</p>\n<table>\n"
+    )?;
     add_word(
         page,
         "Link",
@@ -251,7 +316,7 @@ fn add_word(
     page.push_str("</td></tr>\n")
 }
 
-// Adds a row with a number, and what it means.
+// Adds a row with a number, and what it means. The title is HTML.
 fn add_number(
     page: &mut String,
     title: &str,

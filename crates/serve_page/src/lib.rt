@@ -2,8 +2,12 @@
 #![tactic(auto)]
 
 mod document;
+mod histogram;
 mod html;
 mod json;
+mod latencies;
+mod map;
+mod map_html;
 mod meanings;
 mod metrics;
 mod page;
@@ -11,6 +15,8 @@ mod report;
 mod samples;
 mod start;
 
+pub use latencies::{BOUNDS, CommandLatency, Latencies, bucket_of};
+pub use map::{CellState, DeviceMap};
 pub use page::{ReportSource, answer_one};
-pub use report::{Resync, StatusReport};
+pub use report::{MetadataWrites, ReceiptCounts, Resync, StatusReport};
 pub use start::{ServerStart, StartedAfter};

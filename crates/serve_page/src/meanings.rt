@@ -91,7 +91,7 @@ pub(crate) const AFTER: [Meaning; 6] = [
 ];
 
 /// How the mirror is: a name for it, how it is to look, and a sentence.
-pub(crate) const STATES: [(&str, &str, &str); 6] = [
+pub(crate) const STATES: [(&str, &str, &str); 7] = [
     (
         "alike",
         "good",
@@ -112,6 +112,11 @@ pub(crate) const STATES: [(&str, &str, &str); 6] = [
         "alone",
         "bad",
         "The link is down: only the local image gets what clients write, until the nodes connect again.",
+    ),
+    (
+        "metadata-failed",
+        "bad",
+        "A node's metadata could not be written: the link stays down until the server starts again. See to its file system.",
     ),
     (
         "left-out",

@@ -2,8 +2,10 @@
 ghost use Rattle.std.specs.Prelude.{◌≡◌, ◌*◌, string_bytes, IfOk};
 ghost use Rattle.serve_page.specs.Metrics as metrics;
 
+use crate::histogram::command_samples;
+use crate::latencies::Latencies;
 use crate::report::{BLOCK_BYTES, Resync, StatusReport};
-use crate::samples::{counter, gauge, info, node_gauge};
+use crate::samples::{counter, gauge, head, info, node_counter, node_gauge};
 use crate::start::ServerStart;
 use status_lines::{DiskState, LinkState, PrimaryLine, Role};
 use std::alloc::{AllocError, Global};
@@ -19,9 +21,14 @@ impl StatusReport {
         let counts = count_metrics(alloc, &self.primary.line)?;
         let device = device_metrics(alloc, self)?;
         let peer = peer_metrics(alloc, self)?;
+        let metadata = metadata_metrics(alloc, self)?;
+        let clients = client_metrics(alloc, self)?;
+        let latencies = latency_metrics(alloc, &self.latencies)?;
         let start = start_metrics(alloc, self.start)?;
         let resync = resync_metrics(alloc, self.resync)?;
-        format!(in alloc; "{link}{counts}{device}{peer}{start}{resync}")
+        format!(in alloc;
+            "{link}{counts}{device}{peer}{metadata}{clients}{latencies}{start}{resync}"
+        )
     }
 }
 
@@ -139,6 +146,69 @@ fn peer_metrics(alloc: Global, report: &StatusReport) -> Result<String, AllocErr
         truth(report.secondary.is_metadata_broken),
     )?;
     format!(in alloc; "{pending}{consistent}{failed}{metadata}")
+}
+
+// Returns the metrics of the writes to the metadata of both nodes.
+fn metadata_metrics(alloc: Global, report: &StatusReport) -> Result<String, AllocError>
+    ensures { IfOk result (λ text. string_bytes text ≡ metrics.metadata_metrics report.now) }
+{
+    let entries = node_counter(
+        alloc,
+        "activitylog_writes_total",
+        "Writes to the activity log of the node, since the server began.",
+        report.local_metadata.activity_log,
+        report.peer_metadata.activity_log,
+    )?;
+    let marks = node_counter(
+        alloc,
+        "bitmap_writes_total",
+        "Writes to the bitmap of the node, since the server began.",
+        report.local_metadata.bitmap,
+        report.peer_metadata.bitmap,
+    )?;
+    format!(in alloc; "{entries}{marks}")
+}
+
+// Returns the metrics of the block clients, and of what they were told of their writes.
+fn client_metrics(alloc: Global, report: &StatusReport) -> Result<String, AllocError>
+    ensures { IfOk result (λ text. string_bytes text ≡ metrics.client_metrics report.now) }
+{
+    let clients = gauge(
+        alloc,
+        "clients",
+        "Block clients that are connected.",
+        u64::from(report.clients),
+    )?;
+    let linked = counter(
+        alloc,
+        "receipts_linked_total",
+        "Completed ranges that the peer has, as the protocol asks, since the server began.",
+        report.receipts.linked,
+    )?;
+    let alone = counter(
+        alloc,
+        "receipts_alone_total",
+        "Completed ranges that the local image alone had, since the server began.",
+        report.receipts.alone,
+    )?;
+    format!(in alloc; "{clients}{linked}{alone}")
+}
+
+// Returns the metric of how long requests took.
+fn latency_metrics(alloc: Global, latencies: &Latencies) -> Result<String, AllocError>
+    ensures { IfOk result (λ text. string_bytes text ≡ metrics.latency_metrics latencies.now) }
+{
+    let head = head(
+        alloc,
+        "request_seconds",
+        "How long requests took, from when a thread took them to their reply; in seconds.",
+        "histogram",
+    )?;
+    let read = command_samples(alloc, "read", &latencies.read)?;
+    let write = command_samples(alloc, "write", &latencies.write)?;
+    let flush = command_samples(alloc, "flush", &latencies.flush)?;
+    let zeroes = command_samples(alloc, "write_zeroes", &latencies.write_zeroes)?;
+    format!(in alloc; "{head}{read}{write}{flush}{zeroes}")
 }
 
 // Returns the metrics of how the server began.

@@ -1,5 +1,5 @@
 //! The page itself: one client of it, over any reader and writer.
-use crate::StatusReport;
+use crate::{DeviceMap, StatusReport};
 use bytes::{BufMut, Bytes};
 use http::{HeaderValue, Method, Request, StatusCode, header};
 use http_server::{Config, Connection, Response, Service, serve};
@@ -13,12 +13,22 @@ const NO_REPORT: &str =
     "no report within two seconds: the images are compared, a session gives way to the next, or a disk does not answer\n";
 
 /// The text for a client that asks for another page.
-const NO_SUCH_PAGE: &str = "there is no such page: this server has /, /status.json and /metrics\n";
+const NO_SUCH_PAGE: &str =
+    "there is no such page: this server has /, /status.json, /map.json and /metrics\n";
+
+/// The text for a client when the map cannot be read.
+const NO_MAP: &str = "the metadata file could not be read\n";
 
 /// Gives reports.
 pub trait ReportSource {
     /// Returns a report of this moment, or `None` if there is none now.
     fn report(&self) -> Option<StatusReport>;
+
+    /// Returns the name of the server, if it has one.
+    fn name(&self) -> Option<&str>;
+
+    /// Returns a map of the device, as its metadata has it now, or an error if that cannot be read. `None` if no metadata is kept.
+    fn map(&self) -> Option<io::Result<DeviceMap>>;
 }
 
 /// The page that a client gets, with a report from this source.
@@ -47,6 +57,7 @@ impl<S: ReportSource + Drop> Service for Page<S> {
             "/" => self.fill(response, Form::Lines),
             "/status.json" => self.fill(response, Form::Json),
             "/metrics" => self.fill(response, Form::Metrics),
+            "/map.json" => self.fill_map(response),
             _ => {
                 response.status = StatusCode::NOT_FOUND;
                 fill_text(response, NO_SUCH_PAGE)
@@ -97,7 +108,23 @@ impl<S: ReportSource + Drop> Page<S> {
                 let kind = HeaderValue::from_static("text/plain; version=0.0.4; charset=utf-8");
                 fill(response, kind, &metrics)
             }
-            Form::Document => fill_document(response, &report.html(self.alloc)?),
+            Form::Document => {
+                let (name, map) = (self.source.name(), self.source.map());
+                fill_document(response, &report.html(self.alloc, name, &map)?)
+            },
+        }
+    }
+
+    // Gives a response the map of the device: JSON, which is null if no metadata is kept.
+    fn fill_map(&self, response: &mut Response) -> Result<(), AllocError> {
+        let json = HeaderValue::from_static("application/json");
+        match self.source.map() {
+            None => fill(response, json, "null"),
+            Some(Ok(map)) => fill(response, json, &map.json(self.alloc)?),
+            Some(Err(_)) => {
+                response.status = StatusCode::SERVICE_UNAVAILABLE;
+                fill_text(response, NO_MAP)
+            }
         }
     }
 }
@@ -132,7 +159,7 @@ fn fill(response: &mut Response, kind: HeaderValue, body: &str) -> Result<(), Al
 }
 
 /// Answers one request of a client with a report of this source: the status lines at `/`, or a document of HTML if the client takes one;
-/// the same as JSON at `/status.json`, and as metrics for Prometheus at `/metrics`. The source is asked once the request is there. Then
+/// the same as JSON at `/status.json`, and as metrics for Prometheus at `/metrics`; a map of the device at `/map.json`. The source is asked once the request is there. Then
 /// the connection is to be closed. Without a report, the answer says that there is none now (503).
 pub fn answer_one<S: ReportSource + Drop, R: Read, W: Write>(
     alloc: Global,

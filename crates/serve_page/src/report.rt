@@ -2,7 +2,8 @@
 ghost use Rattle.std.specs.Prelude.{◌≡◌, ◌-◌, ◌*◌, ◌/◌, None, Some};
 ghost use Rattle.serve_page.specs.Metrics as metrics;
 
-use crate::ServerStart;
+use crate::latencies::Latencies;
+use crate::start::ServerStart;
 use node_lines::{PrimaryProgress, SecondaryProgress};
 use std::alloc::{AllocError, Global};
 use std::fmt;
@@ -24,9 +25,9 @@ pub struct Resync {
     pub left: u32,
     /// The most blocks that were marked since none was.
     pub all: u32,
-    /// Blocks that were copied since the link came up.
+    /// Blocks that were copied in the last seconds.
     pub copied: u32,
-    /// Milliseconds since then.
+    /// How long these were, in milliseconds: those since the link came up, at first, and then some ten seconds.
     pub elapsed_ms: u64,
 }
 
@@ -44,21 +45,21 @@ impl Resync {
         BLOCK_KIB * u64::from(self.left)
     }
 
-    /// Returns how many KiB were copied in a second since the link came up, rounded down, or `None` in the first millisecond.
+    /// Returns how many KiB were copied in a second of the last ones, rounded down, or `None` in the first millisecond.
     pub fn kib_per_second(self) -> Option<u64>
         ensures { self.elapsed_ms ≡ 0 → result ≡ None }
     {
         (1000 * BLOCK_KIB * u64::from(self.copied)).checked_div(self.elapsed_ms)
     }
 
-    /// Returns how many bytes were copied in a second since the link came up, rounded down, or `None` in the first millisecond.
+    /// Returns how many bytes were copied in a second of the last ones, rounded down, or `None` in the first millisecond.
     pub fn bytes_per_second(self) -> Option<u64>
         ensures { result ≡ metrics.bytes_per_second self }
     {
         (1000 * BLOCK_BYTES * u64::from(self.copied)).checked_div(self.elapsed_ms)
     }
 
-    /// Returns in how many seconds it is done at that rate, rounded up, or `None` if nothing was copied yet.
+    /// Returns in how many seconds it is done at that rate, rounded up, or `None` if nothing was copied in these seconds.
     pub fn seconds_left(self) -> Option<u64>
         ensures none { self.copied ≡ 0 → result ≡ None }
         ensures value { result ≡ metrics.seconds_left self }
@@ -87,8 +88,35 @@ impl fmt::Display for Resync {
     }
 }
 
+/// How many writes the metadata of an image got since the server began.
+#[derive(Clone, Copy, Debug, PartialEq, Eq)]
+pub struct MetadataWrites {
+    /// Those to the entries of the active extents.
+    pub activity_log: u64,
+    /// Those to the marks of the blocks.
+    pub bitmap: u64,
+}
+
+impl MetadataWrites {
+    /// No write.
+    pub const NONE: MetadataWrites = MetadataWrites {
+        activity_log: 0,
+        bitmap: 0,
+    };
+}
+
+/// How many ranges of clients' writes were completed since the server began.
+#[derive(Clone, Copy, Debug, PartialEq, Eq)]
+pub struct ReceiptCounts {
+    /// Those that the peer has, as the protocol asks.
+    pub linked: u64,
+    /// Those that the local image alone had.
+    pub alone: u64,
+}
+
 /// The state of a server's nodes: how far each has come, with its status line, the blocks of the device, how the server began, the progress of a
-/// resync, if one goes on, and whether the peer's disk is left out, since a sync of it has failed.
+/// resync, if one goes on, and whether the peer's disk is left out, since a sync of it has failed; and how many block clients are
+/// connected, what they were told of their writes, and how long their requests took, and how many writes the metadata of both images got.
 #[derive(Clone, Copy, Debug)]
 pub struct StatusReport {
     pub primary: PrimaryProgress,
@@ -97,6 +125,11 @@ pub struct StatusReport {
     pub start: ServerStart,
     pub resync: Option<Resync>,
     pub is_peer_failed: bool,
+    pub clients: u32,
+    pub receipts: ReceiptCounts,
+    pub latencies: Latencies,
+    pub local_metadata: MetadataWrites,
+    pub peer_metadata: MetadataWrites,
 }
 
 impl StatusReport {

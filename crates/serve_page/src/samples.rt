@@ -1,6 +1,6 @@
 //! Metrics in the text form of Prometheus.
 ghost use Rattle.std.specs.Prelude.{◌≡◌, codes, string_bytes, IfOk};
-ghost use Rattle.serve_page.specs.Samples.{counter_text, gauge_text, head_text, info_text, node_gauge_text, node_sample_text, sample_text};
+ghost use Rattle.serve_page.specs.Samples.{counter_text, gauge_text, head_text, info_text, node_counter_text, node_gauge_text, node_sample_text, sample_text};
 
 use std::alloc::{AllocError, Global};
 
@@ -48,6 +48,22 @@ pub(crate) fn node_gauge(
     format!(in alloc; "{head}{local}{remote}")
 }
 
+/// Returns a metric of a number of each node that goes up alone, the primary's under `local` and the secondary's under `remote`.
+pub(crate) fn node_counter(
+    alloc: Global,
+    name: &str,
+    help: &str,
+    local: u64,
+    remote: u64,
+) -> Result<String, AllocError>
+    ensures { IfOk result (λ text. string_bytes text ≡ node_counter_text name.now help.now local remote) }
+{
+    let head = head(alloc, name, help, "counter")?;
+    let local = node_sample(alloc, name, "local", local)?;
+    let remote = node_sample(alloc, name, "remote", remote)?;
+    format!(in alloc; "{head}{local}{remote}")
+}
+
 /// Returns a metric that has a text as its label. The text has no quotation mark and no backslash.
 pub(crate) fn info(
     alloc: Global,
@@ -62,8 +78,8 @@ pub(crate) fn info(
     format!(in alloc; "{head}drbdpair_{name}{{{label}=\"{text}\"}} 1\n")
 }
 
-// Returns what a metric is, and its kind.
-fn head(alloc: Global, name: &str, help: &str, kind: &str) -> Result<String, AllocError>
+/// Returns what a metric is, and its kind.
+pub(crate) fn head(alloc: Global, name: &str, help: &str, kind: &str) -> Result<String, AllocError>
     ensures { IfOk result (λ text. string_bytes text ≡ head_text name.now help.now kind.now) }
 {
     format!(in alloc; "# HELP drbdpair_{name} {help}\n# TYPE drbdpair_{name} {kind}\n")

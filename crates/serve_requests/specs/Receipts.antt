@@ -4,7 +4,7 @@ use Rattle.model.specs.Settlement.{Receipt}
 use Rattle.nbd.specs.Pieces.{pieces}
 use Rattle.nbd.specs.declared.command.NbdCommand.TheVariants as command
 use Rattle.nbd.specs.declared.errno.Errno.{Errno}
-use Rattle.nbd.specs.declared.request.Request.{Request}
+use Rattle.nbd.specs.Requested.{Requested}
 use Rattle.session_api.specs.Begun.{BegunState}
 
 -- what a write that was begun has in common with its receipt: its number, its first block, and how many it has
@@ -54,27 +54,31 @@ pub record HasFront {A B : Type 0} (of : A → B) (wanted : List B) (old new : L
   pub appended : new ≡ old ++ more
   pub each : map of more ++ rest ≡ wanted
 
--- What was begun is all that a WRITE or WRITE_ZEROES writes: each range has its part of the payload, one after another from
+-- What was begun is all that a WRITE, TRIM or WRITE_ZEROES writes: each range has its part of the payload, one after another from
 -- its front, or zeroes.
-pub record HasBegun (request : Request) (begun : List BegunState) : Type 0 where
+pub record HasBegun (request : Requested) (begun : List BegunState) : Type 0 where
   pub written : request.command ≡ command.Write → map span_of begun ≡ pieces request.first_block request.block_count
   pub contents : request.command ≡ command.Write → (rest : List ℕ) × (begun_bytes begun ++ rest ≡ request.payload)
   pub whole : request.command ≡ command.Write → All IsWhole begun
   pub zeroed : request.command ≡ command.WriteZeroes → map span_of begun ≡ pieces request.first_block request.block_count
   pub zeroes : request.command ≡ command.WriteZeroes → All IsZeroes begun
+  pub trimmed : request.command ≡ command.Trim → map span_of begun ≡ pieces request.first_block request.block_count
+  pub trim_zeroes : request.command ≡ command.Trim → All IsZeroes begun
 
 -- What was begun for a request, all of it or a front: of a WRITE its first ranges, each with its part of the payload, and of a
--- WRITE_ZEROES the first ones with zeroes. Any other command writes nothing.
-pub record IsFrontOf (request : Request) (begun : List BegunState) : Type 0 where
+-- TRIM or WRITE_ZEROES the first ones with zeroes. Any other command writes nothing.
+pub record IsFrontOf (request : Requested) (begun : List BegunState) : Type 0 where
   pub written : request.command ≡ command.Write → (more : List (ℕ × ℕ)) × (map span_of begun ++ more ≡ pieces request.first_block request.block_count)
   pub contents : request.command ≡ command.Write → (rest : List ℕ) × (begun_bytes begun ++ rest ≡ request.payload)
   pub whole : request.command ≡ command.Write → All IsWhole begun
   pub zeroed : request.command ≡ command.WriteZeroes → (more : List (ℕ × ℕ)) × (map span_of begun ++ more ≡ pieces request.first_block request.block_count)
   pub zeroes : request.command ≡ command.WriteZeroes → All IsZeroes begun
+  pub trimmed : request.command ≡ command.Trim → (more : List (ℕ × ℕ)) × (map span_of begun ++ more ≡ pieces request.first_block request.block_count)
+  pub trim_zeroes : request.command ≡ command.Trim → All IsZeroes begun
   pub nothing : (request.command ≡ command.Read) ⊎ ((request.command ≡ command.Flush) ⊎ (request.command ≡ command.Disconnect)) → begun ≡ []
 
 -- What was begun, and whether all was: a front of it if not. A FLUSH and a DISC begin nothing, and that is not refused.
-pub record Begins (request : Request) (begins : Result Unit Errno) (begun : List BegunState) : Type 0 where
+pub record Begins (request : Requested) (begins : Result Unit Errno) (begun : List BegunState) : Type 0 where
   pub all : OnOk begins (HasBegun request begun)
   pub front : IsFrontOf request begun
   pub flush : request.command ≡ command.Flush → is_ok begins ≡ true

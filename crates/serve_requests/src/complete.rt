@@ -1,31 +1,35 @@
 //! Waiting for the writes of a request.
-ghost use Rattle.std.specs.Prelude.{◌≡◌, List, ◌∷◌, ◌++◌, [], true, map, is_ok, OnOk};
+ghost use Rattle.std.specs.Prelude.{◌≡◌, List, ◌∷◌, ◌++◌, [], true, length, map, is_ok, IfOk, OnOk};
 ghost use Rattle.model.specs.Settlement.{Receipt as Denoted};
 ghost use Rattle.serve_requests.specs.Receipts.{HasMore, job_of, receipt_job};
 
+use crate::done::Done;
 use crate::perform::errno_of;
 use nbd::Errno;
 use primary::Receipt;
 use session_api::{Begun, Device};
 
 /// Waits for all writes that were begun, one after another, and keeps their receipts. If any fails, waits for the
-/// others too. The receipts of earlier writes stay.
+/// others too. The receipts of earlier writes stay. If none fails, returns that all are complete.
 pub(crate) fn complete_all(
     device: &impl Device,
     begun: Vec<Begun>,
     receipts: &mut Vec<Receipt>,
-) -> Result<(), Errno>
+) -> Result<Done, Errno>
     ensures all { OnOk result (HasMore receipt_job (map job_of begun.items) receipts.old.items receipts.new.items) }
     ensures kept { (more : List Denoted) × (receipts.new.items ≡ receipts.old.items ++ more) }
     ensures none { begun.items ≡ [] → is_ok result ≡ true }
+    ensures complete { IfOk result (λ done. done.writes ≡ length begun.items) }
 {
+    let earlier = receipts.len();
     let mut all = Ok(());
     for write in begun {
         if let Err(errno) = complete(device, write, receipts) {
             all = Err(errno);
         }
     }
-    all
+    all?;
+    Ok(Done::by_receipts(receipts, earlier))
 }
 
 // Waits for a write, and keeps its receipt.

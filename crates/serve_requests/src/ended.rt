@@ -1,6 +1,7 @@
 //! A request whose reads and writes are done, and whose sync is not.
 ghost use Rattle.std.specs.Prelude.{◌≡◌};
 
+use crate::last_round::LastRound;
 use nbd::{Errno, Request};
 use std::marker::Model;
 
@@ -12,8 +13,8 @@ pub struct Ended {
     pub(crate) request: Request,
     pub(crate) result: Result<Vec<u8>, Errno>,
     // It waits for a round of syncing after this one. For a FLUSH this is the last round that had begun before it, and for any
-    // other request the last one that had begun when its writes were in the images' files.
-    pub(crate) round: u64,
+    // other request that is done the last one that had begun when its writes were in the images' files.
+    pub(crate) last: LastRound,
 }
 
 impl Model for Ended {
@@ -22,7 +23,14 @@ impl Model for Ended {
 
     ghost Value = { EndedState };
 
-    ghost view = { λ e. record { request = e.request; is_done = is_ok e.result; bytes = read_bytes e.result; error = read_error e.result } };
+    ghost view = { λ e. record {
+      request = e.request;
+      is_done = is_ok e.result;
+      bytes = read_bytes e.result;
+      error = read_error e.result;
+      round = e.last.round;
+      writes = e.last.writes;
+    } };
 
     ghost invariant = { λ e. IfOk e.result (λ bytes. vec_len bytes ≡ data_bytes e.request.command e.request.block_count) };
 }

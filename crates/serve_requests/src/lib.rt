@@ -4,13 +4,16 @@
 
 mod answer;
 mod complete;
+mod done;
 mod ended;
+mod last_round;
 mod pace;
 mod payload;
 mod perform;
 mod release;
 mod requests;
 mod stable_storage;
+mod stored;
 mod syncs;
 mod under_way;
 mod zeroes;
@@ -19,5 +22,6 @@ pub use answer::Answer;
 pub use ended::Ended;
 pub use pace::time_left;
 pub use requests::Requests;
+pub use stored::Stored;
 pub use syncs::asks_for_sync;
 pub use under_way::RequestUnderWay;

@@ -1,5 +1,5 @@
 //! Requests over a device.
-ghost use Rattle.std.specs.Prelude.{◌≡◌, ◌⊎◌, All, List, ◌++◌, [], true, false, None, map, vec_len, is_ok, IfErr, IfOk, OnOk};
+ghost use Rattle.std.specs.Prelude.{◌≡◌, ◌⊎◌, All, List, ◌++◌, [], true, false, None, length, map, vec_len, is_ok, IfErr, IfOk, OnOk};
 ghost use Rattle.model.specs.Settlement.{Receipt as Denoted};
 ghost use Rattle.nbd.specs.Pieces.{pieces};
 ghost use Rattle.nbd.specs.declared.command.NbdCommand.TheVariants as command;
@@ -7,20 +7,25 @@ ghost use Rattle.nbd.specs.declared.errno.Errno.{Errno};
 ghost use Rattle.nbd.specs.declared.errno.Errno.TheVariants.{InputOutput, Invalid};
 ghost use Rattle.serve_requests.specs.Ended.{asks_for_sync, data_bytes};
 ghost use Rattle.serve_requests.specs.Reads.{AreHeld};
+ghost use Rattle.serve_requests.specs.Stored.{IsLater, SuitsRequest};
 ghost use Rattle.serve_requests.specs.Receipts.{Begins, HasBegun, HasMore, IsAccepted, IsFrontOf, job_of, receipt_job};
 
 use crate::answer::Answer;
 use crate::complete::complete_all;
+use crate::done::Done;
 use crate::ended::Ended;
+use crate::last_round::LastRound;
 use crate::perform::{begin_write, begin_zeroes, read};
 use crate::release::wait_for_release;
-use crate::stable_storage::{StableStorage, Synced};
+use crate::stable_storage::StableStorage;
+use crate::stored::Stored;
 use crate::syncs::asks_for_sync;
 use crate::under_way::RequestUnderWay;
 use blocks::Protocol;
-use image_store::{PerDisk, SyncHandle};
+use image_store::PerDisk;
 use nbd::{Errno, NbdCommand, Ranges, Request};
 use primary::Receipt;
+use recorded_file::SharedFile;
 use session_api::{Begun, Device};
 use std::alloc::Global;
 use std::fs::File;
@@ -39,12 +44,12 @@ pub struct Requests {
 }
 
 impl Requests {
-    /// Creates the requests over sessions under `protocol`, of two images that the handles `syncs` sync.
-    pub fn new(alloc: Global, protocol: Protocol, syncs: PerDisk<SyncHandle<File>>) -> Requests {
+    /// Creates the requests over sessions under `protocol`, of two images, by the handles that sync them.
+    pub fn new(alloc: Global, protocol: Protocol, images: PerDisk<SharedFile<File>>) -> Requests {
         Requests {
             alloc,
             protocol,
-            storage: StableStorage::new(syncs),
+            storage: StableStorage::new(images),
             writes: AtomicU64::new(0),
         }
     }
@@ -64,7 +69,7 @@ impl Requests {
         self.writes.fetch_add(1, Ordering::SeqCst);
     }
 
-    /// Begins a request: the writes of a WRITE or WRITE_ZEROES, and nothing for any other command. A caller with many
+    /// Begins a request: the writes of a WRITE, TRIM or WRITE_ZEROES, and nothing for any other command. A caller with many
     /// requests begins them all, and then ends one after another. What was begun is a front of what the request writes,
     /// whether or not it is refused then.
     pub fn begin<D: Device>(&self, device: &D, request: Request) -> RequestUnderWay
@@ -72,18 +77,18 @@ impl Requests {
         ensures begun { IsFrontOf request result.begun }
         ensures accepted { All (IsAccepted D.accepts) result.begun }
     {
-        let round = self.storage.last_round();
+        let before = self.storage.last_round_after(Done::nothing());
         let mut begun = Vec::new(self.alloc);
         let begins = self.begin_writes(device, &request, &mut begun);
         RequestUnderWay {
             request,
             begun,
             begins,
-            round,
+            before,
         }
     }
 
-    /// Waits until the reads and writes of a request are done: those of a WRITE or WRITE_ZEROES once each of its ranges has its
+    /// Waits until the reads and writes of a request are done: those of a WRITE, TRIM or WRITE_ZEROES once each of its ranges has its
     /// receipt, which is appended to the earlier ones, and those of a READ once it has its bytes. It does not sync. A caller with
     /// many requests that ask for stable storage ends them all, and then finishes one after another: they share a sync.
     ///
@@ -102,6 +107,8 @@ impl Requests {
         ensures kept { (more : List Denoted) × (receipts.new.items ≡ receipts.old.items ++ more) }
         ensures read { under_way.request.command ≡ command.Read → result.is_done ≡ true
             → AreHeld D.holds (pieces under_way.request.first_block under_way.request.block_count) result.bytes }
+        // Its round was read once each of its writes was complete.
+        ensures round { result.is_done ≡ true → result.writes ≡ length under_way.begun }
         ensures flush { under_way.request.command ≡ command.Flush → result.is_done ≡ true }
         ensures disconnect { under_way.request.command ≡ command.Disconnect → result.error ≡ Some Invalid }
     {
@@ -109,23 +116,24 @@ impl Requests {
             request,
             begun,
             begins,
-            round,
+            before,
         } = under_way;
         let completed = complete_all(device, begun, receipts);
-        let result = match (begins, completed) {
-            (Ok(()), Ok(())) => self.read_data(device, &request),
-            (Err(errno), _) | (_, Err(errno)) => Err(errno),
-        };
-        // A FLUSH is for what was answered before it began, so any round that begins after that does. The writes of any other
-        // request are in the files only now, so its round has to begin from now on.
-        let round = match request.command {
-            NbdCommand::Flush => round,
-            _ => self.storage.last_round(),
-        };
-        Ended {
-            request,
-            result,
-            round,
+        match (begins, completed) {
+            (Ok(()), Ok(done)) => {
+                let result = self.read_data(device, &request);
+                let last = self.last_round(&request, before, done);
+                Ended {
+                    request,
+                    result,
+                    last,
+                }
+            }
+            (Err(errno), _) | (_, Err(errno)) => Ended {
+                request,
+                result: Err(errno),
+                last: before,
+            },
         }
     }
 
@@ -136,34 +144,43 @@ impl Requests {
     ///
     /// The answer has the error with which the request failed, or `InputOutput` (EIO) if a sync of the local image fails.
     pub fn finish<R: Wait + Clock>(&self, rt: &R, device: &impl Device, ended: Ended) -> Answer
-        ensures cookie { result.reply.cookie ≡ ended.request.cookie }
-        ensures done { result.reply.error ≡ None → ended.is_done ≡ true }
-        ensures unsynced { asks_for_sync ended.request ≡ false → ended.is_done ≡ true → result.reply.error ≡ None }
-        ensures data { result.reply.error ≡ None → vec_len result.data ≡ data_bytes ended.request.command ended.request.block_count }
-        ensures bytes { result.reply.error ≡ None → result.data.items ≡ ended.bytes }
-        ensures failed { (errno : Errno) → ended.error ≡ Some errno → result.reply.error ≡ Some errno }
-        ensures synced { ended.error ≡ None → (result.reply.error ≡ None) ⊎ (result.reply.error ≡ Some InputOutput) }
-        ensures alone { (result.reply.error ≡ None → ⊥) → vec_len result.data ≡ 0 }
+        // The answer is for the request's own client.
+        ensures of { result.of ≡ ended.request.of }
+        ensures cookie { result.cookie ≡ ended.request.cookie }
+        ensures done { result.error ≡ None → ended.is_done ≡ true }
+        // Success of what asks for stable storage comes with what a sync left, for a round that began after the request ended.
+        ensures stable { result.error ≡ None → SuitsRequest ended.request ended.round result.stored }
+        ensures unsynced { asks_for_sync ended.request ≡ false → ended.is_done ≡ true → result.error ≡ None }
+        ensures data { result.error ≡ None → length result.bytes ≡ data_bytes ended.request.command ended.request.block_count }
+        ensures bytes { result.error ≡ None → result.bytes ≡ ended.bytes }
+        ensures failed { (errno : Errno) → ended.error ≡ Some errno → result.error ≡ Some errno }
+        ensures synced { ended.error ≡ None → (result.error ≡ None) ⊎ (result.error ≡ Some InputOutput) }
+        ensures alone { (result.error ≡ None → ⊥) → length result.bytes ≡ 0 }
     {
         let Ended {
             request,
             result,
-            round,
+            last,
         } = ended;
-        let synced = match &result {
-            Ok(_) => self.sync_if_asked(rt, device, &request, round),
-            Err(_) => Ok(()),
+        let round = last.round();
+        let data = match result {
+            Ok(data) => data,
+            Err(errno) => return self.refuse(request, errno),
         };
-        match (result, synced) {
-            (Ok(data), Ok(())) => Answer {
-                reply: request.reply(None),
-                data,
-            },
-            (Err(errno), _) | (_, Err(errno)) => Answer {
-                reply: request.reply(Some(errno)),
-                data: Vec::new(self.alloc),
-            },
+        match self.store_if_asked(rt, device, &request, round) {
+            Ok(stored) => Answer::done(request, round, data, stored),
+            Err(errno) => self.refuse(request, errno),
         }
+    }
+
+    /// Returns the answer to a request that is not begun: this error, and no bytes.
+    pub fn refuse(&self, request: Request, errno: Errno) -> Answer
+        ensures of { result.of ≡ request.of }
+        ensures cookie { result.cookie ≡ request.cookie }
+        ensures error { result.error ≡ Some errno }
+        ensures alone { result.bytes ≡ [] }
+    {
+        Answer::failed(self.alloc, request, errno)
     }
 
     /// Syncs both images to stable storage, whether a request asks for it or not, and whether a sync has failed or not. Returns
@@ -189,17 +206,30 @@ impl Requests {
         ensures begins { Begins request.now result begun.new.items }
         ensures accepted { All (IsAccepted D.accepts) begun.new.items }
     {
-        match request.command {
+        match request.command() {
             NbdCommand::Write => {
                 let ranges = ranges_of(request)?;
-                let payload = request.payload.clone().map_err(|_| Errno::NoMemory)?;
+                let payload = request.payload().clone().map_err(|_| Errno::NoMemory)?;
                 begin_write(self, device, ranges, payload, begun)
             }
-            NbdCommand::WriteZeroes => {
-                let count = u64::from(request.block_count);
+            NbdCommand::Trim | NbdCommand::WriteZeroes => {
+                let count = u64::from(request.block_count());
                 begin_zeroes(self, device, ranges_of(request)?, count, begun)
             }
             NbdCommand::Read | NbdCommand::Flush | NbdCommand::Disconnect => Ok(()),
+        }
+    }
+
+    // Returns the last round of syncing before that for which a request waits. A FLUSH is for what was answered before it began, so any
+    // round that begins after that does. The writes of any other request are in the files only now, so its round has to begin from
+    // now on.
+    fn last_round(&self, request: &Request, before: LastRound, done: Done) -> LastRound
+        requires { request.now.command ≡ command.Flush → before.writes ≡ done.writes }
+        ensures { result.writes ≡ done.writes }
+    {
+        match request.command() {
+            NbdCommand::Flush => before,
+            _ => self.storage.last_round_after(done),
         }
     }
 
@@ -211,33 +241,35 @@ impl Requests {
         ensures flush { request.now.command ≡ command.Flush → is_ok result ≡ true }
         ensures disconnect { request.now.command ≡ command.Disconnect → result ≡ Err Invalid }
     {
-        match request.command {
+        match request.command() {
             NbdCommand::Read => {
-                let count = u64::from(request.block_count);
+                let count = u64::from(request.block_count());
                 read(self.alloc, device, ranges_of(request)?, count)
             }
             NbdCommand::Disconnect => Err(Errno::Invalid),
-            NbdCommand::Flush | NbdCommand::Write | NbdCommand::WriteZeroes => Ok(Vec::new(
-                self.alloc,
-            )),
+            NbdCommand::Flush | NbdCommand::Write | NbdCommand::Trim | NbdCommand::WriteZeroes =>
+                Ok(Vec::new(self.alloc)),
         }
     }
 
     // Syncs both images to stable storage if a request that is done asks for it, in a round that begins after the round `last`.
-    fn sync_if_asked<R: Wait + Clock>(
+    // Returns what the sync left, `None` if the request does not ask.
+    fn store_if_asked<R: Wait + Clock>(
         &self,
         rt: &R,
         device: &impl Device,
         request: &Request,
         last: u64,
-    ) -> Result<(), Errno>
+    ) -> Result<Option<Stored>, Errno>
         ensures unasked { asks_for_sync request.now ≡ false → is_ok result ≡ true }
+        ensures suits { IfOk result (SuitsRequest request.now last) }
         ensures refused { IfErr result (λ e. e ≡ InputOutput) }
     {
         if asks_for_sync(request) {
-            self.sync(rt, device, last)
+            let stored = self.store(rt, device, last)?;
+            Ok(Some(stored))
         } else {
-            Ok(())
+            Ok(None)
         }
     }
 
@@ -249,26 +281,29 @@ impl Requests {
     // answered before is in the files once the round is ready.
     //
     // Where the peer's image cannot be synced, the mirror goes on with the local one, as it does where the peer's disk fails a
-    // write. The link is cut before anybody is answered, so that the peer's image counts as what it is.
-    fn sync<R: Wait + Clock>(&self, rt: &R, device: &impl Device, last: u64) -> Result<(), Errno>
-        ensures { IfErr result (λ e. e ≡ InputOutput) }
+    // write. The link is cut before anybody is answered, so that the peer's image counts as what it is. Returns what the sync left.
+    fn store<R: Wait + Clock>(
+        &self,
+        rt: &R,
+        device: &impl Device,
+        last: u64,
+    ) -> Result<Stored, Errno>
+        ensures later { IfOk result (IsLater last) }
+        ensures refused { IfErr result (λ e. e ≡ InputOutput) }
     {
-        if self.storage.is_synced_after(last) {
-            return Ok(());
+        if let Some(stored) = self.storage.stored_after(rt, last) {
+            return Ok(stored);
         }
         let round = self.storage.begin_round();
         if self.protocol != Protocol::C {
             wait_for_release(rt, device);
         }
-        match self.storage.sync(rt, last, round) {
-            Synced::Done => Ok(()),
-            Synced::LocalAlone => {
-                device.cut();
-                self.storage.go_on_alone();
-                Ok(())
-            }
-            Synced::Failed => Err(Errno::InputOutput),
+        let stored = self.storage.sync(rt, last, round)?;
+        if stored.is_alone() && !self.storage.is_alone() {
+            device.cut();
+            self.storage.go_on_alone();
         }
+        Ok(stored)
     }
 }
 
@@ -277,8 +312,8 @@ fn ranges_of(request: &Request) -> Result<Ranges, Errno>
     ensures { IfOk result (λ ranges. ranges ≡ pieces request.now.first_block request.now.block_count) }
 {
     match request
-        .first_block
-        .checked_add(u64::from(request.block_count))
+        .first_block()
+        .checked_add(u64::from(request.block_count()))
     {
         Some(_) => Ok(request.ranges()),
         None => Err(Errno::Invalid),

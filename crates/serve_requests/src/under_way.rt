@@ -1,4 +1,5 @@
 //! A request whose writes were begun.
+use crate::last_round::LastRound;
 use nbd::{Errno, Request};
 use session_api::Begun;
 use std::marker::Model;
@@ -10,11 +11,12 @@ pub struct RequestUnderWay {
     pub(crate) request: Request,
     pub(crate) begun: Vec<Begun>,
     pub(crate) begins: Result<(), Errno>,
-    // The last round of syncing that had begun before it.
-    pub(crate) round: u64,
+    // The last round of syncing that had begun before it: none of its writes was complete.
+    pub(crate) before: LastRound,
 }
 
 impl Model for RequestUnderWay {
+    ghost use Rattle.std.specs.Prelude.{◌≡◌};
     ghost use Rattle.serve_requests.specs.Receipts.{Begins};
     ghost use Rattle.serve_requests.specs.RequestUnderWay.{UnderWayState};
 
@@ -22,5 +24,5 @@ impl Model for RequestUnderWay {
 
     ghost view = { λ u. record { request = u.request; begun = u.begun.items } };
 
-    ghost invariant = { λ u. Begins u.request u.begins u.begun.items };
+    ghost invariant = { λ u. (Begins u.request u.begins u.begun.items) × (u.before.writes ≡ 0) };
 }

@@ -33,22 +33,23 @@ pub record CameTo (chosen : Settings) (how : FirstStart) (disks : DisksState) (e
   pub alike : end.found.unmarked ≡ Some 0 → end.totals.marked ≡ 0 → AreFaithful last → (block : ℕ) → block < chosen.blocks
       → slice_get last.local block ≡ slice_get last.peer block
 
--- A server with these options came to this end, over two disks of `blocks` blocks, as many as the options ask for if they do, of which
--- the images held this when they were opened. It compared them at the end if it was asked to or they are small, and no read failed.
-pub record HasEnded (options : ServeOptions) (ours theirs : ℕ → List ℕ) (end : End) : Type 0 where
+-- A server with these options came to this end, over two disks of `blocks` blocks, as many as the options ask for if they do: those of the
+-- images at the two paths of the options, where `held` says what the image at each path held when it was opened. It compared them at the
+-- end if it was asked to or they are small, and no read failed.
+pub record HasEnded (options : ServeOptions) (held : List ℕ → ℕ → List ℕ) (end : End) : Type 0 where
   pub blocks : ℕ
   pub asked : IfSome options.blocks (λ asked. blocks ≡ asked)
   pub disks : DisksState
-  pub opened : IsOpened blocks ours theirs disks
+  pub opened : IsOpened blocks (held options.local.now) (held options.peer.now) disks
   pub all : CameTo (record standard { protocol = options.protocol; blocks = blocks }) options.first disks end
   pub compares : end.found.is_unread ≡ false → is_some end.found.unmarked ≡ (options.compare || nat_le blocks 262144)
 
 -- Such a server, after which no block is marked, no comparison found a difference or failed, and no image was replaced, may have kept a
 -- part of a write that failed, or failed a sync. What was printed, where the bytes that were there before and are there after are known, is its
 -- three lines.
-pub record HasServed (options : ServeOptions) (ours theirs : ℕ → List ℕ) (before after : Option (List ℕ)) : Type 0 where
+pub record HasServed (options : ServeOptions) (held : List ℕ → ℕ → List ℕ) (before after : Option (List ℕ)) : Type 0 where
   pub end : End
-  pub ended : HasEnded options ours theirs end
+  pub ended : HasEnded options held end
   pub unchanged : (end.changed.local ≡ false) × (end.changed.peer ≡ false)
   pub synced : (end.unsynced.local ≡ None) × (end.unsynced.peer ≡ None)
   pub kept : end.is_metadata_broken ≡ false

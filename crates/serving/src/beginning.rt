@@ -5,15 +5,15 @@ use crate::to_copy::mebibytes;
 use bitmap::Bitmap;
 use blocks::Tuple;
 use image_metadata::{
-    BootId, Found, FoundFile, Header, ImageFile, LastEnd, Metadata, MetadataFault, OpeningBytes,
-    Start, UNKNOWN, boot_id, create_anew, judge, opening_identifiers, serving_identifiers,
+    BootId, CountedFile, Found, FoundFile, Header, ImageFile, LastEnd, Metadata, MetadataFault,
+    OpeningBytes, Start, UNKNOWN, boot_id, create_anew, judge, opening_identifiers,
+    serving_identifiers,
 };
 use image_store::PerDisk;
 use kept_nodes::known_marks;
 use program_values::ServeOptions;
 use serve_clients::StartedAfter;
 use std::alloc::Global;
-use std::fs::File;
 use std::io::Write;
 use std::random::RandomSource;
 use std::rt::Files;
@@ -45,7 +45,10 @@ pub(crate) enum Beginning<M: OpeningBytes, N: OpeningBytes> {
     /// It keeps no metadata.
     Unkept,
     /// Neither image has metadata yet: these are the files for it.
-    First { local: File, peer: File },
+    First {
+        local: CountedFile,
+        peer: CountedFile,
+    },
     /// What the metadata of both images says.
     Known(Known<M, N>),
 }

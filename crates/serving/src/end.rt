@@ -8,12 +8,15 @@ use crate::compare::LastComparison;
 use crate::fault::ServeFault;
 use crate::totals::Totals;
 use image_store::PerDisk;
+use server_log::Style;
 use std::io;
 use std::io::Write;
 
 /// What the sessions of a server left, and what became of its images.
 #[derive(Drop)]
 pub(crate) struct End<'a> {
+    /// What stands before the lines of the log.
+    pub(crate) style: Style,
     pub(crate) totals: Totals,
     /// What the comparison of the disks came to.
     pub(crate) found: LastComparison,
@@ -89,45 +92,58 @@ impl<'a> End<'a> {
         ensures synced { result ≡ None → (self.now.unsynced.local ≡ None) × (self.now.unsynced.peer ≡ None) }
         ensures kept { result ≡ None → self.now.is_metadata_broken ≡ false }
     {
+        let style = self.style;
         let unmarked = self.found.unmarked.unwrap_or(0);
         let marked = self.totals.marked;
         let PerDisk { local, peer } = self.files;
         let mut first = first;
         first = first_fault_or(
             err,
+            style,
             first,
             self.changed.local.then_some(ServeFault::Changed(local)),
         );
         first = first_fault_or(
             err,
+            style,
             first,
             self.changed.peer.then_some(ServeFault::Changed(peer)),
         );
         first = first_fault_or(
             err,
+            style,
             first,
             (unmarked > 0).then_some(ServeFault::Unmarked(unmarked)),
         );
         first = first_fault_or(
             err,
+            style,
             first,
             self.found.is_unread.then_some(ServeFault::Unread),
         );
         first = first_fault_or(
             err,
+            style,
             first,
             (marked > 0).then_some(ServeFault::Marked(marked)),
         );
         first = first_fault_or(
             err,
+            style,
             first,
             self.torn.local.then_some(ServeFault::Torn(local)),
         );
-        first = first_fault_or(err, first, self.torn.peer.then_some(ServeFault::Torn(peer)));
-        first = first_fault_or(err, first, unsynced(local, self.unsynced.local));
-        first = first_fault_or(err, first, unsynced(peer, self.unsynced.peer));
+        first = first_fault_or(
+            err,
+            style,
+            first,
+            self.torn.peer.then_some(ServeFault::Torn(peer)),
+        );
+        first = first_fault_or(err, style, first, unsynced(local, self.unsynced.local));
+        first = first_fault_or(err, style, first, unsynced(peer, self.unsynced.peer));
         first_fault_or(
             err,
+            style,
             first,
             self.is_metadata_broken
                 .then_some(ServeFault::BrokenMetadata),
@@ -138,6 +154,7 @@ impl<'a> End<'a> {
 // Returns the first fault of these two, and writes a line for the other one if it is a further one.
 fn first_fault_or<'a, E: Write>(
     err: &mut E,
+    style: Style,
     first: Option<ServeFault<'a>>,
     next: Option<ServeFault<'a>>,
 ) -> Option<ServeFault<'a>>
@@ -147,7 +164,7 @@ fn first_fault_or<'a, E: Write>(
         return next;
     }
     if let Some(further) = next {
-        let _ = writeln!(err, "{further}");
+        let _ = writeln!(err, "{}{further}", style.before_fault());
     }
     first
 }

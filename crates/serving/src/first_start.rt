@@ -15,12 +15,11 @@ use crate::totals::Totals;
 use bitmap::Bitmap;
 use blocks::{MAX_DEVICE_BLOCKS, Refusal, Settings, Store, Tuple};
 use image_metadata::{
-    Header, MetadataFault, OpeningBytes, UNKNOWN, create_anew, serving_identifiers,
+    CountedFile, Header, MetadataFault, OpeningBytes, UNKNOWN, create_anew, serving_identifiers,
 };
 use kept_nodes::record_marks;
 use program_values::FirstStart;
 use serve_clients::Service;
-use std::fs::File;
 use std::io::Write;
 use volume::{PairMetadata, SessionStart};
 
@@ -73,8 +72,8 @@ fn start_known<D: Store + Drop, M: OpeningBytes, N: OpeningBytes>(
 fn start_kept<D: Store + Drop, M: OpeningBytes, N: OpeningBytes, E: Write>(
     service: &Service,
     how: FirstStart,
-    local: File,
-    peer: File,
+    local: CountedFile,
+    peer: CountedFile,
     numbers: FreshNumbers,
     disks: Disks<D>,
     err: &mut E,
@@ -124,8 +123,8 @@ pub(crate) fn tell_differing<E: Write>(how: FirstStart, count: u32, err: &mut E)
 // Makes the metadata of both images.
 fn make_metadata<M: OpeningBytes, N: OpeningBytes>(
     service: &Service,
-    local: File,
-    peer: File,
+    local: CountedFile,
+    peer: CountedFile,
     numbers: FreshNumbers,
     own: Tuple,
     peer_tuple: Tuple,

@@ -4,7 +4,8 @@ use crate::fault::ServeFault;
 use bitmap::Bitmap;
 use blocks::Refusal;
 use image_metadata::{
-    Found, FoundFile, OpeningBytes, close_local, close_peer, find, image_state, open_locked,
+    CountedFile, Found, FoundFile, OpeningBytes, WriteCounts, close_local, close_peer, find,
+    image_state, open_locked,
 };
 use image_store::{ImageLock, PerDisk};
 use program_values::{MetadataFiles, ServeOptions};
@@ -21,12 +22,14 @@ pub(crate) struct FoundFiles<M: OpeningBytes, N: OpeningBytes> {
 }
 
 /// Opens and locks the metadata files of both images, the local one's first, and reads them for a device of `blocks` blocks. A file that
-/// is missing is made, with no byte. `None` if the options ask for no metadata; then there must be no file beside an image.
+/// is missing is made, with no byte. Their writes are counted by `counts`. `None` if the options ask for no metadata; then there must be no
+/// file beside an image.
 pub(crate) fn find_files<'a, M: OpeningBytes, N: OpeningBytes, H: Files<File = File> + AllocGlobal>(
     rt: &H,
     options: &ServeOptions<'a>,
     locks: &PerDisk<ImageLock>,
     blocks: u32,
+    counts: &PerDisk<WriteCounts>,
 ) -> Result<Option<FoundFiles<M, N>>, ServeFault<'a>> {
     let MetadataFiles::Kept {
         local: local_path,
@@ -35,9 +38,11 @@ pub(crate) fn find_files<'a, M: OpeningBytes, N: OpeningBytes, H: Files<File = F
     else {
         return Ok(None);
     };
-    let local = find_one::<M, H>(rt, options.local, local_path, &locks.local, blocks);
+    let ours = Some(shared(&counts.local)?);
+    let theirs = Some(shared(&counts.peer)?);
+    let local = find_one::<M, H>(rt, options.local, local_path, &locks.local, blocks, ours);
     let (local_found, local) = local?;
-    match find_one::<N, H>(rt, options.peer, peer_path, &locks.peer, blocks) {
+    match find_one::<N, H>(rt, options.peer, peer_path, &locks.peer, blocks, theirs) {
         Ok((peer_found, peer)) => Ok(Some(FoundFiles {
             found: PerDisk {
                 local: local_found,
@@ -50,20 +55,35 @@ pub(crate) fn find_files<'a, M: OpeningBytes, N: OpeningBytes, H: Files<File = F
     }
 }
 
+// Returns the same counts for a file.
+fn shared<'a>(counts: &WriteCounts) -> Result<WriteCounts, ServeFault<'a>> {
+    match counts.share() {
+        Ok(counts) => Ok(counts),
+        Err(_) => Err(ServeFault::Refused(Refusal::NoMemory)),
+    }
+}
+
 /// Opens and reads the metadata file of an image, which is beside it if no path is given. A file that is missing is made.
+/// Its writes are counted by `counts`, if they are given.
 pub(crate) fn find_one<'a, X: OpeningBytes, H: Files<File = File> + AllocGlobal>(
     rt: &H,
     image: &'a str,
     path: Option<&'a str>,
     lock: &ImageLock,
     blocks: u32,
+    counts: Option<WriteCounts>,
 ) -> Result<(Found, FoundFile<X>), ServeFault<'a>> {
     let file = match path {
         Some(path) => open_at(rt, image, path)?,
         None => open_beside(rt, image, lock)?,
     };
     match image_state(lock.file()) {
-        Ok(state) => Ok(find(rt.alloc(), file, u64::from(blocks), &state)),
+        Ok(state) => Ok(find(
+            rt.alloc(),
+            CountedFile::new(file, counts),
+            u64::from(blocks),
+            &state,
+        )),
         Err(error) => Err(ServeFault::UnreadState(image, error)),
     }
 }

@@ -9,14 +9,15 @@ use crate::disks::Disks;
 use crate::fault::ServeFault;
 use blocks::{BLOCK_BYTES, MAX_DEVICE_BLOCKS, Refusal};
 use file_store::{AnyContents, FileStore, OpeningContents};
-use image_store::{ImageLock, OpenFault, PerDisk, SyncHandle, check_length, open_image};
+use image_store::{ImageLock, OpenFault, PerDisk, check_length, open_image};
 use program_values::ServeOptions;
+use recorded_file::{OpenedFile, SharedFile};
 use std::fs::File;
 use std::rt::Files;
 use std::{fs, io};
 
 /// An opened image, and the handle by which it is synced.
-type Opened<X> = (FileStore<File, X>, SyncHandle<File>);
+type Opened<X> = (FileStore<File, X>, SharedFile<File>);
 
 /// Returns the images' paths.
 pub(crate) fn images_of<'a>(options: &ServeOptions<'a>) -> PerDisk<&'a str> {
@@ -108,11 +109,13 @@ pub(crate) fn open_both<'a, H: Files<File = File>, X: OpeningContents>(
     rt: &H,
     options: &ServeOptions<'a>,
     blocks: u32,
-) -> Result<(Disks<FileStore<File, X>>, PerDisk<SyncHandle<File>>), ServeFault<'a>>
-    ensures { IfOk result (λ opened. IsOpened blocks X.OpeningContents.local X.OpeningContents.peer opened.0) }
+) -> Result<(Disks<FileStore<File, X>>, PerDisk<SharedFile<File>>), ServeFault<'a>>
+    ensures disks { IfOk result (λ opened. IsOpened blocks (X.OpeningContents.held options.now.local.now) (X.OpeningContents.held options.now.peer.now) opened.0) }
+    // Each handle syncs the image of its name.
+    ensures syncs { IfOk result (λ opened. (opened.1.local.path ≡ options.now.local.now) × (opened.1.peer.path ≡ options.now.peer.now)) }
 {
-    match open::<H, X>(rt, options.local, blocks, true) {
-        Ok((local, local_sync)) => match open::<H, X>(rt, options.peer, blocks, false) {
+    match open::<H, X>(rt, options.local, blocks) {
+        Ok((local, local_sync)) => match open::<H, X>(rt, options.peer, blocks) {
             Ok((peer, peer_sync)) => {
                 let syncs = PerDisk {
                     local: local_sync,
@@ -131,12 +134,12 @@ fn open<'a, H: Files<File = File>, X: OpeningContents>(
     rt: &H,
     file: &'a str,
     blocks: u32,
-    is_local: bool,
 ) -> Result<Opened<X>, ServeFault<'a>>
     ensures size { IfOk result (λ opened. count_of opened.0 ≡ blocks) }
-    ensures fresh { IfOk result (λ opened. IsFresh is_local opened.0) }
+    ensures fresh { IfOk result (λ opened. IsFresh file.now opened.0) }
+    ensures same { IfOk result (λ opened. opened.1.path ≡ file.now) }
 {
-    match open_image::<H, X>(rt, file, blocks, is_local) {
+    match open_image::<H, X>(rt, file, blocks) {
         Ok(opened) => Ok(opened),
         Err(fault) => Err(ServeFault::Unopened(file, fault)),
     }
@@ -149,8 +152,8 @@ pub(crate) fn read_both<'a, H: Files<File = File>>(
     locks: &PerDisk<ImageLock>,
     blocks: u32,
 ) -> Result<Disks<FileStore<File, AnyContents>>, ServeFault<'a>> {
-    match read(rt, options.local, &locks.local, blocks, true) {
-        Ok(local) => match read(rt, options.peer, &locks.peer, blocks, false) {
+    match read(rt, options.local, &locks.local, blocks) {
+        Ok(local) => match read(rt, options.peer, &locks.peer, blocks) {
             Ok(peer) => Ok(Disks { local, peer }),
             Err(fault) => Err(fault),
         },
@@ -164,7 +167,6 @@ fn read<'a, H: Files<File = File>>(
     file: &'a str,
     lock: &ImageLock,
     blocks: u32,
-    is_local: bool,
 ) -> Result<FileStore<File, AnyContents>, ServeFault<'a>> {
     let opened = match length_and_file(rt, file, lock) {
         Ok((bytes, opened)) => match check_length(bytes, blocks) {
@@ -173,7 +175,7 @@ fn read<'a, H: Files<File = File>>(
         },
         Err(error) => return Err(ServeFault::Unopened(file, OpenFault::Unread(error))),
     };
-    Ok(FileStore::over(opened, blocks, is_local))
+    Ok(FileStore::over(OpenedFile::of(opened), blocks))
 }
 
 // Returns the length of a locked image, and the image opened for reading.

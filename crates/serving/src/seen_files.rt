@@ -47,7 +47,7 @@ fn see_one<'a, H: Files<File = File> + AllocGlobal>(
     if !is_there(rt, image, path)? {
         return Ok((Found::Missing, None));
     }
-    let (found, file) = find_one::<AnyBytes, H>(rt, image, path, lock, blocks)?;
+    let (found, file) = find_one::<AnyBytes, H>(rt, image, path, lock, blocks, None)?;
     Ok((found, Some(file)))
 }
 

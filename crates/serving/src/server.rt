@@ -19,12 +19,17 @@ use crate::session_end::SessionEnd;
 use crate::sessions::run_sessions;
 use blocks::Refusal;
 use file_store::{FileStore, OpeningContents};
-use image_metadata::OpeningBytes;
-use image_store::{ImageLock, PerDisk, SyncHandle};
+use image_metadata::{ENTRIES_AT, MARKS_AT, OpeningBytes, WriteCounts};
+use image_store::{ImageLock, PerDisk};
 use program_values::{MetadataFiles, ServeOptions, SessionStatus};
-use serve_clients::{Listeners, Service, StartedAfter, start_threads};
+use recorded_file::SharedFile;
+use serve_clients::{
+    CountedWrites, Listeners, MapFile, Service, Shown, StartedAfter, start_threads,
+};
 use serve_requests::Requests;
+use server_log::{Event, Style, tell};
 use std::alloc::Global;
+use std::env::Env;
 use std::fs::File;
 use std::io::{Read, Write};
 use std::net::{Net, TcpListener, TcpStream};
@@ -39,11 +44,11 @@ const FIRST_WORD: u64 = 2;
 /// Serves both images to block clients until `input` has a line `quit`, and prints `completed X`, `settled X` and
 /// `unmarked 0`, X being the number of ranges that clients wrote; `unmarked not compared` if the images have more than 262,144
 /// blocks and no comparison was asked for. Locks both images meanwhile. The end of `input` is no order
-/// to end. Returns how it ended:
+/// to end. Meanwhile the log goes to `err`, with what `style` says before each line. Returns how it ended:
 ///
 /// - `Done`: no block is marked, no comparison found a difference, and both images are on stable storage. `X` names what the
-///   images held when they were opened: what it says of both disks holds if each file gave what was last written to it, or
-///   what it held then.
+///   images at these two paths held when they were opened: what it says of both disks holds if each file gave what was last written to
+///   it, or what it held then.
 /// - `Failed`, with a line on `err` that says why: a file, a sync, an address, the output, memory or a thread failed, an image
 ///   is in use, was changed by others, may have kept parts of a write that failed or could not be read for the comparison, the
 ///   disks differ without a mark, or blocks are still marked.
@@ -52,18 +57,29 @@ pub fn serve<
     X: OpeningContents + Send + 'static,
     M: OpeningBytes + Send + 'static,
     N: OpeningBytes + Send + 'static,
-    H: Host + Files<File = File> + Net<Listener = TcpListener, Stream = TcpStream> + RandomSource,
+    H: Host
+        + Files<File = File>
+        + Net<Listener = TcpListener, Stream = TcpStream>
+        + RandomSource
+        + Env,
     I: Read + Drop + Send + 'static,
     W: Write,
-    E: Write,
->(rt: &H, options: &ServeOptions<'_>, input: I, out: &mut W, err: &mut E) -> SessionStatus
-    ensures done { result ≡ status.Done → HasServed options.now X.OpeningContents.local X.OpeningContents.peer (W.contents out.old) (W.contents out.new) }
+    E: Write + Send,
+>(
+    rt: &H,
+    options: &ServeOptions<'_>,
+    style: Style,
+    input: I,
+    out: &mut W,
+    err: &mut E,
+) -> SessionStatus
+    ensures done { result ≡ status.Done → HasServed options.now X.OpeningContents.held (W.contents out.old) (W.contents out.new) }
     ensures refused { (AreInRange options.now → ⊥) → result ≡ status.Refused }
 {
-    match serve_images::<X, M, N, H, I, W, E>(rt, options, input, out, err) {
+    match serve_images::<X, M, N, H, I, W, E>(rt, options, style, input, out, err) {
         Ok(()) => SessionStatus::Done,
         Err(fault) => {
-            let _ = writeln!(err, "{fault}");
+            let _ = writeln!(err, "{}{fault}", style.before_fault());
             fault.status()
         }
     }
@@ -75,22 +91,27 @@ fn serve_images<
     X: OpeningContents + Send + 'static,
     M: OpeningBytes + Send + 'static,
     N: OpeningBytes + Send + 'static,
-    H: Host + Files<File = File> + Net<Listener = TcpListener, Stream = TcpStream> + RandomSource,
+    H: Host
+        + Files<File = File>
+        + Net<Listener = TcpListener, Stream = TcpStream>
+        + RandomSource
+        + Env,
     I: Read + Drop + Send + 'static,
     W: Write,
-    E: Write,
+    E: Write + Send,
 >(
     rt: &H,
     options: &ServeOptions<'a>,
+    style: Style,
     input: I,
     out: &mut W,
     err: &mut E,
 ) -> Result<(), ServeFault<'a>>
-    ensures done { OnOk result (HasServed options.now X.OpeningContents.local X.OpeningContents.peer (W.contents out.old) (W.contents out.new)) }
+    ensures done { OnOk result (HasServed options.now X.OpeningContents.held (W.contents out.old) (W.contents out.new)) }
     ensures refused { (AreInRange options.now → ⊥) → result ≡ Err (Refused BadSetting) }
 {
     match check_size(options) {
-        Ok(()) => serve_sized::<X, M, N, H, I, W, E>(rt, options, input, out, err),
+        Ok(()) => serve_sized::<X, M, N, H, I, W, E>(rt, options, style, input, out, err),
         Err(refusal) => Err(ServeFault::Refused(refusal)),
     }
 }
@@ -101,22 +122,27 @@ fn serve_sized<
     X: OpeningContents + Send + 'static,
     M: OpeningBytes + Send + 'static,
     N: OpeningBytes + Send + 'static,
-    H: Host + Files<File = File> + Net<Listener = TcpListener, Stream = TcpStream> + RandomSource,
+    H: Host
+        + Files<File = File>
+        + Net<Listener = TcpListener, Stream = TcpStream>
+        + RandomSource
+        + Env,
     I: Read + Drop + Send + 'static,
     W: Write,
-    E: Write,
+    E: Write + Send,
 >(
     rt: &H,
     options: &ServeOptions<'a>,
+    style: Style,
     input: I,
     out: &mut W,
     err: &mut E,
 ) -> Result<(), ServeFault<'a>>
     requires { AreInRange options.now }
-    ensures { OnOk result (HasServed options.now X.OpeningContents.local X.OpeningContents.peer (W.contents out.old) (W.contents out.new)) }
+    ensures { OnOk result (HasServed options.now X.OpeningContents.held (W.contents out.old) (W.contents out.new)) }
 {
     let locks = lock_both(rt, options)?;
-    let served = serve_locked::<X, M, N, H, I, E>(rt, options, &locks, input, err);
+    let served = serve_locked::<X, M, N, H, I, E>(rt, options, style, &locks, input, err);
     drop(locks);
     served?.print(out, err)
 }
@@ -127,18 +153,23 @@ fn serve_locked<
     X: OpeningContents + Send + 'static,
     M: OpeningBytes + Send + 'static,
     N: OpeningBytes + Send + 'static,
-    H: Host + Files<File = File> + Net<Listener = TcpListener, Stream = TcpStream> + RandomSource,
+    H: Host
+        + Files<File = File>
+        + Net<Listener = TcpListener, Stream = TcpStream>
+        + RandomSource
+        + Env,
     I: Read + Drop + Send + 'static,
-    E: Write,
+    E: Write + Send,
 >(
     rt: &H,
     options: &ServeOptions<'a>,
+    style: Style,
     locks: &PerDisk<ImageLock>,
     input: I,
     err: &mut E,
 ) -> Result<End<'a>, ServeFault<'a>>
     requires { AreInRange options.now }
-    ensures { IfOk result (HasEnded options.now X.OpeningContents.local X.OpeningContents.peer) }
+    ensures { IfOk result (HasEnded options.now X.OpeningContents.held) }
 {
     let blocks = blocks_of(options, &locks.local)?;
     let (listeners, files) = Listeners::open(
@@ -148,7 +179,7 @@ fn serve_locked<
         options.name,
     )?;
     let served = serve_listening::<X, M, N, H, I, E>(
-        rt, options, blocks, locks, listeners, input, err,
+        rt, options, style, blocks, locks, listeners, input, err,
     );
     files.remove(rt);
     served
@@ -162,10 +193,11 @@ fn serve_listening<
     N: OpeningBytes + Send + 'static,
     H: Host + Files<File = File> + Net<Listener = TcpListener, Stream = TcpStream> + RandomSource,
     I: Read + Drop + Send + 'static,
-    E: Write,
+    E: Write + Send,
 >(
     rt: &H,
     options: &ServeOptions<'a>,
+    style: Style,
     blocks: u32,
     locks: &PerDisk<ImageLock>,
     listeners: Listeners,
@@ -174,17 +206,18 @@ fn serve_listening<
 ) -> Result<End<'a>, ServeFault<'a>>
     requires range { AreInRange options.now }
     requires asked { IfSome options.now.blocks (λ asked. blocks ≡ asked) }
-    ensures { IfOk result (HasEnded options.now X.OpeningContents.local X.OpeningContents.peer) }
+    ensures { IfOk result (HasEnded options.now X.OpeningContents.held) }
 {
     match open_both::<H, X>(rt, options, blocks) {
         Ok((disks, syncs)) => {
             let numbers = fresh_numbers(rt)?;
             let first_word = first_word_of(options, &numbers);
-            let files = find_files::<M, N, H>(rt, options, locks, blocks)?;
+            let counts = write_counts(rt.alloc())?;
+            let files = find_files::<M, N, H>(rt, options, locks, blocks, &counts)?;
             let beginning = begin(rt.alloc(), options, blocks, files, numbers, err)?;
             let after = beginning.after();
             match start_service(
-                rt, options, blocks, first_word, after, syncs, listeners, input, err,
+                rt, options, style, blocks, first_word, after, counts, syncs, listeners, input, err,
             ) {
                 Ok(service) => serve_sessions(
                     rt, &service, options, beginning, numbers, disks, locks, err,
@@ -207,16 +240,18 @@ fn first_word_of(options: &ServeOptions<'_>, numbers: &FreshNumbers) -> u64 {
 // Starts the threads of a server of `blocks` blocks, and prints its addresses.
 fn start_service<
     'a,
-    H: Host + Net<Listener = TcpListener, Stream = TcpStream> + RandomSource,
+    H: Host + Files<File = File> + Net<Listener = TcpListener, Stream = TcpStream> + RandomSource,
     I: Read + Drop + Send + 'static,
-    E: Write,
+    E: Write + Send,
 >(
     rt: &H,
     options: &ServeOptions<'a>,
+    style: Style,
     blocks: u32,
     first_word: u64,
     after: StartedAfter,
-    syncs: PerDisk<SyncHandle<File>>,
+    counts: PerDisk<WriteCounts>,
+    syncs: PerDisk<SharedFile<File>>,
     listeners: Listeners,
     input: I,
     err: &mut E,
@@ -224,6 +259,7 @@ fn start_service<
     ensures { IfOk result (λ service. (service.value.protocol ≡ options.now.protocol) × (service.value.blocks ≡ blocks)) }
 {
     let requests = Requests::new(rt.alloc(), options.protocol, syncs);
+    let shown = shown_of(rt, options, counts)?;
     let service = shared(Service::new(
         rt.alloc(),
         blocks,
@@ -231,6 +267,8 @@ fn start_service<
         requests,
         first_word,
         after,
+        style,
+        shown,
     )?)?;
     let Ok(lines) = listeners.lines(rt.alloc(), blocks) else {
         return Err(ServeFault::Refused(Refusal::NoMemory));
@@ -238,6 +276,72 @@ fn start_service<
     start_threads(rt, &service, listeners, input)?;
     let _ = err.write_all(lines.as_bytes());
     Ok(service)
+}
+
+// Returns what the page of a server shows beside the reports; these count the writes to its metadata.
+fn shown_of<'a, H: Files<File = File> + AllocGlobal>(
+    rt: &H,
+    options: &ServeOptions<'a>,
+    counts: PerDisk<WriteCounts>,
+) -> Result<Shown, ServeFault<'a>> {
+    Ok(Shown {
+        name: name_of(rt.alloc(), options)?,
+        local_metadata: counted(counts.local),
+        peer_metadata: counted(counts.peer),
+        map: map_file(rt, options)?,
+    })
+}
+
+// Returns the name that the options give a server.
+fn name_of<'a>(
+    alloc: Global,
+    options: &ServeOptions<'a>,
+) -> Result<Option<String>, ServeFault<'a>> {
+    let Some(server) = options.name else {
+        return Ok(None);
+    };
+    match String::from_str(alloc, server.name) {
+        Ok(name) => Ok(Some(name)),
+        Err(_) => Err(ServeFault::Refused(Refusal::NoMemory)),
+    }
+}
+
+// Returns where the map of the device is read: in the metadata file of the local image.
+fn map_file<'a, H: Files<File = File> + AllocGlobal>(
+    rt: &H,
+    options: &ServeOptions<'a>,
+) -> Result<Option<MapFile>, ServeFault<'a>> {
+    let MetadataFiles::Kept { local, .. } = options.metadata else {
+        return Ok(None);
+    };
+    let path = match local {
+        Some(path) => String::from_str(rt.alloc(), path),
+        None => format!(in rt.alloc(); "{}.metadata", options.local),
+    };
+    match path {
+        Ok(path) => Ok(Some(MapFile {
+            file: File::open(rt, path.as_str()).ok(),
+            entries_at: ENTRIES_AT,
+            marks_at: MARKS_AT,
+        })),
+        Err(_) => Err(ServeFault::Refused(Refusal::NoMemory)),
+    }
+}
+
+// Returns the counts of the writes of both metadata files.
+fn write_counts<'a>(alloc: Global) -> Result<PerDisk<WriteCounts>, ServeFault<'a>> {
+    match (WriteCounts::new(alloc), WriteCounts::new(alloc)) {
+        (Ok(local), Ok(peer)) => Ok(PerDisk { local, peer }),
+        _ => Err(ServeFault::Refused(Refusal::NoMemory)),
+    }
+}
+
+// Returns the counts of a metadata file for the status page.
+fn counted(counts: WriteCounts) -> CountedWrites {
+    CountedWrites {
+        activity_log: counts.activity_log,
+        bitmap: counts.bitmap,
+    }
 }
 
 // Runs the sessions of a server until it ends, puts both images on stable storage, and compares them where that is asked for or
@@ -248,7 +352,7 @@ fn serve_sessions<
     X: OpeningContents + Send + 'static,
     M: OpeningBytes + Send + 'static,
     N: OpeningBytes + Send + 'static,
-    E: Write,
+    E: Write + Send,
 >(
     rt: &H,
     service: &Service,
@@ -300,7 +404,9 @@ fn serve_sessions<
         && unsynced.local.is_none()
         && unsynced.peer.is_none();
     let is_metadata_broken = !close_metadata(metadata, &parts.marks, locks, is_whole);
+    let _ = tell(rt, service.alloc, service.style, err, Event::Stopped);
     Ok(End {
+        style: service.style,
         totals,
         found,
         files: images_of(options),

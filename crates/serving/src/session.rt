@@ -21,6 +21,7 @@ use metadata::StableFile;
 use primary::Receipt;
 use serve_clients::{Service, work};
 use std::alloc::Global;
+use std::io::Write;
 use std::marker::Brand;
 use std::sync::Wait;
 use thread_link::{RuledIn, RuledOut, ruled};
@@ -31,17 +32,19 @@ type Direction<R> = (RuledOut<R>, RuledIn<R>);
 
 /// Runs a session over these disks, does the requests of clients over it, and returns what it leaves. The refusals are
 /// `BadSetting` (15), `NoMemory` (7), and those of `Session::start`, `serve_clients::work`, `Session::finish`, `confirm` and
-/// `parts_after`. If a sync of the peer's image has failed, nothing is sent to it: the link is cut after the hello.
+/// `parts_after`. If a sync of the peer's image has failed, nothing is sent to it: the link is cut after the hello. The log goes to `err`.
 pub(crate) fn run_session<
     R: Runtime,
     D: Store + Drop + Send + 'static,
     M: OpeningBytes + Send + 'static,
     N: OpeningBytes + Send + 'static,
+    E: Write + Send,
 >(
     rt: R,
     service: &Service,
     cut_every: Option<u32>,
     start: SessionEnd<D, M, N>,
+    err: &mut E,
 ) -> Result<SessionEnd<D, M, N>, Refusal>
     ensures session { IfOk result (λ next. IsSession (opening start) start.totals next) }
 {
@@ -57,8 +60,8 @@ pub(crate) fn run_session<
     };
     match link(rt, service.alloc, parts.settings) {
         Ok((there, back)) => {
-            run_named::<Brand, R, D, M, N>(
-                rt, service, cut_every, there, back, disks, parts, totals, metadata,
+            run_named::<Brand, R, D, M, N, E>(
+                rt, service, cut_every, there, back, disks, parts, totals, metadata, err,
             )
         }
         Err(refusal) => Err(refusal),
@@ -88,6 +91,7 @@ fn run_named<
     D: Store + Drop + Send + 'static,
     M: OpeningBytes + Send + 'static,
     N: OpeningBytes + Send + 'static,
+    E: Write + Send,
 >(
     rt: R,
     service: &Service,
@@ -98,14 +102,15 @@ fn run_named<
     parts: SessionStart,
     totals: Totals,
     metadata: ImagesMetadata<M, N>,
+    err: &mut E,
 ) -> Result<SessionEnd<D, M, N>, Refusal>
     requires there { AreEndsOf L.link names.There there }
     requires back { AreEndsOf L.link names.Back back }
     requires opening { L.opening ≡ opening_of parts (slice_get disks.local) (slice_get disks.peer) }
     ensures session { IfOk result (λ next. IsSession L.opening totals next) }
 {
-    match run_filed::<L, R, D, ImageFile<M>, ImageFile<N>>(
-        rt, service, cut_every, there, back, disks, parts, metadata,
+    match run_filed::<L, R, D, ImageFile<M>, ImageFile<N>, E>(
+        rt, service, cut_every, there, back, disks, parts, metadata, err,
     ) {
         Ok((left, worked)) => {
             let Finished {
@@ -127,6 +132,7 @@ fn run_filed<
     D: Store + Drop + Send + 'static,
     F: StableFile + Send + 'static,
     G: StableFile + Send + 'static,
+    E: Write + Send,
 >(
     rt: R,
     service: &Service,
@@ -136,6 +142,7 @@ fn run_filed<
     disks: Disks<D>,
     parts: SessionStart,
     metadata: PairMetadata<F, G>,
+    err: &mut E,
 ) -> Result<(Finished<R, L, D, D, F, G>, Result<Vec<Receipt>, Refusal>), Refusal>
     requires there { AreEndsOf L.link names.There there }
     requires back { AreEndsOf L.link names.Back back }
@@ -156,7 +163,7 @@ fn run_filed<
         metadata,
     ) {
         Ok(session) => {
-            let worked = work(&rt, service, session.mirror(), cut_every);
+            let worked = work(&rt, service, session.mirror(), cut_every, err);
             match session.finish() {
                 Ok(left) => Ok((left, worked)),
                 Err(refusal) => Err(refusal),

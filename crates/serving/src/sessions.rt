@@ -16,13 +16,13 @@ use std::io::Write;
 use volume::{Runtime, SessionStart};
 
 /// Runs sessions over these disks until the server ends, and returns what the last one leaves. The first one begins as `how`
-/// says; a comparison shows its progress on `err`.
+/// says; a comparison shows its progress on `err`, and then the log goes there.
 pub(crate) fn run_sessions<
     R: Runtime,
     D: Store + Drop + Send + 'static,
     M: OpeningBytes + Send + 'static,
     N: OpeningBytes + Send + 'static,
-    E: Write,
+    E: Write + Send,
 >(
     rt: R,
     service: &Service,
@@ -39,7 +39,7 @@ pub(crate) fn run_sessions<
     service.note_start(to_copy(&last.parts));
     for _ in rt.forever() {
         service.requests.forget_writes();
-        last = run_session(rt, service, cut_every, last)?;
+        last = run_session(rt, service, cut_every, last, err)?;
         // Clients that are still here have requests that the next session answers.
         if service.is_over() && service.clients() == 0 {
             return Ok(last);

@@ -28,6 +28,9 @@ pub trait SecondaryHalf {
     /// Does a turn of a thread.
     fn turn(&self, role: SecondaryRole) -> Turn;
 
+    /// Does a turn of a thread, unless another thread has the lock now.
+    fn try_turn(&self, role: SecondaryRole) -> Option<Turn>;
+
     /// Closes the end, if it is open.
     fn close(&self);
 

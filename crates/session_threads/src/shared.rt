@@ -1,8 +1,11 @@
 //! The state that both halves of a running session share, and the loop of each thread.
 use session_api::{PrimaryHalf, PrimaryRole, SecondaryHalf, SecondaryRole, Turn};
-use std::sync::atomic::{AtomicBool, Ordering};
+use std::sync::atomic::{AtomicBool, AtomicU32, Ordering};
 use std::sync::{Mutex, Wait};
 use std::time::Clock;
+
+/// The most blocks of a short write: 32 KiB. A thread does it at both disks in less time than another one takes to wake.
+const SHORT_BLOCKS: u64 = 8;
 
 /// How the frames of a session get from one half to the other.
 #[derive(Clone, Copy, Debug, PartialEq, Eq)]
@@ -23,6 +26,10 @@ pub(crate) struct Shared<R: Wait, A: PrimaryHalf, B: SecondaryHalf> {
     pub(crate) transport: Transport,
     pub(crate) connecting: Mutex<()>,
     pub(crate) stop: AtomicBool,
+    // Writes that were begun and for which nobody waits yet.
+    begun: AtomicU32,
+    // Whether the primary pushed a frame for which no thread of the secondary was woken: the thread that waits for the write takes it.
+    is_unrung: AtomicBool,
 }
 
 impl<R: Wait, A: PrimaryHalf, B: SecondaryHalf> Shared<R, A, B> {
@@ -35,6 +42,8 @@ impl<R: Wait, A: PrimaryHalf, B: SecondaryHalf> Shared<R, A, B> {
             transport,
             connecting: Mutex::new(()),
             stop: AtomicBool::new(false),
+            begun: AtomicU32::new(0),
+            is_unrung: AtomicBool::new(false),
         }
     }
 
@@ -59,14 +68,53 @@ impl<R: Wait, A: PrimaryHalf, B: SecondaryHalf> Shared<R, A, B> {
         self.secondary.pump_bell().ring_all(&self.rt);
     }
 
-    /// Sends the primary's next frame, if it has one and there is room for it.
-    pub(crate) fn send_next(&self) {
+    /// Sends the primary's next frame, if it has one and there is room for it, for a write of so many blocks that was begun. If that is
+    /// short and the only one, no thread of the secondary is woken: whoever waits for the write takes the frame at once. A longer one is
+    /// better done at both disks at the same time.
+    pub(crate) fn send_begun(&self, blocks: u64) {
+        let others = self.begun.fetch_add(1, Ordering::SeqCst);
         let Ok(done) = self.primary.send() else {
             return;
         };
-        self.ring_for_push();
+        if others == 0 && blocks <= SHORT_BLOCKS && self.transport == Transport::Link {
+            self.is_unrung.store(true, Ordering::SeqCst);
+        } else {
+            self.ring_for_push();
+        }
         if done.completed.is_some() {
             self.primary.writers_bell().ring_all(&self.rt);
+        }
+    }
+
+    /// Counts a write for which a thread waits from now on.
+    pub(crate) fn note_waited_for(&self) {
+        self.begun.fetch_sub(1, Ordering::SeqCst);
+    }
+
+    /// Wakes a thread of the secondary for a frame for which none was woken.
+    pub(crate) fn ring_if_unrung(&self) {
+        if self.is_unrung.swap(false, Ordering::SeqCst) {
+            self.ring_for_push();
+        }
+    }
+
+    /// Does a turn at the secondary for a thread that waits for a write, unless another thread does one. Returns whether it did something.
+    /// Over streams it does nothing: the pumps carry the frames.
+    pub(crate) fn help_secondary(&self) -> bool {
+        if self.transport == Transport::Streams {
+            return false;
+        }
+        match self.secondary.try_turn(SecondaryRole::Receiver) {
+            Some(turn) => {
+                self.is_unrung.store(false, Ordering::SeqCst);
+                // The frames that it pushed are taken by the caller's next turn at the primary.
+                self.close_primary(turn);
+                turn.worked
+            }
+            None => {
+                self.ring_if_unrung();
+                false
+            }
         }
     }
 
@@ -105,11 +153,16 @@ impl<R: Wait, A: PrimaryHalf, B: SecondaryHalf> Shared<R, A, B> {
                 Transport::Streams => self.secondary.pump_bell().ring_one(&self.rt),
             }
         }
+        self.close_primary(turn);
+        turn
+    }
+
+    // Closes the primary's end if the connection closed in a turn at the secondary.
+    fn close_primary(&self, turn: Turn) {
         if let Some(connection) = turn.closed {
             let _connecting = self.connecting.lock(&self.rt);
             self.primary.close_lost(connection);
         }
-        turn
     }
 }
 

@@ -40,7 +40,7 @@ impl<R: Wait + Clock, A: PrimaryHalf, B: SecondaryHalf> Device for SharedSession
             return Err(Refusal::BadRange);
         }
         let number = self.submit(first, &bytes)?;
-        self.shared.send_next();
+        self.shared.send_begun((bytes.len() / BLOCK_BYTES) as u64);
         Ok(Begun::new(number, first, bytes))
     }
 
@@ -131,15 +131,17 @@ impl<R: Wait + Clock, A: PrimaryHalf, B: SecondaryHalf> SharedSession<R, A, B> {
         unreachable!()
     }
 
-    // Waits until a write is completed or failed. A thread that was woken does a turn first: it may have been woken for
-    // that.
+    // Waits until a write is completed or failed. It does what there is to do for it at both nodes, so that a single write is handed to no
+    // other thread.
     fn completed(&self, number: u64) -> Result<Receipt, Refusal>
         ensures number { IfOk result (λ receipt. receipt.number ≡ number) }
         ensures refused { IfErr result (λ e. complete_refuses e ≡ true) }
     {
         let shared = &self.shared;
+        shared.note_waited_for();
         let taken = shared.primary.take_completed(number);
         if !matches!(taken, Err(Refusal::NotCompleted)) {
+            shared.ring_if_unrung();
             return taken;
         }
         let mut looks = 0u32;
@@ -148,14 +150,17 @@ impl<R: Wait + Clock, A: PrimaryHalf, B: SecondaryHalf> SharedSession<R, A, B> {
             let worked = shared.turn_primary(PrimaryRole::Disk).worked;
             match shared.primary.take_completed(number) {
                 Err(Refusal::NotCompleted) => {
-                    if worked {
+                    if shared.help_secondary() || worked {
                         looks = 0;
                     } else {
                         shared.primary.writers_bell().wait(&shared.rt, rings, looks);
                         looks = looks.saturating_add(1);
                     }
                 }
-                done => return done,
+                done => {
+                    shared.ring_if_unrung();
+                    return done;
+                }
             }
         }
         unreachable!()

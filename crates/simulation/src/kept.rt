@@ -28,7 +28,7 @@ impl PrimaryNode for Primary {
         metadata: Metadata<NodeFile>,
     ) -> Option<Primary> {
         let settings = world.plan.settings;
-        match world.local.node_disk(settings.blocks, true) {
+        match world.local.node_disk(settings.blocks) {
             Ok(disk) => match world.wire.primary_ends() {
                 Ok(ends) => KeptPrimary::open(
                     world.alloc,
@@ -119,7 +119,7 @@ impl SecondaryNode for Secondary {
         metadata: Metadata<NodeFile>,
     ) -> Option<Secondary> {
         let settings = world.plan.settings;
-        match world.peer.node_disk(settings.blocks, false) {
+        match world.peer.node_disk(settings.blocks) {
             Ok(disk) => match world.wire.secondary_ends() {
                 Ok(ends) => KeptSecondary::open(
                     world.alloc,

@@ -5,6 +5,7 @@ use crate::process::Process;
 use blocks::Refusal;
 use file_store::{AnyContents, FileStore};
 use metadata::{AnyBytes, BootId, MetadataFile};
+use recorded_file::OpenedFile;
 use std::alloc::{AllocError, Global};
 use std::cell::RefCell;
 use std::rc::Rc;
@@ -45,12 +46,12 @@ impl Machine {
     }
 
     /// Returns the disk for a node.
-    pub(crate) fn node_disk(&self, blocks: u32, is_local: bool) -> Result<NodeDisk, Refusal> {
+    pub(crate) fn node_disk(&self, blocks: u32) -> Result<NodeDisk, Refusal> {
         let file = DiskFile {
             disk: shared(&self.disk)?,
             process: shared(&self.process)?,
         };
-        Ok(FileStore::over(file, blocks, is_local))
+        Ok(FileStore::over(OpenedFile::of(file), blocks))
     }
 
     /// Returns the metadata file, opened.

@@ -1,9 +1,11 @@
 //! Tests of a client over a socket. Its bytes and the server's are written out by hand from the protocol document.
 use blocks::Protocol;
+use server_log::Style;
 use serving::{
     AnyBytes, AnyContents, FirstStart, Host, ListenAt, MetadataFiles, ServeOptions, serve,
 };
 use std::alloc::{AllocError, Global};
+use std::env::Env;
 use std::fs::File;
 use std::io::{Read, Write};
 use std::net::{Ipv4Addr, Net, SocketAddr, TcpListener, TcpStream};
@@ -32,7 +34,7 @@ pub(crate) const GO: [u8; 24] = *b"IHAVEOPT\0\0\0\x07\0\0\0\x08\0\0\0\0\0\x01\0\
 /// The answer to GO: NBD_INFO_EXPORT of 32,768 bytes, NBD_INFO_BLOCK_SIZE and NBD_REP_ACK.
 pub(crate) const GO_ANSWER: [u8; 86] = [
     0x00, 0x03, 0xE8, 0x89, 0x04, 0x55, 0x65, 0xA9, 0, 0, 0, 7, 0, 0, 0, 3, 0, 0, 0, 12, 0, 0, 0,
-    0, 0, 0, 0, 0, 0x80, 0, 0x01, 0x4D, 0x00, 0x03, 0xE8, 0x89, 0x04, 0x55, 0x65, 0xA9, 0, 0, 0, 7,
+    0, 0, 0, 0, 0, 0x80, 0, 0x09, 0x6D, 0x00, 0x03, 0xE8, 0x89, 0x04, 0x55, 0x65, 0xA9, 0, 0, 0, 7,
     0, 0, 0, 3, 0, 0, 0, 14, 0, 3, 0, 0, 0x10, 0, 0, 0, 0x10, 0, 2, 0, 0, 0, 0x00, 0x03, 0xE8,
     0x89, 0x04, 0x55, 0x65, 0xA9, 0, 0, 0, 7, 0, 0, 0, 1, 0, 0, 0, 0,
 ];
@@ -291,7 +293,8 @@ pub(crate) fn serve_until<
         + Host
         + Files<File = File>
         + Net<Listener = TcpListener, Stream = TcpStream>
-        + RandomSource,
+        + RandomSource
+        + Env,
 >(rt: H, options: &ServeOptions<'_>, is_done: &Arc<AtomicBool, Global>, out: &mut Vec<u8>) -> u8 {
     let order = Order {
         rt,
@@ -299,7 +302,14 @@ pub(crate) fn serve_until<
         is_given: false,
     };
     let mut err = Vec::new(rt.alloc());
-    serve::<AnyContents, AnyBytes, AnyBytes, _, _, _, _>(&rt, options, order, out, &mut err).code()
+    serve::<AnyContents, AnyBytes, AnyBytes, _, _, _, _>(
+        &rt,
+        options,
+        Style::Dated,
+        order,
+        out,
+        &mut err,
+    ).code()
 }
 
 /// Writes an image of zeros for a client of the tests.
@@ -315,7 +325,8 @@ fn serve_one<
         + Host
         + Files<File = File>
         + Net<Listener = TcpListener, Stream = TcpStream>
-        + RandomSource,
+        + RandomSource
+        + Env,
 >(rt: H, protocol: Protocol, out: &mut Vec<u8>) -> (u8, bool) {
     let alloc = rt.alloc();
     let (address, page) = free_addresses(&rt);

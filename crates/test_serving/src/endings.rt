@@ -4,6 +4,7 @@ use crate::slow_reader::{BLOCKS, READS, ask_for_all, open};
 use blocks::Protocol;
 use serving::{Host, ServeOptions};
 use std::alloc::Global;
+use std::env::Env;
 use std::fs::File;
 use std::io::{Read, Write};
 use std::net::{Net, SocketAddr, TcpListener, TcpStream};
@@ -102,7 +103,8 @@ fn serve_to_the_end<
         + Host
         + Files<File = File>
         + Net<Listener = TcpListener, Stream = TcpStream>
-        + RandomSource,
+        + RandomSource
+        + Env,
 >(rt: H) -> u8 {
     let alloc = rt.alloc();
     let (address, page) = free_addresses(&rt);

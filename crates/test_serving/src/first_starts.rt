@@ -2,6 +2,7 @@
 use crate::clients::{free_addresses, options_of, serve_until};
 use blocks::Protocol;
 use serving::{FirstStart, Host, ServeOptions};
+use std::env::Env;
 use std::fs;
 use std::fs::{File, Files};
 use std::net::{Net, TcpListener, TcpStream};
@@ -20,7 +21,8 @@ fn serve_from<
         + Host
         + Files<File = File>
         + Net<Listener = TcpListener, Stream = TcpStream>
-        + RandomSource,
+        + RandomSource
+        + Env,
 >(rt: H, first: FirstStart) -> (u8, bool) {
     let alloc = rt.alloc();
     fs::write(&rt, "first_local", &[1; TWO_BLOCKS]).expect(&rt, "an image");

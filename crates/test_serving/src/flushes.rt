@@ -1,18 +1,19 @@
 //! Tests of what a FLUSH and a request with FUA wait for, over a device whose writes are released late.
 use crate::page::resync_progress;
-use blocks::{BLOCK_BYTES, ConnectionWords, Protocol, Refusal};
+use blocks::{BLOCK_BYTES, ConnectionWords, MemStore, Protocol, Refusal, Settings, Tuple};
 use bytes::Bytes;
 use image_store::{PerDisk, open_image};
-use nbd::{NbdCommand, Request};
-use primary::Receipt;
+use link::{PlainIn, PlainOut};
+use nbd::{Connection, Export, NbdCommand, Request, RequestHeader};
+use primary::{Primary, Receipt};
 use serve_requests::Requests;
 use serving::AnyContents;
 use session_api::{Begun, Device, PrimaryProgress, Progress};
 use std::alloc::Global;
 use std::fs::{self, File, Files, OpenFile};
 use std::process::Abort;
-use std::sync::Wait;
 use std::sync::atomic::{AtomicU64, Ordering};
+use std::sync::{Mutex, Wait};
 use std::time::Clock;
 
 /// How many writes a device has accepted before it is asked for the first time.
@@ -24,25 +25,71 @@ const RELEASED_AT: u64 = 4;
 /// Further questions after which it says that another write is released.
 const QUESTIONS_A_WRITE: u64 = 2;
 
+/// The most writes that a device takes.
+const WRITES: u32 = 8;
+
+/// A client's flags: fixed newstyle and no zeros.
+const FLAGS: [u8; 4] = [0, 0, 0, 3];
+
+/// EXPORT_NAME for the default export.
+const EXPORT_NAME: [u8; 16] = [
+    0x49, 0x48, 0x41, 0x56, 0x45, 0x4F, 0x50, 0x54, 0, 0, 0, 1, 0, 0, 0, 0,
+];
+
 /// A device whose writes are released late: the first `ACCEPTED` when it is asked for the `released_at`th time, and another one
 /// after each two questions more. When it is asked for the first time `ACCEPTED` are accepted, and another one right after it. Its
-/// blocks are zeros, and it takes no write.
+/// blocks are zeros. It takes writes of its first block, which end in their order, and counts none of them as accepted.
 #[derive(Drop)]
-pub(crate) struct LateDevice {
+pub(crate) struct LateDevice<R> {
+    rt: R,
     alloc: Global,
     released_at: AtomicU64,
     questions: AtomicU64,
+    // Writes that were begun.
+    begun: AtomicU64,
+    // The receipts of its writes, the last write's first.
+    receipts: Mutex<Vec<Receipt>>,
 }
 
-impl LateDevice {
-    pub(crate) fn new(alloc: Global, released_at: u64) -> LateDevice {
+// Makes the receipts of `WRITES` writes of block 0, the last write's first: those of a primary that has lost its peer.
+fn receipts_of_writes(rt: &impl Abort, alloc: Global) -> Vec<Receipt> {
+    let zeros = MemStore::zeroed(alloc, Settings::STANDARD.blocks).expect(rt, "memory");
+    let marks = Vec::from_elem(alloc, false, 8).expect(rt, "memory");
+    let mut primary = Primary::<PlainOut, PlainIn, MemStore>::new(
+        alloc,
+        Settings::STANDARD,
+        zeros,
+        Tuple::new(2, 1, 0, 0),
+        marks,
+    )
+    .expect(rt, "a primary");
+    let block = Bytes::copy_from_slice(alloc, &[0; BLOCK_BYTES]).expect(rt, "memory");
+    let mut receipts = Vec::new(alloc);
+    for _ in 0..WRITES {
+        let (number, _) = primary.submit(0, &block).expect(rt, "a write");
+        primary.local(number).expect(rt, "a write of the disk");
+        let receipt = primary.take_completed(number).expect(rt, "a receipt");
+        receipts.push(receipt).expect(rt, "memory");
+    }
+    receipts.reverse();
+    receipts
+}
+
+impl<R: Abort + Wait + Copy + AllocGlobal> LateDevice<R> {
+    pub(crate) fn new(rt: R, released_at: u64) -> LateDevice<R> {
+        let alloc = rt.alloc();
         LateDevice {
+            rt,
             alloc,
             released_at: AtomicU64::new(released_at),
             questions: AtomicU64::new(0),
+            begun: AtomicU64::new(0),
+            receipts: Mutex::new(receipts_of_writes(&rt, alloc)),
         }
     }
+}
 
+impl<R> LateDevice<R> {
     /// Releases its writes from now on.
     pub(crate) fn release(&self) {
         self.released_at.store(0, Ordering::SeqCst);
@@ -67,9 +114,9 @@ impl LateDevice {
     }
 }
 
-impl Device for LateDevice {
-    // It accepts no write.
-    ghost accepts = { λ number first bytes. ⊥ };
+impl<R: Wait> Device for LateDevice<R> {
+    // It has no history.
+    ghost accepts = { λ number first bytes. Unit {0} };
 
     // It has no disk.
     ghost holds = { λ first count bytes. Unit {0} };
@@ -83,12 +130,22 @@ impl Device for LateDevice {
         Err(Refusal::NotConnected)
     }
 
-    fn begin(&self, _first: u64, _bytes: Bytes) -> Result<Begun, Refusal> {
-        Err(Refusal::NotConnected)
+    fn begin(&self, first: u64, bytes: Bytes) -> Result<Begun, Refusal> {
+        if bytes.len() % BLOCK_BYTES != 0 {
+            return Err(Refusal::BadRange);
+        }
+        let before = self.begun.fetch_add(1, Ordering::SeqCst);
+        Ok(Begun::new(before.saturating_add(1), first, bytes))
     }
 
-    fn complete(&self, _begun: Begun) -> Result<Receipt, Refusal> {
-        Err(Refusal::UnknownJob)
+    fn complete(&self, begun: Begun) -> Result<Receipt, Refusal> {
+        let Some(receipt) = self.receipts.lock(&self.rt).pop() else {
+            return Err(Refusal::UnknownJob);
+        };
+        if receipt.number() != begun.number() {
+            return Err(Refusal::UnknownJob);
+        }
+        begun.end(receipt)
     }
 
     fn read(&self, _first: u64, count: u64) -> Result<Vec<u8>, Refusal> {
@@ -139,23 +196,48 @@ pub(crate) fn requests_under(
     image: &str,
 ) -> Requests {
     fs::write(rt, image, &[0; 4096]).expect(rt, "a file");
-    let (_, local) = open_image::<_, AnyContents>(rt, image, 1, true).expect(rt, "an image");
-    let (_, peer) = open_image::<_, AnyContents>(rt, image, 1, false).expect(rt, "an image");
+    let (_, local) = open_image::<_, AnyContents>(rt, image, 1).expect(rt, "an image");
+    let (_, peer) = open_image::<_, AnyContents>(rt, image, 1).expect(rt, "an image");
     fs::remove_file(rt, image).expect(rt, "a file");
     Requests::new(rt.alloc(), protocol, PerDisk { local, peer })
 }
 
+// Makes the request of a client, over a connection of its own. If the command has a range, it is block 0.
+fn request(rt: &(impl Abort + AllocGlobal), command: NbdCommand, fua: bool) -> Request {
+    let alloc = rt.alloc();
+    let mut connection = Connection::new(alloc, Export::new(String::new(alloc), 8), 1);
+    let header = RequestHeader {
+        flags: u16::from(fua),
+        kind: command.number(),
+        cookie: 1,
+        offset: 0,
+        length: if command == NbdCommand::Flush {
+            0
+        } else {
+            4096
+        },
+    };
+    connection.feed(&FLAGS).expect(rt, "memory");
+    connection.feed(&EXPORT_NAME).expect(rt, "memory");
+    let out = connection
+        .feed(header.encode().as_slice())
+        .expect(rt, "memory");
+    let (_, requests) = out.into_parts();
+    let mut requests = requests;
+    requests.pop().expect(rt, "a request")
+}
+
 // Begins a request `count` times over a device, ends one after another, and then finishes one after another.
-fn finish_together(
-    rt: &(impl Abort + Wait + Clock + AllocGlobal),
+fn finish_together<R: Abort + Wait + Clock + AllocGlobal>(
+    rt: &R,
     requests: &Requests,
-    device: &LateDevice,
+    device: &LateDevice<R>,
     (command, fua): (NbdCommand, bool),
     count: u32,
 ) {
     let mut begun = Vec::new(rt.alloc());
     for _ in 0..count {
-        let under_way = requests.begin(device, request(command, fua));
+        let under_way = requests.begin(device, request(rt, command, fua));
         begun.push(under_way).expect(rt, "memory");
     }
     let mut receipts = Vec::new(rt.alloc());
@@ -166,33 +248,21 @@ fn finish_together(
     }
     for ended in unsynced {
         let answer = requests.finish(rt, device, ended);
-        assert!(rt; answer.reply.error.is_none());
+        assert!(rt; answer.error().is_none());
     }
 }
 
 // Ends a request over a late device under this protocol. Returns what the device was asked.
 fn asked_for(
-    rt: &(impl Abort + Wait + Clock + Files<File = File> + AllocGlobal),
+    rt: &(impl Abort + Wait + Clock + Copy + Files<File = File> + AllocGlobal),
     protocol: Protocol,
     command: NbdCommand,
     fua: bool,
 ) -> u64 {
-    let device = LateDevice::new(rt.alloc(), RELEASED_AT);
+    let device = LateDevice::new(*rt, RELEASED_AT);
     let requests = requests_under(rt, protocol, "flushed_late");
     finish_together(rt, &requests, &device, (command, fua), 1);
     device.asked()
-}
-
-// A request of no blocks.
-fn request(command: NbdCommand, fua: bool) -> Request {
-    Request {
-        command,
-        fua,
-        cookie: 1,
-        first_block: 0,
-        block_count: 0,
-        payload: Bytes::from_static(&[]),
-    }
 }
 
 // A FLUSH under A or B asks until the writes that were accepted before it are released, and for no later one.
@@ -204,11 +274,13 @@ fn a_flush_waits_for_the_writes_before_it(rt: HostRuntime) {
     }
 }
 
-// So does a WRITE_ZEROES with FUA; without, it waits for nothing, and so does a READ with FUA, which writes nothing.
+// So does a WRITE_ZEROES or a TRIM with FUA; without, it waits for nothing, and so does a READ with FUA, which writes nothing.
 #[test]
 fn a_request_with_fua_waits_for_the_writes_before_it(rt: HostRuntime) {
-    let asked = asked_for(&rt, Protocol::A, NbdCommand::WriteZeroes, true);
-    assert_eq!(rt; asked, RELEASED_AT);
+    for command in [NbdCommand::WriteZeroes, NbdCommand::Trim] {
+        let asked = asked_for(&rt, Protocol::A, command, true);
+        assert_eq!(rt; asked, RELEASED_AT);
+    }
     let asked = asked_for(&rt, Protocol::A, NbdCommand::WriteZeroes, false);
     assert_eq!(rt; asked, 0);
     let asked = asked_for(&rt, Protocol::A, NbdCommand::Read, true);
@@ -227,7 +299,7 @@ fn a_flush_under_c_waits_for_no_write(rt: HostRuntime) {
 #[test]
 fn flushes_share_a_round(rt: HostRuntime) {
     for protocol in [Protocol::A, Protocol::B] {
-        let device = LateDevice::new(rt.alloc(), RELEASED_AT);
+        let device = LateDevice::new(rt, RELEASED_AT);
         let requests = requests_under(&rt, protocol, "flushed_late");
         finish_together(&rt, &requests, &device, (NbdCommand::Flush, false), 3);
         assert_eq!(rt; device.asked(), RELEASED_AT);
@@ -240,7 +312,7 @@ fn flushes_share_a_round(rt: HostRuntime) {
 // round, since its writes are completed only as it ends: it waits for the write that was accepted meanwhile.
 #[test]
 fn requests_with_fua_share_a_round(rt: HostRuntime) {
-    let device = LateDevice::new(rt.alloc(), RELEASED_AT);
+    let device = LateDevice::new(rt, RELEASED_AT);
     let requests = requests_under(&rt, Protocol::A, "flushed_late");
     finish_together(&rt, &requests, &device, (NbdCommand::WriteZeroes, true), 3);
     assert_eq!(rt; device.asked(), RELEASED_AT);
@@ -251,14 +323,14 @@ fn requests_with_fua_share_a_round(rt: HostRuntime) {
 // A request that begins before a round and ends after it takes a later one.
 #[test]
 fn a_request_with_fua_takes_no_earlier_round(rt: HostRuntime) {
-    let device = LateDevice::new(rt.alloc(), RELEASED_AT);
+    let device = LateDevice::new(rt, RELEASED_AT);
     let requests = requests_under(&rt, Protocol::A, "flushed_late");
-    let under_way = requests.begin(&device, request(NbdCommand::WriteZeroes, true));
+    let under_way = requests.begin(&device, request(&rt, NbdCommand::WriteZeroes, true));
     finish_together(&rt, &requests, &device, (NbdCommand::Flush, false), 1);
     assert_eq!(rt; device.asked(), RELEASED_AT);
     let mut receipts = Vec::new(rt.alloc());
     let ended = requests.end(&device, under_way, &mut receipts);
     let answer = requests.finish(&rt, &device, ended);
-    assert!(rt; answer.reply.error.is_none());
+    assert!(rt; answer.error().is_none());
     assert_eq!(rt; device.asked(), RELEASED_AT + QUESTIONS_A_WRITE);
 }

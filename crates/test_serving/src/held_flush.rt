@@ -4,10 +4,12 @@ use crate::flushes::{LateDevice, requests_under};
 use crate::slow_reader::{gets, open};
 use blocks::{Protocol, Refusal};
 use primary::Receipt;
-use serve_clients::{Listeners, Service, start_threads, work};
+use serve_clients::{Listeners, Service, Shown, start_threads, work};
 use serve_page::StartedAfter;
+use server_log::Style;
 use serving::{Host, ListenAt};
 use std::alloc::Global;
+use std::env::Env;
 use std::fs::File;
 use std::io::{Read, Write};
 use std::net::{Net, SocketAddr, TcpListener, TcpStream};
@@ -37,7 +39,7 @@ fn read_beside_flushes<R: Abort + Net<Stream = TcpStream> + Clock>(
     rt: &R,
     alloc: Global,
     address: SocketAddr,
-    device: &LateDevice,
+    device: &LateDevice<R>,
 ) {
     let mut flusher = open(rt, alloc, address);
     for cookie in 0..FLUSHES {
@@ -82,7 +84,8 @@ fn serve_device<
         + Host
         + Files<File = File>
         + Net<Listener = TcpListener, Stream = TcpStream>
-        + RandomSource,
+        + RandomSource
+        + Env,
 >(rt: H) {
     let alloc = rt.alloc();
     let (address, _) = free_addresses(&rt);
@@ -91,9 +94,17 @@ fn serve_device<
         .expect(&rt, "a listener");
     let requests = requests_under(&rt, Protocol::A, "flushed_held");
     let after = StartedAfter::NoMetadata;
-    let service = Service::new(alloc, BLOCKS, Protocol::A, requests, 2, after).expect(
-        &rt, "memory",
+    let service = Service::new(
+        alloc,
+        BLOCKS,
+        Protocol::A,
+        requests,
+        2,
+        after,
+        Style::Dated,
+        Shown::nothing(alloc).expect(&rt, "memory"),
     );
+    let service = service.expect(&rt, "memory");
     let service = Arc::new(alloc, service).expect(&rt, "memory");
     let is_done = Arc::new(alloc, AtomicBool::new(false)).expect(&rt, "memory");
     let order = Order {
@@ -104,14 +115,15 @@ fn serve_device<
     start_threads(&rt, &service, listeners, order)
         .ok()
         .expect(&rt, "threads");
-    let device = LateDevice::new(alloc, u64::MAX);
+    let device = LateDevice::new(rt, u64::MAX);
+    let mut err = Vec::new(alloc);
     let (_, receipts) = thread::join(
         &rt,
         || {
             read_beside_flushes(&rt, alloc, address, &device);
             is_done.store(true, Ordering::SeqCst);
         },
-        || -> Result<Vec<Receipt>, Refusal> { work(&rt, &service, &device, None) },
+        || -> Result<Vec<Receipt>, Refusal> { work(&rt, &service, &device, None, &mut err) },
     );
     assert_eq!(rt; receipts.expect(&rt, "receipts").len(), 0);
 }

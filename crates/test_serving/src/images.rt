@@ -1,7 +1,8 @@
 //! Tests of a disk over an image file, and of its lock, by whole calls over files of their own. No contract says what a file holds.
 use blocks::{BLOCK_BYTES, Block, Range, Refusal, Store, StoreFault};
 use file_store::FileStore;
-use image_store::{ImageLock, OpenFault, SyncHandle, open_image};
+use image_store::{Disk, ImageLock, OpenFault, SyncHandle, open_image};
+use recorded_file::OpenedFile;
 use serving::AnyContents;
 use std::alloc::{AllocError, Global};
 use std::cell::Cell;
@@ -27,7 +28,8 @@ fn open<H: Files<File = File>>(
     path: &str,
     blocks: u32,
 ) -> Result<(FileStore<File, AnyContents>, SyncHandle<File>), OpenFault> {
-    open_image::<H, AnyContents>(rt, path, blocks, true)
+    let (store, shared) = open_image::<H, AnyContents>(rt, path, blocks)?;
+    Ok((store, SyncHandle::of(shared, Disk::Local)))
 }
 
 // Makes a file of such an image.
@@ -98,10 +100,27 @@ fn a_write_is_in_the_file(rt: HostRuntime) {
     puts(&rt, &mut store, (1, [170, 187]), Ok(()));
     assert!(rt; is_held(&mut store, &[1, 170, 187, 4]));
     assert!(rt; is_image(&rt, "written", &[1, 170, 187, 4]).expect(&rt, "an image"));
-    sync.sync().expect(&rt, "a flush");
+    sync.sync(1).expect(&rt, "a flush");
     let (mut again, _) = open(&rt, "written", 4).expect(&rt, "a store");
     assert!(rt; is_held(&mut again, &[1, 170, 187, 4]));
     fs::remove_file(&rt, "written").expect(&rt, "a file");
+}
+
+// Zeros are in the file, whether it had data in their place, in none of it, or in a part of it.
+#[test]
+fn zeros_are_in_a_sparse_file(rt: HostRuntime) {
+    make_image(&rt, "sparse", 2, 8192);
+    let file = OpenOptions::new().write(true).open(&rt, "sparse");
+    let file = file.expect(&rt, "a file");
+    file.set_len(32_768).expect(&rt, "a file of 8 blocks");
+    let (mut store, _) = open(&rt, "sparse", 8).expect(&rt, "a store");
+    puts(&rt, &mut store, (6, [7, 8]), Ok(()));
+    puts(&rt, &mut store, (1, [0, 0]), Ok(()));
+    puts(&rt, &mut store, (3, [0, 0]), Ok(()));
+    puts(&rt, &mut store, (5, [0, 0]), Ok(()));
+    assert!(rt; is_held(&mut store, &[1, 0, 0, 0, 0, 0, 0, 8]));
+    check_image(&rt, "sparse", &[1, 0, 0, 0, 0, 0, 0, 8], true);
+    fs::remove_file(&rt, "sparse").expect(&rt, "a file");
 }
 
 // A block above 4 GiB is at its place in the file, which is sparse below it.
@@ -247,10 +266,10 @@ fn a_flush_needs_no_store(rt: HostRuntime) {
     let child = thread::spawn(&rt, move || {
         let mut store = store;
         let is_put = put_two(&mut store, 2, [51, 68]) == Ok(Ok(()));
-        is_put && theirs.sync().is_ok()
+        is_put && theirs.sync(1).is_ok()
     })
     .expect(&rt, "a thread");
-    sync.sync().expect(&rt, "a flush");
+    sync.sync(1).expect(&rt, "a flush");
     assert!(rt; child.join(&rt));
     assert!(rt; is_image(&rt, "flushed", &[1, 2, 51, 68]).expect(&rt, "an image"));
     fs::remove_file(&rt, "flushed").expect(&rt, "a file");
@@ -298,7 +317,7 @@ fn failing_store(
         short_write: 1,
         passes_from,
     };
-    FileStore::over(file, 4, true)
+    FileStore::over(OpenedFile::of(file), 4)
 }
 
 // Checks that the file at this path has one block for each of these bytes, filled with it, or that it does not if
@@ -352,7 +371,7 @@ fn a_refused_write_changes_nothing(rt: HostRuntime) {
         .read(true)
         .open(&rt, "refused")
         .expect(&rt, "a file");
-    let mut store = FileStore::<File, AnyContents>::over(file, 4, true);
+    let mut store = FileStore::<File, AnyContents>::over(OpenedFile::of(file), 4);
     puts(&rt, &mut store, (1, [170, 187]), Err(StoreFault));
     assert!(rt; is_held(&mut store, &[1, 2, 3, 4]));
     assert!(rt; !store.is_torn());

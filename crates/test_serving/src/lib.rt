@@ -1,5 +1,5 @@
 //! Tests of a server: clients over sockets, by bytes written out by hand, also at its end; what a flush waits for and holds up; disks over
-//! image files; and the status page.
+//! image files; the status page; and the lines of the log.
 #![tactic(auto)]
 
 #[cfg(test)]
@@ -14,6 +14,8 @@ mod flushes;
 mod held_flush;
 #[cfg(test)]
 mod images;
+#[cfg(test)]
+mod log_lines;
 #[cfg(test)]
 mod page;
 #[cfg(test)]

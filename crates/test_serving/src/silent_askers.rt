@@ -3,6 +3,7 @@ use crate::clients::{connect, free_addresses, is_answered, options_of, put_image
 use blocks::Protocol;
 use serving::{Host, ServeOptions};
 use std::alloc::Global;
+use std::env::Env;
 use std::fs::File;
 use std::net::{Net, SocketAddr, TcpListener, TcpStream};
 use std::process::Abort;
@@ -19,15 +20,32 @@ const SILENT: usize = 20;
 /// The time within which the other one has its answer: less than a silent client keeps its place, which is two seconds.
 const PATIENCE_MS: u64 = 1500;
 
+/// How often a client looks for connected nodes at most.
+const LOOKS: u32 = 200;
+
+// Asks until both nodes are connected, a moment after the server listens. Returns whether they are.
+fn is_soon_connected<R: Clock + Net<Stream = TcpStream>>(
+    rt: &R,
+    alloc: Global,
+    page: SocketAddr,
+) -> io::Result<bool> {
+    for _ in 0..LOOKS {
+        let mut stream = connect(rt, page)?;
+        if is_answered(alloc, &mut stream)? {
+            return Ok(true);
+        }
+        thread::sleep(rt, Duration::from_millis(5));
+    }
+    Ok(false)
+}
+
 // Has silent clients, and one behind them that asks, in time too. Returns whether its answer is right.
 fn ask_behind<R: Abort + Clock + Net<Stream = TcpStream>>(
     rt: &R,
     alloc: Global,
     page: SocketAddr,
 ) -> io::Result<bool> {
-    // The server has both nodes connected by then.
-    let mut first = connect(rt, page)?;
-    let is_first_right = is_answered(alloc, &mut first)?;
+    let is_first_right = is_soon_connected(rt, alloc, page)?;
     let mut silent = Vec::new(alloc);
     for _ in 0..SILENT {
         silent.push(connect(rt, page)?).ok().expect(rt, "memory");
@@ -44,7 +62,8 @@ fn serve_page_to_many<
         + Host
         + Files<File = File>
         + Net<Listener = TcpListener, Stream = TcpStream>
-        + RandomSource,
+        + RandomSource
+        + Env,
 >(rt: H) -> (u8, bool) {
     let alloc = rt.alloc();
     let (address, page) = free_addresses(&rt);

@@ -3,6 +3,7 @@ use crate::clients::{PAGE, connect, free_addresses, options_of, put_image, serve
 use blocks::Protocol;
 use serving::{Host, ServeOptions};
 use std::alloc::Global;
+use std::env::Env;
 use std::fs::File;
 use std::io::{Read, Write};
 use std::net::{Net, SocketAddr, TcpListener, TcpStream};
@@ -68,7 +69,8 @@ fn serve_page_to_both<
         + Host
         + Files<File = File>
         + Net<Listener = TcpListener, Stream = TcpStream>
-        + RandomSource,
+        + RandomSource
+        + Env,
 >(rt: H) -> (u8, bool) {
     let alloc = rt.alloc();
     let (address, page) = free_addresses(&rt);

@@ -6,6 +6,7 @@ use crate::clients::{
 use blocks::Protocol;
 use serving::{Host, ServeOptions};
 use std::alloc::Global;
+use std::env::Env;
 use std::fs::File;
 use std::io::{Read, Write};
 use std::net::{Net, SocketAddr, TcpListener, TcpStream};
@@ -120,7 +121,8 @@ fn serve_both<
         + Host
         + Files<File = File>
         + Net<Listener = TcpListener, Stream = TcpStream>
-        + RandomSource,
+        + RandomSource
+        + Env,
 >(rt: H, out: &mut Vec<u8>) -> u8 {
     let alloc = rt.alloc();
     let (address, page) = free_addresses(&rt);

@@ -6,6 +6,7 @@ use blocks::Protocol;
 use serve_clients::Listeners;
 use serving::{Host, ListenAt, ServeOptions, ServerName};
 use std::alloc::Global;
+use std::env::Env;
 use std::fs::File;
 use std::net::{Net, SocketAddr, TcpListener, TcpStream};
 use std::os::unix::fs::PermissionsExt;
@@ -42,7 +43,8 @@ fn serve_at_two<
         + Host
         + Files<File = File>
         + Net<Listener = TcpListener, Stream = TcpStream>
-        + RandomSource,
+        + RandomSource
+        + Env,
 >(rt: H) -> (u8, bool) {
     let alloc = rt.alloc();
     let (address, page) = free_addresses(&rt);
@@ -89,11 +91,9 @@ fn clients_come_by_any_address(rt: HostRuntime) {
 }
 
 // Listens at a path. Returns whether that is done, and if it is not, whether the fault is this.
-fn listens_at<R: Abort + AllocGlobal + Files + Net<Listener = TcpListener, Stream = TcpStream>>(
-    rt: &R,
-    path: &str,
-    fault: &str,
-) -> bool {
+fn listens_at<
+    R: Abort + AllocGlobal + Env + Files + Net<Listener = TcpListener, Stream = TcpStream>,
+>(rt: &R, path: &str, fault: &str) -> bool {
     match Listeners::open(rt, &[ListenAt::Unix(path)], &[], None) {
         Ok((_, files)) => {
             let mode = fs::metadata(rt, path)

@@ -8,4 +8,4 @@ use Rattle.nbd.proofs.step.take_part.Goals as goal
 pub returns-in-Request-clause-waits : goal.returns-in-Request-clause-waits
 returns-in-Request-clause-waits c =
     subst (λ (p : Phase). Waits c.args.export.now p []) (sym (ap (λ (s : Stepped). s.phase) c.after_header.ensures))
-    (header_waits c.args.export.now c.decode.result)
+    (header_waits c.args.of c.args.export.now c.decode.result)

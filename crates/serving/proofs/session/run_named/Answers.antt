@@ -1,4 +1,3 @@
-use Rattle.std.proofs.Common.{rules}
 use Rattle.serving.proofs.Ended.{session-of}
 use Rattle.serving.proofs.session.run_named.Goals as goal
 
@@ -9,9 +8,3 @@ returns-in-Ok g c = record {
       c.settle_session.ensures.faithful c.settle_session.ensures.done
       c.settle_session.ensures.disks c.settle_session.ensures.comes;
 }
-
-pub run_filed-requires-send-F : goal.run_filed-requires-send-F
-run_filed-requires-send-F g c κs within = search rules
-
-pub run_filed-requires-send-G : goal.run_filed-requires-send-G
-run_filed-requires-send-G g c κs within = search rules

@@ -15,10 +15,12 @@ pub loop-rest-preserved : goal.loop-rest-preserved
 loop-rest-preserved c =
     let adds = c.in_ok-take.ensures.adds in
     record {
+      number = c.take.ensures.number ∙ c.loop-rest.invariant.number;
+      own = c.take.ensures.own ∙ c.loop-rest.invariant.own;
       continues = continues_on (fed c.args.self.now c.args.piece.now) c.loop-rest.self c.take.new.self c.split_at.result.0.now c.split_at.result.1.now
           c.loop-rest.rest.now
-          c.args.out.now.bytes.items c.loop-rest.out.bytes.items c.take.new.out.bytes.items c.args.out.now.requests.items c.loop-rest.out.requests.items
-          c.take.new.out.requests.items
+          c.args.out.now.bytes c.loop-rest.out.bytes c.take.new.out.bytes c.args.out.now.requests c.loop-rest.out.requests
+          c.take.new.out.requests
           (parts c.portion.result c.loop-rest.rest.now c.split_at.result.0.now c.split_at.result.1.now c.split_at.ensures.front c.split_at.ensures.back)
           c.loop-rest.invariant.continues adds;
       begins = begins_more _ _ _ _ c.loop-rest.invariant.begins adds.sent;
@@ -27,6 +29,6 @@ loop-rest-preserved c =
 
 pub returns-clause-adds : goal.returns-clause-adds
 returns-clause-adds c =
-    continues_end (fed c.args.self.now c.args.piece.now) c.loop-rest.self c.loop-rest.rest.now c.args.out.now.bytes.items c.loop-rest.out.bytes.items
-    c.args.out.now.requests.items c.loop-rest.out.requests.items (eqb-true _ _ (sym c.is_empty.ensures ∙ c.loop-rest-test.false))
+    continues_end (fed c.args.self.now c.args.piece.now) c.loop-rest.self c.loop-rest.rest.now c.args.out.now.bytes c.loop-rest.out.bytes
+    c.args.out.now.requests c.loop-rest.out.requests (eqb-true _ _ (sym c.is_empty.ensures ∙ c.loop-rest-test.false))
     c.loop-rest.invariant.continues
