@@ -12,7 +12,7 @@ pub(crate) struct Holes {
 }
 
 impl Holes {
-    /// Creates it for a file of which nothing is known.
+    /// Creates it for a file about whose holes nothing is known.
     pub(crate) fn unknown() -> Holes {
         Holes { descriptor: None }
     }

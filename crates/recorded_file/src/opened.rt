@@ -11,7 +11,7 @@ use std::marker::Model;
 use std::os::unix::fs::FileExt;
 use std::rt::Files;
 
-/// A file that was opened, of which clauses know the path. It takes no memory for that.
+/// A file that was opened, and whose path clauses know. It takes no memory for that.
 ///
 /// The system's calls promise nothing to a proof. That `open` opens the very path that it notes is to be read here, and nowhere else.
 #[derive(Drop)]
@@ -30,7 +30,7 @@ impl<F> Model for OpenedFile<F> {
 }
 
 impl<F> OpenedFile<F> {
-    /// Takes a file of which no path is known.
+    /// Takes a file whose path nobody knows.
     pub fn of(file: F) -> OpenedFile<F>
         ensures { result.path ≡ [] }
     {

@@ -31,7 +31,7 @@ pub(crate) struct Conversations {
 }
 
 impl Conversations {
-    /// Creates a lobby with room for so many clients.
+    /// Creates both queues, with room for so many clients.
     pub(crate) fn new(alloc: Global, room: usize) -> Result<Conversations, Refusal> {
         let (entrance, waiting) = bounded(alloc, room)?;
         let (orders, errands) = bounded(alloc, room)?;
