@@ -26,8 +26,9 @@ const SHORT_PATIENCE_MS: u16 = 20;
 /// only once each thread has looked.
 const LOOK_MS: u64 = 100;
 
-/// How long a client has to end its side once all replies are written, in seconds.
-const LINGER_S: u64 = 2;
+/// How long a client has to end its side once all replies are written, in seconds: as long as for a MiB of them, since the system may
+/// hold that much, which the client has not read.
+const LINGER_S: u64 = 10;
 
 /// The most bytes that are discarded at once.
 const DISCARDED_BYTES: usize = 4096;
