@@ -23,7 +23,7 @@ const SHUTDOWN: u8 = 108;
 const LOOKS: u32 = 5000;
 
 /// How long it waits for a greeting at most, in seconds.
-const LIMIT_S: u64 = 5;
+const LIMIT_S: u64 = 60;
 
 /// The replies that the client takes in a millisecond at most.
 const TAKEN_IN_A_MS: usize = 8;

@@ -31,7 +31,7 @@ const FLUSHES: u8 = 6;
 const PAUSE_MS: u64 = 20;
 
 /// How long a client waits for a reply at most, in seconds.
-const LIMIT_S: u64 = 10;
+const LIMIT_S: u64 = 60;
 
 // Sends FLUSHes, one after another, and has a second client read a block: it gets it before the writes are released that
 // the FLUSHes wait for. Then each FLUSH is answered.

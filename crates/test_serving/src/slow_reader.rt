@@ -28,7 +28,7 @@ pub(crate) const READS: usize = 512;
 const TURNS: u32 = 10;
 
 /// How long it waits for a reply at most, in seconds.
-const LIMIT_S: u64 = 5;
+const LIMIT_S: u64 = 60;
 
 // Connects to the server, and opens the export.
 pub(crate) fn open<R: Abort + Net<Stream = TcpStream> + Clock>(
