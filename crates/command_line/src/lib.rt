@@ -10,8 +10,6 @@ mod order;
 mod queries;
 mod run;
 mod serve;
-mod version;
 
 pub use fault::UsageFault;
 pub use order::{HelpTexts, Order, parse};
-pub use version::{NO_COMMIT, version_text};

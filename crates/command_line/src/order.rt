@@ -2,13 +2,12 @@
 use crate::fault::UsageFault;
 use crate::help::{RunHelp, ScriptHelp, ServeHelp, TcpHelp};
 use crate::image_help::ImageHelpTexts;
-use crate::version::VERSION;
 use crate::{images, queries, run, serve};
 use clap::error::ErrorKind;
 use clap::{Arg, ArgMatches, Command, Error};
 use program_values::{
     Asked, Awaited, DumpFormat, ImageOptions, Images, Path, Question, RunOptions, ServeOptions,
-    VerifyOptions, WaitOptions,
+    VERSION, VerifyOptions, WaitOptions,
 };
 use std::alloc::{AllocError, Global};
 use std::convert::AsStr;

@@ -1,6 +1,5 @@
 //! The version of the program, and the commit that it was built from.
-use command_line::{NO_COMMIT, version_text};
-use program_values::Status;
+use program_values::{NO_COMMIT, Status, version_text};
 use std::io::{ErrorKind, Write};
 use std::path::Path;
 use std::rt::Files;

@@ -1,10 +1,10 @@
 //! The threads that let clients in, one for each address.
 use crate::client::Client;
-use crate::client_stream::ClientStream;
 use crate::conversation::Conversation;
 use crate::listener::Socket;
 use crate::service::{MAX_CLIENTS, Service};
 use blocks::Refusal;
+use client_socket::ClientStream;
 use std::sync::{Arc, Wait};
 use std::thread;
 use std::time::{Clock, Duration};

@@ -1,11 +1,9 @@
 //! A client's connection, shared by the threads that answer its requests.
 ghost use Rattle.std.specs.Io.{ReadsAtMost};
 
-use crate::client_stream::ClientStream;
-use crate::reply_queue::ReplyQueue;
 use crate::request_budget::{PLACES, RequestBudget};
-use crate::timed_writer::{Outcome, is_passing};
 use crate::waiting::Waiting;
+use client_socket::{ClientStream, Outcome, ReplyQueue, is_passing};
 use nbd::Sayings;
 use serve_requests::Answer;
 use std::alloc::Global;

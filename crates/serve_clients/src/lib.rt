@@ -3,10 +3,8 @@
 #![tactic(auto)]
 
 mod accept;
-mod address;
 mod answer;
 mod client;
-mod client_stream;
 mod conversation;
 mod conversations;
 mod copying;
@@ -14,17 +12,14 @@ mod counts;
 mod housekeeper;
 mod keeper;
 mod latencies;
-mod limited_stream;
 mod listener;
 mod listeners;
 mod lists;
 mod map;
 mod page;
 mod passed;
-mod piece;
 mod quit;
 mod reader;
-mod reply_queue;
 mod reports;
 mod request_budget;
 mod senders;
@@ -35,13 +30,11 @@ mod standstill;
 mod sync_queue;
 mod teller;
 mod threads;
-mod timed_writer;
 mod waiting;
 mod watch;
 mod workers;
 
-pub use address::Address;
-pub use listener::ListenFault;
+pub use client_socket::{Address, ListenFault};
 pub use listeners::Listeners;
 pub use map::MapFile;
 pub use serve_page::StartedAfter;

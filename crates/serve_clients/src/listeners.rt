@@ -1,9 +1,9 @@
 //! All addresses that a server listens at.
-use crate::address::Address;
-use crate::listener::{ListenFault, Listener};
+use crate::listener::Listener;
 use crate::lists::append;
 use crate::passed::passed_socket;
 use crate::socket_file::SocketFiles;
+use client_socket::{Address, ListenFault};
 use program_values::{ListenAt, ServerName};
 use std::alloc::{AllocError, Global};
 use std::env::Env;

@@ -1,9 +1,8 @@
 //! The threads of the status page: one for each address, and one for each client.
-use crate::client_stream::ClientStream;
-use crate::limited_stream::LimitedStream;
 use crate::listener::Socket;
 use crate::service::Service;
 use blocks::Refusal;
+use client_socket::{ClientStream, LimitedStream};
 use serve_page::{DeviceMap, ReportSource, StatusReport, answer_one};
 use session_api::Runtime;
 use std::alloc::Global;

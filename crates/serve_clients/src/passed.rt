@@ -1,6 +1,6 @@
 //! A socket that a service manager has opened and passed, as sd_listen_fds(3) has it.
-use crate::address::Address;
 use crate::listener::{Listener, Socket};
+use client_socket::Address;
 use os::FromRawFd;
 use std::env::Env;
 use std::net::TcpListener;

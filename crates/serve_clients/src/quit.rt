@@ -1,6 +1,6 @@
 //! The thread that waits for the order to end.
-use crate::address::Address;
 use crate::service::Service;
+use client_socket::Address;
 use std::io::{ErrorKind, Read};
 use std::net::{Net, TcpStream};
 use std::sync::Wait;

@@ -2,8 +2,8 @@
 use crate::answer::answer_some;
 use crate::conversation::Conversation;
 use crate::service::Service;
-use crate::timed_writer::is_passing;
 use blocks::Refusal;
+use client_socket::is_passing;
 use primary::Receipt;
 use session_api::Device;
 use std::sync::{Mutex, Wait};

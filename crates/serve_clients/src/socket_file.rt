@@ -1,6 +1,6 @@
 //! The files of Unix sockets at which a server listens.
-use crate::listener::ListenFault;
 use crate::lists::append;
+use client_socket::ListenFault;
 use std::alloc::Global;
 use std::fs::Permissions;
 use std::io::ErrorKind;

@@ -1,6 +1,5 @@
 //! The start of a server's threads.
 use crate::accept::accept_clients;
-use crate::address::Address;
 use crate::conversations::run_errands;
 use crate::listener::Listener;
 use crate::listeners::Listeners;
@@ -8,6 +7,7 @@ use crate::lists::append;
 use crate::page::serve_page;
 use crate::quit::wait_for_quit;
 use crate::service::Service;
+use client_socket::Address;
 use session_api::Runtime;
 use std::alloc::{AllocError, Global};
 use std::hash::RandomState;

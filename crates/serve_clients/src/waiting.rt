@@ -1,5 +1,5 @@
 //! What waits to be written to a client, and whose turn it is to write it.
-use crate::reply_queue::{QueueFault, ReplyQueue};
+use client_socket::{QueueFault, ReplyQueue};
 use nbd::Sayings;
 use serve_requests::Answer;
 use std::alloc::Global;

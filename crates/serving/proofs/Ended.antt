@@ -1,8 +1,7 @@
 -- What the sessions of a server leave.
-use Rattle.std.proofs.Common.{ℕ, suc, ◌≡◌, ◌<◌, ◌≤◌, inl, inr, Bool, true, false, not, ◌&&◌, List, [], ◌∷◌, length, filter, Option, Some, None, Result, Ok, Err}
-use Rattle.std.proofs.Common.{slice_get, refl, sym, ◌∙◌, ap, subst, arith, max, nat_lt, Vec, Global}
+use Rattle.std.proofs.Common.{ℕ, ◌≡◌, ◌<◌, ◌≤◌, inl, inr, Bool, true, false, not, ◌&&◌, List, length, filter, Option, Some, Result, Ok, Err}
+use Rattle.std.proofs.Common.{slice_get, sym, ◌∙◌, ap, subst, arith, nat_lt, Vec, Global}
 use Rattle.std.specs.Prelude.{IfOk, IfSome, IsOk, IsTrue}
-use Rattle.std.proofs.Math.Nat.{le-max_left}
 use Rattle.std.proofs.lemmas.Bool.{cases_Bool, cases_lt, both_ways, and_from, and_parts, le-ltb}
 use Rattle.std.proofs.lemmas.Option.{slice_get_within}
 use Rattle.bitmap.specs.Marks.{marked}
@@ -14,21 +13,18 @@ use Rattle.blocks.specs.declared.tuple.Tuple.{Tuple}
 use Rattle.laws.proofs.Blocks.SameBlocks.{same-equal}
 use Rattle.laws.proofs.Joining.Openings.{kept-opening-primary, kept-opening-secondary}
 use Rattle.laws.proofs.Lists.Picks.{below-has, filtered-pick}
-use Rattle.model.specs.Contents.{IsDisk}
 use Rattle.model.specs.Headline.{IsJoined, is_marked}
 use Rattle.model.specs.LocalRuns.{primary_run, secondary_run}
 use Rattle.model.specs.Pair.{same_block}
 use Rattle.model.specs.Primary.{PrimaryHistory, local_map, marked_blocks}
 use Rattle.model.specs.Secondary.{SecondaryHistory, secondary_map}
-use Rattle.model.specs.Settlement.{Receipt, unmarked_differences}
+use Rattle.model.specs.Settlement.{Receipt}
 use Rattle.model.specs.Theorems.{Opening, primary_at, secondary_at}
-use Rattle.primary.specs.State.{PrimaryView, node as primary_node}
-use Rattle.primary_protocol.specs.Node.{NodeHas}
-use Rattle.secondary.specs.State.{SecondaryView, node as secondary_node}
-use Rattle.secondary_protocol.specs.Node.{NodeHas as NodeHasToo}
-use Rattle.serving.specs.Disks.{AreFaithful, DisksState, unmarked_between}
-use Rattle.serving.specs.Sessions.{NodesComeTo, IsSession, Rest, opening}
-use Rattle.serving.specs.declared.totals.Totals.{Totals}
+use Rattle.primary.specs.State.{PrimaryView}
+use Rattle.secondary.specs.State.{SecondaryView}
+use Rattle.disk_pair.specs.Disks.{AreFaithful, DisksState, unmarked_between}
+use Rattle.served_images.specs.Sessions.{NodesComeTo, IsSession, Rest, opening}
+use Rattle.served_images.specs.declared.totals.Totals.{Totals}
 use Rattle.session_nodes.specs.Primaries.{PrimaryHas, PrimaryIsHad}
 use Rattle.session_nodes.specs.Secondaries.{SecondaryHas, SecondaryIsHad}
 use Rattle.settlement.proofs.Openings.{were-honest}
@@ -78,11 +74,6 @@ ends-alike o before rest local peer blocks session none clean block less = elim 
 ]
 
 -- A session.
-
--- what holds of these receipts, where the work gave them
-pub given : (worked : Result (Vec Receipt Global) Refusal) (receipts : Vec Receipt Global) (Q : List Receipt → Type 0) → worked ≡ Ok receipts → Q receipts.items
-    → IfOk worked (λ all. Q all.items)
-given worked receipts Q is holds = subst (λ (w : Result (Vec Receipt Global) Refusal). IfOk w (λ all. Q all.items)) (sym is) holds
 
 -- honest identifiers are so over the same disks
 honest-over : (rest : Rest) (p : PrimaryHistory) (s : SecondaryHistory) → ((block : ℕ) → slice_get rest.disks.local block ≡ local_map p block)

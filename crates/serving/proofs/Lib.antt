@@ -1,6 +1,3 @@
--- When two disks are alike, and what sessions leave.
-pub mod Alike
-pub mod Comparing
+-- What sessions leave.
 pub mod Ended
 pub mod Succeeding
-pub mod Marking

@@ -1,6 +1,3 @@
--- Over which link a server's sessions go, what they leave, what a server comes to, and what a dry run prints.
-pub mod Disks
-pub mod DryRun
+-- Over which link a server's sessions go, and what a server comes to.
 pub mod Links
-pub mod Sessions
 pub mod Served

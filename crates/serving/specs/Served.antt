@@ -1,24 +1,15 @@
 -- What a server comes to.
-use Rattle.std.specs.Prelude.{ℕ, ◌≡◌, ◌<◌, ◌≤◌, false, ◌||◌, nat_le, List, Option, None, Some, IfSome, is_some, slice_get}
+use Rattle.std.specs.Prelude.{ℕ, ◌≡◌, ◌<◌, false, ◌||◌, nat_le, List, Option, None, Some, IfSome, is_some, slice_get}
 use Rattle.std.specs.Io.KnownBytes.{Appends}
 use Rattle.blocks.specs.SettingsRange.{standard}
 use Rattle.blocks.specs.declared.settings.Settings.{Settings}
 use Rattle.program_values.specs.declared.serve_options.FirstStart.{FirstStart}
 use Rattle.program_values.specs.declared.serve_options.ServeOptions.{ServeOptions}
 use Rattle.program_values.specs.Text.{results_text}
-use Rattle.program_values.specs.declared.results.Results.{Results}
-use Rattle.serving.specs.Disks.{AreFaithful, DisksState, IsOpened, WereRead, unmarked_between}
-use Rattle.serving.specs.Sessions.{IsServed, Rest}
-use Rattle.serving.specs.declared.end.End.{End}
-use Rattle.serving.specs.declared.totals.Totals.{Totals}
-
--- the options ask for no size, or for one that a device has
-abbrev pub AreInRange : ServeOptions → Type 0
-AreInRange options = IfSome options.blocks (λ asked. (0 < asked) × (asked ≤ 2147483648))
-
--- the results that are printed, with the unmarked blocks on which the disks differ, if they were compared
-abbrev pub results : Totals → Option ℕ → Results
-results totals unmarked = record { completed = totals.completed; settled = totals.confirmed; unmarked = unmarked }
+use Rattle.disk_pair.specs.Disks.{AreFaithful, DisksState, IsOpened, WereRead, unmarked_between}
+use Rattle.served_images.specs.Ends.{results}
+use Rattle.served_images.specs.Sessions.{IsServed, Rest}
+use Rattle.served_images.specs.declared.end.End.{End}
 
 -- Sessions with these settings went over these disks, and came to this end. At the end the disks were compared, or not: if they were, and
 -- each read gave what was written, the comparison tells how they differ: if it found no difference without a mark, and no block is

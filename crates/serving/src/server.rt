@@ -1,32 +1,31 @@
 //! A server, from its images to the lines that it prints.
 ghost use Rattle.std.specs.Prelude.{◌≡◌, ◌||◌, false, nat_le, is_some, Err, IfOk, IfSome, OnOk};
 ghost use Rattle.blocks.specs.SettingsRange.{standard};
+ghost use Rattle.blocks.specs.declared.refusal.Refusal.TheVariants as refusal;
 ghost use Rattle.blocks.specs.declared.refusal.Refusal.TheVariants.{BadSetting};
 ghost use Rattle.program_values.specs.declared.status.SessionStatus.TheVariants as status;
-ghost use Rattle.serving.specs.Served.{AreInRange, CameTo, HasEnded, HasServed};
-ghost use Rattle.serving.specs.declared.fault.ServeFault.TheVariants.{Refused};
+ghost use Rattle.serve_clients.specs.declared.threads.StartFault.TheVariants.{NoMemory};
+ghost use Rattle.served_images.specs.Ends.{AreInRange};
+ghost use Rattle.serving.specs.Served.{CameTo, HasEnded, HasServed};
+ghost use Rattle.served_images.specs.declared.fault.ServeFault.TheVariants.{Refused};
 
-use crate::beginning::{Beginning, FreshNumbers, begin, fresh_numbers};
-use crate::compare::{compare_at_end, fault_of_comparison};
-use crate::disks::Disks;
-use crate::end::End;
-use crate::fault::ServeFault;
-use crate::image_files::{close_metadata, find_files};
-use crate::images::{
-    blocks_of, changed_images, check_size, images_of, lock_both, open_both, torn_images,
-};
-use crate::session_end::SessionEnd;
 use crate::sessions::run_sessions;
 use blocks::Refusal;
+use disk_pair::{Disks, compare_at_end};
 use file_store::{FileStore, OpeningContents};
 use image_metadata::{ENTRIES_AT, MARKS_AT, OpeningBytes, WriteCounts};
 use image_store::{ImageLock, PerDisk};
 use program_values::{MetadataFiles, ServeOptions, SessionStatus};
 use recorded_file::SharedFile;
 use serve_clients::{
-    CountedWrites, Listeners, MapFile, Service, Shown, StartedAfter, start_threads,
+    CountedWrites, Listeners, MapFile, Service, Shown, StartFault, StartedAfter, start_threads,
 };
 use serve_requests::Requests;
+use served_images::{
+    Beginning, End, FreshNumbers, ServeFault, SessionEnd, begin, blocks_of, changed_images,
+    check_size, close_metadata, fault_of_comparison, find_files, fresh_numbers, images_of,
+    lock_both, open_both, torn_images,
+};
 use server_log::{Event, Style, tell};
 use std::alloc::Global;
 use std::env::Env;
@@ -273,9 +272,13 @@ fn start_service<
     let Ok(lines) = listeners.lines(rt.alloc(), blocks) else {
         return Err(ServeFault::Refused(Refusal::NoMemory));
     };
-    start_threads(rt, &service, listeners, input)?;
-    let _ = err.write_all(lines.as_bytes());
-    Ok(service)
+    match start_threads(rt, &service, listeners, input) {
+        Ok(()) => {
+            let _ = err.write_all(lines.as_bytes());
+            Ok(service)
+        }
+        Err(fault) => Err(fault_of_start(fault)),
+    }
 }
 
 // Returns what the page of a server shows beside the reports; these count the writes to its metadata.
@@ -424,5 +427,16 @@ fn shared(service: Service) -> Result<Arc<Service, Global>, Refusal>
     match Arc::new(service.alloc, service) {
         Ok(service) => Ok(service),
         Err(_) => Err(Refusal::NoMemory),
+    }
+}
+
+// Returns why a server failed whose threads could not be started.
+fn fault_of_start<'a>(fault: StartFault) -> ServeFault<'a>
+    ensures memory { fault ≡ NoMemory → result ≡ Refused refusal.NoMemory }
+{
+    match fault {
+        StartFault::NoMemory => ServeFault::Refused(Refusal::NoMemory),
+        StartFault::NoKeys(error) => ServeFault::NoRandomBytes(error),
+        StartFault::Unthreaded => ServeFault::Unthreaded,
     }
 }

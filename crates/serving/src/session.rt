@@ -1,7 +1,7 @@
 //! One session of a server, from its start to its settlement.
 ghost use Rattle.thread_link.specs.Names as names;
 ghost use Rattle.serving.specs.Links.{IsNewDirection};
-ghost use Rattle.serving.specs.Sessions.{IsSession, opening};
+ghost use Rattle.served_images.specs.Sessions.{IsSession, opening};
 ghost use Rattle.model.specs.Headline.{IsJoined};
 ghost use Rattle.model.specs.Primary.{PrimaryHistory};
 ghost use Rattle.model.specs.Secondary.{SecondaryHistory};
@@ -11,15 +11,13 @@ ghost use Rattle.std.specs.Prelude.{◌≡◌, ◌≤◌, Some, slice_get, IfOk}
 ghost use Rattle.volume.specs.Links.{AreEndsOf};
 ghost use Rattle.volume.specs.Opening.{opening_of};
 
-use crate::beginning::ImagesMetadata;
-use crate::disks::Disks;
-use crate::session_end::{SessionEnd, settle_session};
-use crate::totals::Totals;
 use blocks::{Refusal, Settings, Store};
+use disk_pair::Disks;
 use image_metadata::{ImageFile, OpeningBytes};
 use metadata::StableFile;
 use primary::Receipt;
 use serve_clients::{Service, work};
+use served_images::{ImagesMetadata, SessionEnd, Totals, settle_session};
 use std::alloc::Global;
 use std::io::Write;
 use std::marker::Brand;
@@ -118,7 +116,15 @@ fn run_named<
                 secondary,
                 metadata,
             } = left;
-            settle_session(service, totals, metadata, primary, secondary, worked)
+            settle_session(
+                service.alloc,
+                service.words(),
+                totals,
+                metadata,
+                primary,
+                secondary,
+                worked,
+            )
         }
         Err(refusal) => Err(refusal),
     }

@@ -1,17 +1,15 @@
 //! One session after another, over the same disks.
 ghost use Rattle.std.specs.Prelude.{◌≡◌, IfOk};
 ghost use Rattle.blocks.specs.SettingsRange.{standard};
-ghost use Rattle.serving.specs.Sessions.{IsServed};
+ghost use Rattle.served_images.specs.Sessions.{IsServed};
 
-use crate::beginning::{Beginning, FreshNumbers};
-use crate::disks::Disks;
-use crate::first_start::first_start;
 use crate::session::run_session;
-use crate::session_end::SessionEnd;
 use blocks::{Refusal, Store};
+use disk_pair::Disks;
 use image_metadata::{OpeningBytes, UNKNOWN};
 use program_values::FirstStart;
 use serve_clients::Service;
+use served_images::{Beginning, FirstWords, FreshNumbers, SessionEnd, first_start, settings_of};
 use std::io::Write;
 use volume::{Runtime, SessionStart};
 
@@ -35,7 +33,21 @@ pub(crate) fn run_sessions<
 ) -> Result<SessionEnd<D, M, N>, Refusal>
     ensures served { IfOk result (IsServed (record standard { protocol = service.now.protocol; blocks = service.now.blocks }) how disks) }
 {
-    let mut last = first_start(service, how, beginning, numbers, disks, err)?;
+    let settings = settings_of(service.protocol, service.blocks);
+    let words = FirstWords {
+        connection: service.words(),
+        loss: service.words().loss,
+    };
+    let mut last = first_start(
+        service.alloc,
+        settings,
+        words,
+        how,
+        beginning,
+        numbers,
+        disks,
+        err,
+    )?;
     service.note_start(to_copy(&last.parts));
     for _ in rt.forever() {
         service.requests.forget_writes();

@@ -1,6 +1,6 @@
 use Rattle.std.proofs.Common.{◌≡◌}
 use Rattle.blocks.specs.declared.refusal.Refusal.TheVariants.{BadSetting}
-use Rattle.serving.specs.declared.fault.ServeFault.TheVariants.{Refused}
+use Rattle.served_images.specs.declared.fault.ServeFault.TheVariants.{Refused}
 use Rattle.serving.proofs.server.serve.Goals as goal
 
 pub returns-in-Ok-clause-refused : goal.returns-in-Ok-clause-refused

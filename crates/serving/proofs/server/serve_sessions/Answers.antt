@@ -1,7 +1,7 @@
 use Rattle.std.proofs.Common.{◌≡◌, ap, subst, rules}
 use Rattle.std.specs.Prelude.{IfSome}
-use Rattle.serving.specs.Disks.{AreFaithful, WereRead, unmarked_between}
-use Rattle.serving.specs.Sessions.{Rest}
+use Rattle.disk_pair.specs.Disks.{AreFaithful, WereRead, unmarked_between}
+use Rattle.served_images.specs.Sessions.{Rest}
 use Rattle.serving.proofs.Ended.{found-alike}
 use Rattle.serving.proofs.server.serve_sessions.Goals as goal
 

@@ -1,6 +1,6 @@
 use Rattle.std.proofs.Common.{subst}
 use Rattle.std.specs.Prelude.{IfOk}
-use Rattle.serving.specs.Sessions.{IsSession, Rest, opening}
+use Rattle.served_images.specs.Sessions.{IsSession, Rest, opening}
 use Rattle.serving.proofs.session.run_session.Goals as goal
 
 pub returns-in-Ok : goal.returns-in-Ok

@@ -1,11 +1,17 @@
-use Rattle.std.proofs.Common.{[], ◌∷◌, refl}
+use Rattle.std.proofs.Common.{[], ◌∷◌, refl, subst}
+use Rattle.blocks.specs.declared.settings.Settings.{Settings}
+use Rattle.served_images.specs.Sessions.{IsStart}
 use Rattle.serving.proofs.sessions.run_sessions.Goals as goal
 
 pub loop-init : goal.loop-init
 loop-init g c = (
   c.in_ok-last.last,
   [],
-  (c.in_ok-last.ensures, refl, λ honest stayed. (honest, λ unparted. unparted)),
+  (
+    subst (λ (chosen : Settings). IsStart chosen c.args.how c.args.disks c.in_ok-last.last) c.settings_of-settings.ensures c.in_ok-last.ensures,
+    refl,
+    λ honest stayed. (honest, λ unparted. unparted),
+  ),
 )
 
 pub loop-preserved : goal.loop-preserved

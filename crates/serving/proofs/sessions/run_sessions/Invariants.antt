@@ -2,7 +2,7 @@
 use Rattle.std.proofs.Common.{List}
 use Rattle.blocks.specs.SettingsRange.{standard}
 use Rattle.settlement.specs.Left.{IsUnparted}
-use Rattle.serving.specs.Sessions.{HasCome, IsStart, Rest, StayedFaithful, opening}
+use Rattle.served_images.specs.Sessions.{HasCome, IsStart, Rest, StayedFaithful, opening}
 use Rattle.settlement.specs.Settled.{WasHonest}
 use Rattle.serving.proofs.sessions.run_sessions.Given as goal
 

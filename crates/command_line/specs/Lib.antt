@@ -1,2 +1,0 @@
--- What the program says of itself.
-pub mod Version
