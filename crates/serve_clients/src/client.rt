@@ -7,11 +7,11 @@ use client_socket::{ClientStream, Outcome, ReplyQueue, is_passing};
 use nbd::Sayings;
 use serve_requests::Answer;
 use std::alloc::Global;
-use std::io;
 use std::net::Shutdown;
 use std::sync::atomic::{AtomicBool, Ordering};
 use std::sync::{Mutex, Wait};
 use std::time::{Clock, Duration, Instant};
+use std::{io, thread};
 
 /// How long a client has for each MiB of replies that it begins, in milliseconds. If it is slower, its connection is
 /// closed.
@@ -23,6 +23,9 @@ const SHORT_PATIENCE_MS: u16 = 20;
 /// How long a read waits before its thread looks whether the session or the server ends, in milliseconds: a session ends for all clients
 /// only once each thread has looked.
 const LOOK_MS: u64 = 100;
+
+/// How long a thread waits before it looks again whether another one still writes, in milliseconds.
+const WRITER_LOOK_MS: u64 = 1;
 
 /// How long a client has to end its side once all replies are written, in seconds: as long as for a MiB of them, since the system may
 /// hold that much, which the client has not read.
@@ -190,6 +193,24 @@ impl Client {
             }
             self.send_late(rt);
         }
+    }
+
+    /// Waits until all replies are written or the connection is closed: a thread of the session may still be writing the last ones.
+    /// Meanwhile writes what was left to a thread that writes late, which calls this.
+    pub(crate) fn wait_for_replies<R: Wait + Clock>(&self, rt: &R) {
+        for _ in rt.forever() {
+            self.send_held(rt);
+            self.send_late(rt);
+            if self.is_closed() || self.is_at_rest(rt) {
+                break;
+            }
+            thread::sleep(rt, Duration::from_millis(WRITER_LOOK_MS));
+        }
+    }
+
+    // Returns whether nothing waits to be written, and no thread writes.
+    fn is_at_rest<R: Wait>(&self, rt: &R) -> bool {
+        self.waiting.lock(rt).is_at_rest()
     }
 
     /// Returns whether the connection is closed, so that no reply is written.

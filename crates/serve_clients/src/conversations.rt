@@ -127,7 +127,7 @@ fn start_errand<R: Runtime>(
     }
 }
 
-// Writes what was left to a client. Then it goes, once no request of it is under way, or waits for a session.
+// Writes what was left to a client. Then it goes, once no request of it is under way and all replies are written, or waits for a session.
 fn run_errand<R: Wait + Clock>(
     rt: &R,
     service: &Service,
@@ -140,6 +140,7 @@ fn run_errand<R: Wait + Clock>(
         return;
     }
     conversation.client.wait_for_requests(rt);
+    conversation.client.wait_for_replies(rt);
     conversation.client.end(rt);
     drop(conversation);
     service.leave();

@@ -15,8 +15,8 @@ use std::mem;
 /// - If a thread of a session leaves the turn, since the client is slow, what it has not written goes before what came meanwhile.
 ///   The client's own thread of the session sees that before its next read, and hands the client on to a thread that writes late.
 /// - That thread writes until nothing waits, and only then lets the others write again.
-/// - A thread frees places before its last look. The client may go between the two: all places are free then, so no reply waits,
-///   and the thread finds nothing.
+/// - A thread frees places before its last look, and a short READ has none. So before a client goes, a thread waits until nothing waits and
+///   nobody has the turn.
 /// - When the connection fails, whoever has the turn drops what it took. What is held later is dropped by the next turn, or
 ///   with the client.
 #[derive(Clone, Copy, Debug, PartialEq, Eq)]
@@ -105,6 +105,11 @@ impl Waiting {
     pub(crate) fn give_up(&mut self) -> u32 {
         self.writer = Writer::Anyone;
         self.outbox.clear()
+    }
+
+    /// Returns whether nothing waits, and no thread writes.
+    pub(crate) fn is_at_rest(&self) -> bool {
+        self.writer == Writer::Anyone && self.outbox.is_empty()
     }
 
     /// Returns whether the turn was left to a thread that writes late.
