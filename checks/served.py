@@ -14,13 +14,19 @@ BLOCK_BYTES = 4096
 # How long a client waits for the server, and the server for its end.
 SECONDS = 30
 
-READ, WRITE, DISCONNECT, FLUSH, TRIM, WRITE_ZEROES = 0, 1, 2, 3, 4, 6
+READ, WRITE, DISCONNECT, FLUSH, TRIM, WRITE_ZEROES, BLOCK_STATUS = 0, 1, 2, 3, 4, 6, 7
 GREETING_BYTES = 18
 REPLY_BYTES = 16
 # Fixed newstyle and no zeros, and GO for the export without a name.
 FLAGS = struct.pack(">I", 3)
 GO = struct.pack(">QIIIH", 0x49484156454F5054, 7, 6, 0, 0)
 ACKNOWLEDGED = 1
+# STRUCTURED_REPLY, and SET_META_CONTEXT with the one context for the export without a name.
+STRUCTURED = struct.pack(">QII", 0x49484156454F5054, 8, 0)
+ALLOCATION = b"base:allocation"
+SET_CONTEXT = struct.pack(">QIIIII", 0x49484156454F5054, 10, 12 + len(ALLOCATION), 0, 1, len(ALLOCATION)) + ALLOCATION
+# What a chunk tells.
+DATA_CHUNK, HOLE_CHUNK, STATUS_CHUNK = 1, 2, 5
 # A line of the log, which has a date before its event.
 LOGGED = re.compile(r"(?m)^\d{4}-\d\d-\d\dT\d\d:\d\d:\d\dZ (.*)\n")
 # What a first start says, after the server listens.
@@ -103,14 +109,18 @@ class Client:
         self.stream.settimeout(seconds)
         self.stream.connect(("127.0.0.1", port))
 
-    # Takes the greeting, and chooses the export.
-    def choose(self):
+    # Takes the greeting, and chooses the export, after these options.
+    def choose(self, *options):
         self.take(GREETING_BYTES)
-        self.send(FLAGS + GO)
-        kind = 0
-        while kind != ACKNOWLEDGED:
-            _, _, kind, length = struct.unpack(">QIII", self.take(20))
-            self.take(length)
+        self.send(FLAGS)
+        for option in (*options, GO):
+            self.send(option)
+            kind = 0
+            while kind != ACKNOWLEDGED:
+                _, _, kind, length = struct.unpack(">QIII", self.take(20))
+                if kind >> 31:
+                    raise Failed(f"an option is refused with {kind:#x}")
+                self.take(length)
         return self
 
     def send(self, data):
@@ -132,6 +142,27 @@ class Client:
         self.replied(cookie)
         return self.take(length) if kind == READ else b""
 
+    # The next reply is one chunk with this cookie. Returns what it tells, and its data.
+    def chunk(self, cookie):
+        magic, flags, kind, found, length = struct.unpack(">IHHQI", self.take(20))
+        if (magic, flags, found) != (0x668E33EF, 1, cookie):
+            raise Failed(f"the chunk for {cookie} has the magic number {magic:#x}, the flags {flags} and the cookie {found}")
+        return kind, self.take(length)
+
+    # Asks what these bytes are. Returns extents, each by its length and whether it is zeros, as many as it takes for all.
+    def extents(self, cookie, offset, length):
+        found = []
+        while length:
+            self.send(request(BLOCK_STATUS, cookie, offset, length))
+            kind, data = self.chunk(cookie)
+            if kind != STATUS_CHUNK:
+                raise Failed(f"a BLOCK_STATUS is answered with {kind}: {data.hex()}")
+            for at in range(4, len(data), 8):
+                count, flags = struct.unpack_from(">II", data, at)
+                found.append((count, flags == 2))
+                offset, length = offset + count, length - count
+        return found
+
     # The next reply has this cookie and no error.
     def replied(self, cookie):
         reply = self.take(REPLY_BYTES)
@@ -150,6 +181,11 @@ class Client:
 # A client that has chosen the export.
 def connect(port, seconds=SECONDS, socket_bytes=None):
     return Client(port, seconds, socket_bytes).choose()
+
+
+# One that has structured replies, too, and may ask where there are data.
+def connect_structured(port, seconds=SECONDS):
+    return Client(port, seconds).choose(STRUCTURED, SET_CONTEXT)
 
 
 def request(kind, cookie, offset, length):

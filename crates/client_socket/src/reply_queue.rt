@@ -1,6 +1,5 @@
 //! The bytes that wait to be written to a client.
 ghost use Rattle.std.specs.Prelude.{◌≡◌, ◌++◌, [], IfOk, OnOk};
-ghost use Rattle.nbd.specs.Replies.{reply_spelling};
 
 use crate::piece::Piece;
 use crate::timed_writer::TimedWriter;
@@ -79,15 +78,14 @@ impl ReplyQueue {
     /// Appends an answer, whose request has `places` places. Long data are not copied. `NoMemory` if there is no memory: bytes are
     /// missing then. `OfAnother` if the answer is for another client: nothing of it is there. In both cases the places count.
     pub fn put(&mut self, answer: Answer, places: u32) -> Result<(), QueueFault>
-        ensures { OnOk result (self.new
-            ≡ self.old ++ reply_spelling (record { cookie = answer.cookie; error = answer.error }) ++ answer.bytes) }
+        ensures { OnOk result (self.new ≡ self.old ++ answer.spelled) }
     {
         self.places = self.places.saturating_add(places);
         if answer.of() != self.of {
             return Err(QueueFault::OfAnother);
         }
-        let (reply, data) = answer.into_parts();
-        self.put_bytes(reply.encode().as_slice())?;
+        let (head, data) = answer.into_parts();
+        self.put_bytes(head.as_slice())?;
         self.put_data(data)?;
         Ok(())
     }

@@ -1,8 +1,8 @@
 //! A handle that makes an image durable, and what a sync of it leaves.
-ghost use Rattle.std.specs.Prelude.{◌≡◌, IfOk};
+ghost use Rattle.std.specs.Prelude.{◌≡◌, ◌<◌, ◌^◌, ◌-◌, IfOk};
 
-use recorded_file::SharedFile;
-use std::fs::OpenFile;
+use recorded_file::{SharedFile, Stretch};
+use std::fs::{File, OpenFile};
 use std::io;
 use std::marker::Model;
 
@@ -78,5 +78,15 @@ impl<F: OpenFile> SyncHandle<F> {
             disk: self.disk,
             round,
         })
+    }
+}
+
+impl SyncHandle<File> {
+    /// Returns what the image has at this byte, data or none, and up to where. Promises nothing about a write that is under way meanwhile.
+    pub fn stretch_at(&self, offset: u64) -> Stretch
+        requires { offset < 2 ^ 64 - 1 }
+        ensures { offset < result.end }
+    {
+        self.file.stretch_at(offset)
     }
 }

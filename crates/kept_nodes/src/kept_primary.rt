@@ -58,7 +58,7 @@ ghost use Rattle.primary_core.specs.Send.{owes_blocks};
 ghost use Rattle.primary_protocol.specs.Node.{take_receipt};
 ghost use Rattle.primary_protocol.specs.Steps.{plainly, replied};
 ghost use Rattle.primary_protocol.specs.Transitions.{whole_blocks};
-ghost use Rattle.session_nodes.specs.Primaries.{HasAccepted, HasHeld, IsPrimaryStep, PrimaryHas, PrimaryIsHad, PrimaryRuns, PrimarySteps, PrimaryTakes};
+ghost use Rattle.session_nodes.specs.Primaries.{HasAccepted, HasHeld, IsPrimaryStep, PrimaryGoesOn, PrimaryHas, PrimaryIsHad, PrimaryRuns, PrimarySteps, PrimaryTakes};
 
 use crate::keeping::{enter_device, enter_extent, enter_marked, is_broken, save_turned};
 use bitmap::Bitmap;
@@ -165,6 +165,7 @@ impl<
         ensures goes_on { IfSome self.old.metadata (λ m. is_entered m.entries (extent_of first) ≡ true → result ≡ Err LocalFault → ⊥) }
         ensures touched { OnOk result (slice_index self.new.prepared (extent_of first) ≡ 0) }
         ensures refused { IfErr result (λ e. (submit_refuses e ≡ true) ⊎ (e ≡ LocalFault)) }
+        ensures falls { IsTrue self.new.node.faithful → IsTrue self.old.node.faithful }
     {
         let extent = Extent(first / EXTENT_BLOCKS);
         touch(&mut self.prepared, extent);
@@ -179,6 +180,7 @@ impl<
         ensures step { IsPrimaryStep (take_receipt number) self.old.node result self.new.node }
         ensures number { IfOk result (λ receipt. receipt.number ≡ number) }
         ensures refused { IfErr result (λ e. take_completed_refuses e ≡ true) }
+        ensures falls { IsTrue self.new.node.faithful → IsTrue self.old.node.faithful }
     {
         self.node.take_completed(number)
     }
@@ -209,6 +211,7 @@ impl<
         ensures closes { is_broken self.old.metadata ≡ true → (result ≡ Err NotConnected) × ((reply : Reply) × PrimarySteps Closes self.old.node reply self.new.node) }
         ensures refused { IfErr result (λ e. send_refuses e ≡ true) }
         ensures stays { is_broken self.old.metadata ≡ true → is_broken self.new.metadata ≡ true }
+        ensures goes_on { PrimaryGoesOn self.old.node self.new.node }
     {
         if self.is_broken() {
             let _ = self.close();
@@ -226,6 +229,7 @@ impl<
         ensures runs { PrimaryRuns self.old.node self.new.node }
         ensures refused { IfErr result (λ e. ack_in_refuses e ≡ true) }
         ensures stays { is_broken self.old.metadata ≡ true → is_broken self.new.metadata ≡ true }
+        ensures goes_on { PrimaryGoesOn self.old.node self.new.node }
     {
         let taken = self.node.ack_in();
         self.owes_all = enter_full_copy(&mut self.metadata, &taken, self.owes_all);
@@ -240,6 +244,7 @@ impl<
         ensures nothing { (h : PrimaryHistory) → PrimaryHas self.old.node h → next_local h ≡ None → (result ≡ Err NothingThere) × (self.new.node ≡ self.old.node) }
         ensures refused { IfErr result (λ e. e ≡ NothingThere) }
         ensures stays { is_broken self.old.metadata ≡ true → is_broken self.new.metadata ≡ true }
+        ensures goes_on { PrimaryGoesOn self.old.node self.new.node }
     {
         let written = self.node.write_next();
         save_identifiers(&self.node, &mut self.metadata);
@@ -253,6 +258,7 @@ impl<
         ensures copies { CopiesOne result self.old.node self.new.node }
         ensures refused { IfErr result (λ e. resync_next_refuses e ≡ true) }
         ensures stays { is_broken self.old.metadata ≡ true → is_broken self.new.metadata ≡ true }
+        ensures goes_on { PrimaryGoesOn self.old.node self.new.node }
     {
         let copied = self.node.resync_next();
         save_identifiers(&self.node, &mut self.metadata);
@@ -264,6 +270,7 @@ impl<
         ensures step { PrimarySteps Closes self.old.node (replied reply.Closed result) self.new.node }
         ensures refused { IfErr result (λ e. e ≡ NotConnected) }
         ensures stays { is_broken self.old.metadata ≡ true → is_broken self.new.metadata ≡ true }
+        ensures goes_on { PrimaryGoesOn self.old.node self.new.node }
     {
         let closed = self.node.close();
         save_identifiers(&self.node, &mut self.metadata);
@@ -274,6 +281,7 @@ impl<
     pub fn close_lost(&mut self, connection: u32)
         ensures closes { self.old.node.core.connections ≤ connection → (reply : Reply) × PrimarySteps Closes self.old.node reply self.new.node }
         ensures later { connection < self.old.node.core.connections → self.new.node ≡ self.old.node }
+        ensures falls { IsTrue self.new.node.faithful → IsTrue self.old.node.faithful }
     {
         self.node.close_lost(connection);
         save_identifiers(&self.node, &mut self.metadata);
@@ -286,6 +294,7 @@ impl<
         ensures number { IfOk result (λ number. number ≡ self.new.node.core.connections) }
         ensures broken { is_broken self.old.metadata ≡ true → (result ≡ Err NotDrained) × (self.new ≡ self.old) }
         ensures refused { IfErr result (λ e. reopen_refuses e ≡ true) }
+        ensures falls { IsTrue self.new.node.faithful → IsTrue self.old.node.faithful }
     {
         if self.is_broken() {
             return Err(Refusal::NotDrained);

@@ -2,7 +2,7 @@
 ghost use Rattle.std.specs.Prelude.{◌≡◌, true, false};
 ghost use Rattle.kept_nodes.specs.Kept.{is_broken};
 ghost use Rattle.model.specs.Primary.{PrimaryHistory};
-ghost use Rattle.session_nodes.specs.Primaries.{PrimaryHas, PrimaryRuns};
+ghost use Rattle.session_nodes.specs.Primaries.{PrimaryHas, PrimaryGoesOn, PrimaryRuns};
 ghost use Rattle.session_nodes.specs.Queries.{closed_since};
 
 use crate::KeptPrimary;
@@ -24,6 +24,7 @@ impl<
         ensures runs { is_broken self.new.metadata ≡ false → PrimaryRuns self.old.node self.new.node }
         ensures stays { is_broken self.old.metadata ≡ true → is_broken self.new.metadata ≡ true }
         ensures closed { (g h : PrimaryHistory) → PrimaryHas self.old.node g → PrimaryHas self.new.node h → result.closed ≡ closed_since g h }
+        ensures goes_on { PrimaryGoesOn self.old.node self.new.node }
     {
         let was_open = self.node.node().is_open();
         let mut turn = Turn::NOTHING;
@@ -45,6 +46,7 @@ impl<
         ensures runs { is_broken self.new.metadata ≡ false → PrimaryRuns self.old.node self.new.node }
         ensures stays { is_broken self.old.metadata ≡ true → is_broken self.new.metadata ≡ true }
         ensures closed { turn.new.closed ≡ turn.old.closed }
+        ensures goes_on { PrimaryGoesOn self.old.node self.new.node }
     {
         if self.step(role, turn) {
             return true;
@@ -57,6 +59,7 @@ impl<
         ensures runs { is_broken self.new.metadata ≡ false → PrimaryRuns self.old.node self.new.node }
         ensures stays { is_broken self.old.metadata ≡ true → is_broken self.new.metadata ≡ true }
         ensures closed { turn.new.closed ≡ turn.old.closed }
+        ensures goes_on { PrimaryGoesOn self.old.node self.new.node }
     {
         if self.step_of_other(PrimaryRole::Sender, role, turn) {
             return true;
@@ -75,6 +78,7 @@ impl<
         ensures runs { is_broken self.new.metadata ≡ false → PrimaryRuns self.old.node self.new.node }
         ensures stays { is_broken self.old.metadata ≡ true → is_broken self.new.metadata ≡ true }
         ensures closed { turn.new.closed ≡ turn.old.closed }
+        ensures goes_on { PrimaryGoesOn self.old.node self.new.node }
     {
         if role == tried {
             return false;
@@ -87,6 +91,7 @@ impl<
         ensures runs { is_broken self.new.metadata ≡ false → PrimaryRuns self.old.node self.new.node }
         ensures stays { is_broken self.old.metadata ≡ true → is_broken self.new.metadata ≡ true }
         ensures closed { turn.new.closed ≡ turn.old.closed }
+        ensures goes_on { PrimaryGoesOn self.old.node self.new.node }
     {
         match role {
             PrimaryRole::Sender if turn.link_full => false,

@@ -1,5 +1,5 @@
 //! The primary under its lock.
-ghost use Rattle.std.specs.Prelude.{◌≡◌, ◌⊎◌, Bool, true, false, is_some, slice_get, unwrap_or, IfErr, IfSome};
+ghost use Rattle.std.specs.Prelude.{◌≡◌, ◌⊎◌, [], Bool, true, false, is_some, slice_get, unwrap_or, IfErr, IfSome};
 ghost use Rattle.blocks.specs.declared.refusal.Refusal.TheVariants.{LocalFault};
 ghost use Rattle.endpoint.specs.Calls.{IsNewIn, IsNewOut};
 ghost use Rattle.kept_nodes.specs.Kept.{PrimaryIsKept};
@@ -7,20 +7,22 @@ ghost use Rattle.model.specs.CallRefusals.{local_open_refuses};
 ghost use Rattle.model.specs.Primary.{primary_opening};
 ghost use Rattle.model.specs.Theorems.{primary_at};
 ghost use Rattle.session_nodes.specs.Primaries.{PrimaryIsHad};
+ghost use Rattle.told_nodes.specs.Told.{IsTold};
 
 use bitmap::Bitmap;
 use blocks::{ConnectionWords, Done, Refusal, Settings, Store, Tuple};
 use bytes::Bytes;
-use kept_nodes::KeptPrimary;
 use link::{FrameIn, FrameOut};
 use metadata::{Metadata, StableFile};
 use primary::{Primary, Receipt};
-use session_api::{Bell, PrimaryHalf, PrimaryProgress, PrimaryRole, Turn};
+use session_api::{Bell, CalledHalf, PrimaryHalf, PrimaryProgress, PrimaryRole, Turn};
 use session_nodes::Beginning;
 use std::alloc::Global;
 use std::sync::{Mutex, Wait};
+use told::{Caller, ToldLog};
+use told_nodes::ToldPrimary;
 
-/// The primary under its lock, with the metadata of its disk.
+/// The primary under its lock, with the metadata of its disk and the log of what its callers were told.
 #[derive(Drop)]
 pub struct LockedPrimary<
     R: Wait + Drop,
@@ -31,7 +33,7 @@ pub struct LockedPrimary<
     F: StableFile,
 > {
     rt: R,
-    node: Mutex<KeptPrimary<B, O, I, S, F>>,
+    node: Mutex<ToldPrimary<B, O, I, S, F>>,
     work_bell: Bell,
     writers_bell: Bell,
     pump_bell: Bell,
@@ -57,14 +59,18 @@ impl<
         link: (O, I),
         words: ConnectionWords,
         metadata: Option<Metadata<F>>,
+        log: ToldLog<B>,
     ) -> Result<LockedPrimary<R, B, O, I, S, F>, Refusal>
         requires outward { IsNewOut (O.state link.0) }
         requires inward { IsNewIn (I.state link.1) }
         requires began { IfSome B.opening (λ opening. primary_opening settings (slice_get (S.contents store)) tuple (λ block. unwrap_or (slice_get marks block) false)
             ≡ primary_at opening) }
+        requires log { log.log ≡ [] }
         ensures refused { IfErr result (λ e. (local_open_refuses e ≡ true) ⊎ ((e ≡ LocalFault) × (is_some metadata ≡ true))) }
     {
-        match KeptPrimary::open(alloc, settings, store, tuple, marks, link, words, metadata) {
+        match ToldPrimary::open(
+            alloc, settings, store, tuple, marks, link, words, metadata, log,
+        ) {
             Ok(node) => Ok(LockedPrimary {
                 rt,
                 node: Mutex::new(node),
@@ -76,9 +82,11 @@ impl<
         }
     }
 
-    /// Takes the node out of its lock, with its metadata. It has a history that began as the half did, and whose connections all used
-    /// its ends, and of which the metadata says what a stop has to leave.
-    pub fn into_parts(self) -> (Primary<O, I, S>, Option<Metadata<F>>)
+    /// Takes the node out of its lock, with its metadata and the log. It has a history that began as the half did, and whose connections
+    /// all used its ends, of which the metadata says what a stop has to leave, and one on the way of which its callers were told all of
+    /// the log.
+    pub fn into_parts(self) -> (Primary<O, I, S>, Option<Metadata<F>>, ToldLog<B>)
+        ensures told { IsTold B.opening result.2.log result.0 }
         ensures had { PrimaryIsHad B.opening result.0 }
         ensures kept { (owes_all : Bool) × PrimaryIsKept F.seen F.may_leave F.faithful B.opening result.0 result.1 owes_all }
     {
@@ -95,28 +103,8 @@ impl<
     F: StableFile,
 > PrimaryHalf for LockedPrimary<R, B, O, I, S, F> {
     ghost use Rattle.kept_nodes.specs.Shown.{PrimaryHasShown};
-    ghost use Rattle.std.specs.Prelude.{IsTrue};
-    ghost use Rattle.session_nodes.specs.Primaries.{HasAccepted, HasHeld};
-
-    ghost accepts = { HasAccepted B.opening };
-
-    // It says nothing of a disk whose reads are not known to be faithful.
-    ghost holds = { λ first count bytes. ((store : S) → IsTrue (S.faithful store)) → HasHeld B.opening first count bytes };
 
     ghost shows = { PrimaryHasShown B.opening };
-
-    fn submit(&self, first: u64, bytes: &Bytes) -> Result<u64, Refusal> {
-        let (number, _) = self.node.lock(&self.rt).submit(first, bytes)?;
-        Ok(number)
-    }
-
-    fn take_completed(&self, number: u64) -> Result<Receipt, Refusal> {
-        self.node.lock(&self.rt).take_completed(number)
-    }
-
-    fn read(&self, first: u64, count: u64) -> Result<Vec<u8>, Refusal> {
-        self.node.lock(&self.rt).read(first, count)
-    }
 
     fn send(&self) -> Result<Done, Refusal> {
         self.node.lock(&self.rt).send()
@@ -135,7 +123,7 @@ impl<
     }
 
     fn close(&self) {
-        let _ = self.node.lock(&self.rt).close();
+        self.node.lock(&self.rt).close();
         self.writers_bell.ring_all(&self.rt);
     }
 
@@ -170,5 +158,40 @@ impl<
 
     fn pump_bell(&self) -> &Bell {
         &self.pump_bell
+    }
+}
+
+impl<
+    R: Wait + Drop,
+    B: Beginning,
+    O: FrameOut + Drop,
+    I: FrameIn + Drop,
+    S: Store + Drop,
+    F: StableFile,
+> CalledHalf for LockedPrimary<R, B, O, I, S, F> {
+    type Name = B;
+
+    fn submit(&self, me: &mut Caller<B>, first: u64, bytes: &Bytes) -> Result<u64, Refusal> {
+        self.node.lock(&self.rt).submit(me, first, bytes)
+    }
+
+    fn submit_within(
+        &self,
+        me: &mut Caller<B>,
+        block: u64,
+        from: u32,
+        bytes: &Bytes,
+    ) -> Result<(u64, Bytes), Refusal> {
+        self.node
+            .lock(&self.rt)
+            .submit_within(me, block, from, bytes)
+    }
+
+    fn take_completed(&self, me: &mut Caller<B>, number: u64) -> Result<Receipt, Refusal> {
+        self.node.lock(&self.rt).take_completed(me, number)
+    }
+
+    fn read(&self, me: &mut Caller<B>, first: u64, count: u64) -> Result<Vec<u8>, Refusal> {
+        self.node.lock(&self.rt).read(me, first, count)
     }
 }

@@ -1,6 +1,7 @@
 -- What comes of whole messages.
 use Rattle.std.proofs.Common.{◌≡◌, ◌≢◌, ℕ, Bool, true, false, cond, eqb, List, [], ◌∷◌, ◌++◌, length, Some, None, Result, Ok, Err, refl, sym, ap, ◌∙◌, subst}
 use Rattle.std.proofs.Common.{arith}
+use Rattle.std.specs.Prelude.{◌==◌, ◌&&◌, ◌||◌}
 use Rattle.std.specs.List.{AllByRecursion}
 use Rattle.std.proofs.lemmas.Bool.{eqb-true, eqb-false}
 use Rattle.std.proofs.lemmas.List.Concat.{flat_map-cons}
@@ -18,7 +19,7 @@ use Rattle.nbd.specs.Machine.{Machine, Fed, silent, after_step, then_fed, fed}
 use Rattle.nbd.specs.Messages.{Message, IsMessage, message_bytes, stream_of, at_request, closed, answer_as, answer, is_end, answers}
 use Rattle.nbd.specs.Replies.{reply_spelling}
 use Rattle.nbd.specs.Requests.{spelling, FitsFields}
-use Rattle.nbd.specs.Steps.{payload_length, failure, begins, after_header, step, skipped, sends, goes_on}
+use Rattle.nbd.specs.Steps.{payload_length, failure, failure_bytes, begins, after_header, step, skipped, sends, goes_on}
 use Rattle.nbd.proofs.Feeding.{then_fed_nothing, fed_whole, fed_skipped, fed_closed, fed_append}
 use Rattle.nbd.proofs.Grammar.{header_again, spelling_length}
 use Rattle.nbd.proofs.Waiting.{served_as, payload_bounded}
@@ -45,18 +46,20 @@ no_payload_as h c false is known other = refl
 pub no_payload : (e : Exported) (h : RequestHeader) (c : NbdCommand) → judged e h ≡ Ok c → c ≢ command.Write → payload_length h ≡ 0
 no_payload e h c is other = no_payload_as h c (eqb h.kind 1) refl (served_kind e h c is) other
 
-write_only : (a b c d t f : Bool)
+write_only : (a b c d t f g : Bool)
     → cond a (Some command.Read) (cond b (Some command.Write)
-    (cond c (Some command.Disconnect) (cond d (Some command.Flush) (cond t (Some command.Trim) (cond f (Some command.WriteZeroes) None)))))
+    (cond c (Some command.Disconnect) (cond d (Some command.Flush) (cond t (Some command.Trim) (cond f (Some command.WriteZeroes)
+    (cond g (Some command.BlockStatus) None))))))
     ≡ Some command.Write
     → b ≡ true
-write_only true b c d t f is = absurd cc
-write_only false true c d t f is = refl
-write_only false false true d t f is = absurd cc
-write_only false false false true t f is = absurd cc
-write_only false false false false true f is = absurd cc
-write_only false false false false false true is = absurd cc
-write_only false false false false false false is = absurd cc
+write_only true b c d t f g is = absurd cc
+write_only false true c d t f g is = refl
+write_only false false true d t f g is = absurd cc
+write_only false false false true t f g is = absurd cc
+write_only false false false false true f g is = absurd cc
+write_only false false false false false true g is = absurd cc
+write_only false false false false false false true is = absurd cc
+write_only false false false false false false false is = absurd cc
 
 whole_payload_as : (h : RequestHeader) (t : Bool) → t ≡ true → cond t h.length 0 ≡ h.length
 whole_payload_as h true is = refl
@@ -65,13 +68,13 @@ whole_payload_as h false is = absurd cc
 -- a WRITE that is served has its payload
 pub whole_payload : (e : Exported) (h : RequestHeader) → judged e h ≡ Ok command.Write → payload_length h ≡ h.length
 whole_payload e h is = whole_payload_as h (eqb h.kind 1)
-    (write_only (eqb h.kind 0) (eqb h.kind 1) (eqb h.kind 2) (eqb h.kind 3) (eqb h.kind 4) (eqb h.kind 6) (served_kind e h command.Write is))
+    (write_only (eqb h.kind 0) (eqb h.kind 1) (eqb h.kind 2) (eqb h.kind 3) (eqb h.kind 4) (eqb h.kind 6) (eqb h.kind 7) (served_kind e h command.Write is))
 
 -- ---- one message
 
 -- what comes of a header that was judged so, and its payload
 abbrev finished : ℕ → Exported → Message → Result NbdCommand Errno → Fed
-finished of e m r = let first = after_step of e (begins of m.header r) in then_fed first (fed first.machine m.payload)
+finished of e m r = let first = after_step of e (begins of e m.header r) in then_fed first (fed first.machine m.payload)
 
 -- a message that has no payload, where its header is answered
 served_now : (of : ℕ) (e : Exported) (h : RequestHeader) (payload : List ℕ) (c : NbdCommand) → payload ≡ []
@@ -80,20 +83,35 @@ served_now : (of : ℕ) (e : Exported) (h : RequestHeader) (payload : List ℕ) 
 served_now of e h payload c none is =
     subst (λ (x : List ℕ). finished of e (record { header = h; payload = x }) (Ok c) ≡ answer_as of e (record { header = h; payload = x }) (Ok c)) (sym none) is
 
+-- only a WRITE has bytes to skip, and its reply is in one piece on all terms
+is_write : (t : Bool) (long : ℕ) → eqb (cond t long 0) 0 ≡ false → t ≡ true
+is_write true long is = refl
+is_write false long is = absurd cc
+
+in_one_piece : (s : Bool) (kind : ℕ) (chunks piece : List ℕ) → kind ≡ 1 → cond (s && ((kind == 0) || (kind == 7))) chunks piece ≡ piece
+in_one_piece true kind chunks piece is = rw is refl
+in_one_piece false kind chunks piece is = refl
+
+skipped_failure : (e : Exported) (h : RequestHeader) (errno : Errno) → eqb (payload_length h) 0 ≡ false
+    → failure_bytes e h errno ≡ reply_spelling (failure h.cookie errno)
+skipped_failure e h errno is = in_one_piece e.terms.structured h.kind _ _ (eqb-true _ _ (is_write (eqb h.kind 1) h.length is))
+
 refused_now : (of : ℕ) (e : Exported) (h : RequestHeader) (errno : Errno) (payload : List ℕ) (t : Bool) → eqb (payload_length h) 0 ≡ t
     → length payload ≡ payload_length h
-    → (let first = after_step of e (cond t (sends (phase.Gather part.Request) (reply_spelling (failure h.cookie errno)))
+    → (let first = after_step of e (cond t (sends (phase.Gather part.Request) (failure_bytes e h errno))
     (goes_on (phase.Skip (payload_length h) (refused.Write h.cookie errno)))) in then_fed first (fed first.machine payload))
     ≡ answer_as of e (record { header = h; payload = payload }) (Err errno)
 unfolding fed skipped
 refused_now of e h errno payload true is whole =
     let none : payload ≡ [] = none_of payload (whole ∙ eqb-true _ _ is) in
-    let first = after_step of e (sends (phase.Gather part.Request) (reply_spelling (failure h.cookie errno))) in
+    let first = after_step of e (sends (phase.Gather part.Request) (failure_bytes e h errno)) in
     ap (λ (x : List ℕ). then_fed first (fed first.machine x)) none ∙ then_fed_nothing first
 refused_now of e h errno payload false is whole =
     let other = eqb-false _ _ is in
     let first = after_step of e (goes_on (phase.Skip (payload_length h) (refused.Write h.cookie errno))) in
+    let replied : List ℕ → Fed = λ (sent : List ℕ). record { machine = at_request of e; sent = sent; requests = [] } in
     ap (λ (f : Fed). then_fed first f) (fed_skipped of e (payload_length h) (refused.Write h.cookie errno) payload (omega (arith, whole, other)) whole)
+    ∙ ap replied (sym (skipped_failure e h errno is))
 
 finishes : (of : ℕ) (e : Exported) (m : Message) (r : Result NbdCommand Errno) → judged e m.header ≡ r → length m.payload ≡ payload_length m.header
     → finished of e m r ≡ answer_as of e m r
@@ -112,10 +130,12 @@ finishes of e m (Ok command.Trim) is whole =
     served_now of e m.header m.payload command.Trim (none_of m.payload (whole ∙ no_payload e m.header command.Trim is (λ same. cc))) refl
 finishes of e m (Ok command.WriteZeroes) is whole =
     served_now of e m.header m.payload command.WriteZeroes (none_of m.payload (whole ∙ no_payload e m.header command.WriteZeroes is (λ same. cc))) refl
+finishes of e m (Ok command.BlockStatus) is whole =
+    served_now of e m.header m.payload command.BlockStatus (none_of m.payload (whole ∙ no_payload e m.header command.BlockStatus is (λ same. cc))) refl
 finishes of e m (Err errno) is whole = refused_now of e m.header errno m.payload (eqb (payload_length m.header) 0) refl whole
 
 -- a header of a request
-pub header_turns : (of : ℕ) (e : Exported) (h : RequestHeader) → FitsFields h → fed (at_request of e) (spelling h) ≡ after_step of e (begins of h (judged e h))
+pub header_turns : (of : ℕ) (e : Exported) (h : RequestHeader) → FitsFields h → fed (at_request of e) (spelling h) ≡ after_step of e (begins of e h (judged e h))
 unfolding step
 header_turns of e h fits =
     fed_whole of e part.Request [] (spelling h) (omega (arith, spelling_length h)) (omega (arith, spelling_length h))
@@ -137,6 +157,7 @@ goes_on_as of e m (Ok command.Disconnect) go = absurd cc
 goes_on_as of e m (Ok command.Flush) go = refl
 goes_on_as of e m (Ok command.Trim) go = refl
 goes_on_as of e m (Ok command.WriteZeroes) go = refl
+goes_on_as of e m (Ok command.BlockStatus) go = refl
 goes_on_as of e m (Err errno) go = refl
 
 ends_as : (of : ℕ) (e : Exported) (m : Message) (r : Result NbdCommand Errno) → is_end r ≡ true → answer_as of e m r ≡ silent (closed of e)
@@ -146,6 +167,7 @@ ends_as of e m (Ok command.Disconnect) end = refl
 ends_as of e m (Ok command.Flush) end = absurd cc
 ends_as of e m (Ok command.Trim) end = absurd cc
 ends_as of e m (Ok command.WriteZeroes) end = absurd cc
+ends_as of e m (Ok command.BlockStatus) end = absurd cc
 ends_as of e m (Err errno) end = absurd cc
 
 -- a message, and what comes after it

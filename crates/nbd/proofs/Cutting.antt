@@ -6,13 +6,13 @@ use Rattle.blocks.specs.Ranges.{IsRange}
 use Rattle.nbd.specs.Pieces.{piece, first_pieces, pieces, Joins}
 
 -- a range has at least one block
-piece_some : (first count : ℕ) → 0 < count → 0 < piece first count
+pub piece_some : (first count : ℕ) → 0 < count → 0 < piece first count
 piece_some first count some = omega arith
 
-piece_within : (first count : ℕ) → piece first count ≤ count
+pub piece_within : (first count : ℕ) → piece first count ≤ count
 piece_within first count = omega arith
 
-not_zero : (count : ℕ) → 0 < count → eqb count 0 ≡ false
+pub not_zero : (count : ℕ) → 0 < count → eqb count 0 ≡ false
 not_zero count some = ne_eqb count 0 (λ same. omega (arith, same, some))
 
 no_pieces : (n first count : ℕ) → count ≡ 0 → first_pieces n first count ≡ []

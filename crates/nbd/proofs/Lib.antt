@@ -1,8 +1,13 @@
 pub mod Answering
+pub mod Covering
 pub mod Cutting
+pub mod Dividing
 pub mod Feeding
 pub mod Grammar
 pub mod Negotiating
 pub mod Parsing
+pub mod Querying
 pub mod Serving
+pub mod Spanning
+pub mod Spelling
 pub mod Waiting

@@ -10,10 +10,10 @@ use Rattle.packets.proofs.Widths.{number_bytes_length, number_in_front}
 use Rattle.nbd.specs.declared.phase.Part.TheVariants as part
 use Rattle.nbd.specs.declared.phase.Phase.TheVariants as phase
 use Rattle.nbd.specs.declared.phase.Refused.TheVariants as refused
-use Rattle.nbd.specs.Exports.{Exported}
+use Rattle.nbd.specs.Exports.{Exported, export_now}
 use Rattle.nbd.specs.Machine.{Fed, silent, after_step, then_fed, fed}
 use Rattle.nbd.specs.Messages.{ClientOption, FitsOption, option_bytes, at_option, closed, option_answer}
-use Rattle.nbd.specs.Options.{option_magic, option_replied, option_reply, rep_err_too_big}
+use Rattle.nbd.specs.Options.{context_set, option_magic, option_replied, option_reply, rep_err_too_big}
 use Rattle.nbd.specs.Steps.{Stepped, after_reply, after_option, option_begins, goes_on, step, skipped}
 use Rattle.nbd.proofs.Answering.{none_of}
 use Rattle.nbd.proofs.Feeding.{then_fed_nothing, fed_whole, fed_skipped, fed_closed, fed_append}
@@ -48,12 +48,16 @@ head_read e no_zeroes o fits =
 no_bytes_are_few : (n : ℕ) → eqb n 0 ≡ true → nat_lt 8192 n ≡ true → n < n
 no_bytes_are_few n none many = grind (arith, nat_tests)
 
+-- the data of an option that is too long are skipped
+abbrev skips_option : Exported → Bool → ℕ → ℕ → Stepped
+skips_option e z n long = record { phase = phase.Skip long (refused.LongOption z n); terms = context_set e n false; sent = []; requests = [] }
+
 -- the data, after the header
 ends : (of : ℕ) (e : Exported) (z : Bool) (n : ℕ) (bytes : List ℕ) (none many named : Bool) → eqb (length bytes) 0 ≡ none → nat_lt 8192 (length bytes) ≡ many
     → (let first = after_step of e (cond none (after_reply z (option_replied e z n []))
-    (cond many (cond named (goes_on phase.Closed) (goes_on (phase.Skip (length bytes) (refused.LongOption z n))))
+    (cond many (cond named (goes_on phase.Closed) (skips_option e z n (length bytes)))
     (goes_on (phase.Gather (part.OptionData z n (length bytes)))))) in then_fed first (fed first.machine bytes))
-    ≡ cond many (cond named (silent (closed of e)) (record { machine = at_option of e z; sent = option_reply n rep_err_too_big []; requests = [] }))
+    ≡ cond many (cond named (silent (closed of e)) (record { machine = at_option of (export_now e (context_set e n false)) z; sent = option_reply n rep_err_too_big []; requests = [] }))
     (after_step of e (after_reply z (option_replied e z n bytes)))
 unfolding fed step skipped
 ends of e z n bytes true true named is_none is_many = absurd (omega (arith, no_bytes_are_few (length bytes) is_none is_many))
@@ -65,8 +69,9 @@ ends of e z n bytes true false named is_none is_many =
 ends of e z n bytes false true true is_none is_many = ap (λ (f : Fed). then_fed (silent (closed of e)) f) (fed_closed of e [] bytes)
 ends of e z n bytes false true false is_none is_many =
     let other = eqb-false _ _ is_none in
-    let first = after_step of e (goes_on (phase.Skip (length bytes) (refused.LongOption z n))) in
-    ap (λ (f : Fed). then_fed first f) (fed_skipped of e (length bytes) (refused.LongOption z n) bytes (omega (arith, other)) refl)
+    let now = export_now e (context_set e n false) in
+    let first = after_step of e (skips_option e z n (length bytes)) in
+    ap (λ (f : Fed). then_fed first f) (fed_skipped of now (length bytes) (refused.LongOption z n) bytes (omega (arith, other)) refl)
 ends of e z n bytes false false named is_none is_many =
     let other = eqb-false _ _ is_none in
     let first = after_step of e (goes_on (phase.Gather (part.OptionData z n (length bytes)))) in

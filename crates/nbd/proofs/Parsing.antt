@@ -19,9 +19,8 @@ use Rattle.nbd.specs.Exports.{Exported}
 use Rattle.nbd.specs.Judging.{judged}
 use Rattle.nbd.specs.Machine.{Machine, Fed, silent, after_step, then_fed, fed}
 use Rattle.nbd.specs.Messages.{Message, IsMessage, message_bytes, stream_of, at_request, closed, answer, is_end, answers, has_end, IsRestWith, IsRest, Parses}
-use Rattle.nbd.specs.Replies.{reply_spelling}
 use Rattle.nbd.specs.Requests.{spelling, Spells, header_at}
-use Rattle.nbd.specs.Steps.{payload_length, failure, begins, after_header, step, sends, goes_on}
+use Rattle.nbd.specs.Steps.{payload_length, failure_bytes, begins, after_header, step, sends, goes_on}
 use Rattle.nbd.proofs.Answering.{no_payload, whole_payload, one_and_rest}
 use Rattle.nbd.proofs.Feeding.{fed_held, fed_whole, fed_skips, fed_closed, fed_append}
 use Rattle.nbd.proofs.Grammar.{header_takes}
@@ -42,7 +41,7 @@ no_less n l none less = omega arith
 refused_part : (of : ℕ) (e : Exported) (h : RequestHeader) (errno : Errno) (back : List ℕ) (t : Bool) → eqb (payload_length h) 0 ≡ t
     → length back < payload_length h
     → (m : Machine) × ((let first =
-    after_step of e (cond t (sends (phase.Gather part.Request) (reply_spelling (failure h.cookie errno)))
+    after_step of e (cond t (sends (phase.Gather part.Request) (failure_bytes e h errno))
     (goes_on (phase.Skip (payload_length h) (refused.Write h.cookie errno)))) in then_fed first (fed first.machine back)) ≡ silent m)
 refused_part of e h errno back true is less = absurd (no_less (length back) (payload_length h) (eqb-true _ _ is) less)
 refused_part of e h errno back false is less =
@@ -52,7 +51,7 @@ refused_part of e h errno back false is less =
     )
 
 begun : (of : ℕ) (e : Exported) (h : RequestHeader) (back : List ℕ) (r : Result NbdCommand Errno) → judged e h ≡ r → length back < payload_length h
-    → (m : Machine) × ((let first = after_step of e (begins of h r) in then_fed first (fed first.machine back)) ≡ silent m)
+    → (m : Machine) × ((let first = after_step of e (begins of e h r) in then_fed first (fed first.machine back)) ≡ silent m)
 begun of e h back (Ok command.Read) is less = absurd (no_less _ _ (no_payload e h command.Read is (λ same. cc)) less)
 begun of e h back (Ok command.Write) is less =
     let first = after_step of e (goes_on (phase.Gather (part.Payload h))) in (
@@ -63,6 +62,7 @@ begun of e h back (Ok command.Disconnect) is less = absurd (no_less _ _ (no_payl
 begun of e h back (Ok command.Flush) is less = absurd (no_less _ _ (no_payload e h command.Flush is (λ same. cc)) less)
 begun of e h back (Ok command.Trim) is less = absurd (no_less _ _ (no_payload e h command.Trim is (λ same. cc)) less)
 begun of e h back (Ok command.WriteZeroes) is less = absurd (no_less _ _ (no_payload e h command.WriteZeroes is (λ same. cc)) less)
+begun of e h back (Ok command.BlockStatus) is less = absurd (no_less _ _ (no_payload e h command.BlockStatus is (λ same. cc)) less)
 begun of e h back (Err errno) is less = refused_part of e h errno back (eqb (payload_length h) 0) refl less
 
 -- what comes of bytes that begin with 28

@@ -1,5 +1,5 @@
 -- Each request that is given out is inside the device, and of the connection that gave it.
-use Rattle.std.proofs.Common.{◌≡◌, ◌≢◌, ℕ, ◌+◌, ◌%◌, ◌<◌, ◌≤◌, Bool, true, false, cond, eqb, List, [], ◌∷◌, ◌++◌, length, Result, Ok, Err, refl, sym, ◌∙◌}
+use Rattle.std.proofs.Common.{◌≡◌, ◌≢◌, ◌⊎◌, ⊎_elim, ℕ, ◌+◌, ◌≤◌, Bool, true, false, cond, eqb, List, [], ◌∷◌, ◌++◌, length, Result, Ok, Err, refl, sym, ◌∙◌}
 use Rattle.std.proofs.Common.{subst, arith}
 use Rattle.std.specs.Prelude.{nat_lt}
 use Rattle.std.specs.List.{AllByRecursion}
@@ -20,49 +20,43 @@ use Rattle.nbd.specs.declared.phase.Refused.TheVariants as refused
 use Rattle.nbd.specs.Requested.{IsOf, Requested}
 use Rattle.nbd.specs.Exports.{Exported}
 use Rattle.nbd.specs.Inside.{IsInside}
-use Rattle.nbd.specs.Judging.{command_at, is_whole, is_long, judged_as, judged}
+use Rattle.nbd.specs.Judging.{command_at, is_long, judged_as, judged}
 use Rattle.nbd.specs.Machine.{Machine, Fed, IsDue, Waits, with_byte, fed}
 use Rattle.nbd.specs.Options.{option_magic}
 use Rattle.nbd.specs.Requests.{header_at}
 use Rattle.nbd.specs.Steps.{wanted, Stepped, option_begins, payload_length, begins, request_of, after_header, step, skipped}
-use Rattle.nbd.proofs.Waiting.{IsServed, served_as, first_true, above_none, not_above, step_waits, skipped_waits}
+use Rattle.nbd.proofs.Waiting.{IsServed, served_as, above_none, not_above, payload_bounded, step_waits, skipped_waits}
 
 -- ---- one request
 
--- what whole blocks are
-pub record AreBlocks (offset bytes : ℕ) : Type 0 where
-  pub first : offset % 4096 ≡ 0
-  pub whole : bytes % 4096 ≡ 0
-  pub some : 0 < bytes
-
-blocks_are : (offset bytes : ℕ) → is_whole offset bytes ≡ true → AreBlocks offset bytes
-blocks_are offset bytes h =
-    let p = first_true _ _ h in
-    let q = first_true _ _ p.1 in
-    record { first = eqb-true _ _ p.0; whole = eqb-true _ _ q.0; some = above_none bytes q.1 }
-
--- a READ, a WRITE, a TRIM or a WRITE_ZEROES that is served
+-- a request for bytes that is served
 range_inside : (of : ℕ) (e : Exported) (c : NbdCommand) (h : RequestHeader) (payload : List ℕ) → c ≢ command.Disconnect
-    → (c ≡ command.Read → h.length ≤ 33554432)
-    → (c ≡ command.Write → length payload ≡ h.length) → IsServed e c h → IsInside e.blocks (request_of of c h payload)
-range_inside of e c h payload stays short whole s =
-    let b = blocks_are h.offset h.length s.whole in
-    record {
-      stays = stays;
-      some = λ _. omega (arith, b.whole, b.some);
-      inside = omega (arith, b.first, b.whole, s.inside);
-      read = λ is. omega (arith, short is);
-      payload = λ is. omega (arith, whole is, b.whole);
-    }
+    → ((c ≡ command.Read) ⊎ (c ≡ command.Write) → h.length ≤ 33554432) → (c ≡ command.Write → length payload ≡ h.length)
+    → (c ≢ command.Write → payload ≡ []) → IsServed e c h → IsInside e.blocks (request_of of e c h payload)
+range_inside of e c h payload stays short whole other s = record {
+  stays = stays;
+  some = λ _. above_none h.length s.some;
+  inside = s.inside;
+  short = short;
+  payload = whole;
+  other = other;
+}
 
--- FLUSH goes over no block
-flush_inside : (of : ℕ) (e : Exported) (h : RequestHeader) → (h.offset ≡ 0) × (h.length ≡ 0) → IsInside e.blocks (request_of of command.Flush h [])
+-- a request without a payload whose length has no bound but the device's
+unbounded_inside : (of : ℕ) (e : Exported) (c : NbdCommand) (h : RequestHeader) → c ≢ command.Disconnect → c ≢ command.Read → c ≢ command.Write
+    → IsServed e c h → IsInside e.blocks (request_of of e c h [])
+unbounded_inside of e c h stays reads writes s =
+    range_inside of e c h [] stays (λ either. ⊎_elim (λ is. absurd (reads is)) (λ is. absurd (writes is)) either) (λ is. absurd (writes is)) (λ _. refl) s
+
+-- FLUSH goes over no byte
+flush_inside : (of : ℕ) (e : Exported) (h : RequestHeader) → (h.offset ≡ 0) × (h.length ≡ 0) → IsInside e.blocks (request_of of e command.Flush h [])
 flush_inside of e h zeros = record {
   stays = λ same. cc;
   some = λ other. absurd (other refl);
   inside = omega (arith, zeros.0, zeros.1);
-  read = λ same. absurd cc;
+  short = λ either. ⊎_elim (λ is. absurd cc) (λ is. absurd cc) either;
   payload = λ same. absurd cc;
+  other = λ _. refl;
 }
 
 cond_gives : (P : Requested → Type 0) (b : Bool) (x y : Stepped) → AllByRecursion P x.requests → AllByRecursion P y.requests
@@ -75,19 +69,19 @@ short_read h is = not_above 33554432 h.length is
 
 -- a request that follows its header at once
 begins_inside : (of : ℕ) (e : Exported) (h : RequestHeader) (r : Result NbdCommand Errno) → judged_as e (command_at h.kind) h ≡ r
-    → AllByRecursion (IsInside e.blocks) (begins of h r).requests
+    → AllByRecursion (IsInside e.blocks) (begins of e h r).requests
 begins_inside of e h (Ok command.Read) is =
     let s = (served_as e (command_at h.kind) h command.Read is).1 in
-    (range_inside of e command.Read h [] (λ same. cc) (λ _. short_read h s.short) (λ same. absurd cc) s, tt)
+    (range_inside of e command.Read h [] (λ same. cc) (λ _. short_read h s.short) (λ same. absurd cc) (λ _. refl) s, tt)
 begins_inside of e h (Ok command.Write) is = tt
 begins_inside of e h (Ok command.Disconnect) is = tt
 begins_inside of e h (Ok command.Flush) is = (flush_inside of e h (served_as e (command_at h.kind) h command.Flush is).1, tt)
 begins_inside of e h (Ok command.Trim) is =
-    let s = (served_as e (command_at h.kind) h command.Trim is).1 in
-    (range_inside of e command.Trim h [] (λ same. cc) (λ same. absurd cc) (λ same. absurd cc) s, tt)
+    (unbounded_inside of e command.Trim h (λ same. cc) (λ same. cc) (λ same. cc) (served_as e (command_at h.kind) h command.Trim is).1, tt)
 begins_inside of e h (Ok command.WriteZeroes) is =
-    let s = (served_as e (command_at h.kind) h command.WriteZeroes is).1 in
-    (range_inside of e command.WriteZeroes h [] (λ same. cc) (λ same. absurd cc) (λ same. absurd cc) s, tt)
+    (unbounded_inside of e command.WriteZeroes h (λ same. cc) (λ same. cc) (λ same. cc) (served_as e (command_at h.kind) h command.WriteZeroes is).1, tt)
+begins_inside of e h (Ok command.BlockStatus) is =
+    (unbounded_inside of e command.BlockStatus h (λ same. cc) (λ same. cc) (λ same. cc) (served_as e (command_at h.kind) h command.BlockStatus is).1, tt)
 begins_inside of e h (Err errno) is = cond_gives (IsInside e.blocks) (eqb (payload_length h) 0) _ _ tt tt
 
 header_inside : (of : ℕ) (e : Exported) (r : Result RequestHeader Refusal) → AllByRecursion (IsInside e.blocks) (after_header of e r).requests
@@ -97,10 +91,11 @@ header_inside of e (Err refusal) = tt
 
 -- a request that follows its payload
 payload_inside : (of : ℕ) (e : Exported) (h : RequestHeader) (payload : List ℕ) → judged e h ≡ Ok command.Write → length payload ≡ h.length
-    → IsInside e.blocks (request_of of command.Write h payload)
+    → IsInside e.blocks (request_of of e command.Write h payload)
 unfolding judged
 payload_inside of e h payload is whole =
-    range_inside of e command.Write h payload (λ same. cc) (λ same. absurd cc) (λ _. whole) (served_as e (command_at h.kind) h command.Write is).1
+    range_inside of e command.Write h payload (λ same. cc) (λ _. (payload_bounded e h is).1) (λ _. whole) (λ other. absurd (other refl))
+    (served_as e (command_at h.kind) h command.Write is).1
 
 option_gives : (P : Requested → Type 0) (e : Exported) (no_zeroes : Bool) (option bytes : ℕ)
     → AllByRecursion P (option_begins e no_zeroes option bytes).requests
@@ -126,17 +121,18 @@ skipped_inside P (refused.Write cookie errno) = tt
 
 -- ---- whose a request is
 
-begins_own : (of : ℕ) (h : RequestHeader) (r : Result NbdCommand Errno) → AllByRecursion (IsOf of) (begins of h r).requests
-begins_own of h (Ok command.Read) = (refl, tt)
-begins_own of h (Ok command.Write) = tt
-begins_own of h (Ok command.Disconnect) = tt
-begins_own of h (Ok command.Flush) = (refl, tt)
-begins_own of h (Ok command.Trim) = (refl, tt)
-begins_own of h (Ok command.WriteZeroes) = (refl, tt)
-begins_own of h (Err errno) = cond_gives (IsOf of) (eqb (payload_length h) 0) _ _ tt tt
+begins_own : (of : ℕ) (e : Exported) (h : RequestHeader) (r : Result NbdCommand Errno) → AllByRecursion (IsOf of) (begins of e h r).requests
+begins_own of e h (Ok command.Read) = (refl, tt)
+begins_own of e h (Ok command.Write) = tt
+begins_own of e h (Ok command.Disconnect) = tt
+begins_own of e h (Ok command.Flush) = (refl, tt)
+begins_own of e h (Ok command.Trim) = (refl, tt)
+begins_own of e h (Ok command.WriteZeroes) = (refl, tt)
+begins_own of e h (Ok command.BlockStatus) = (refl, tt)
+begins_own of e h (Err errno) = cond_gives (IsOf of) (eqb (payload_length h) 0) _ _ tt tt
 
 header_own : (of : ℕ) (e : Exported) (r : Result RequestHeader Refusal) → AllByRecursion (IsOf of) (after_header of e r).requests
-header_own of e (Ok h) = begins_own of h (judged e h)
+header_own of e (Ok h) = begins_own of e h (judged e h)
 header_own of e (Err refusal) = tt
 
 -- each request that a step gives out is of the connection's number
@@ -159,8 +155,8 @@ all_append P (x ∷ xs) ys hx hy = (hx.0, all_append P xs ys hx.1 hy)
 -- the machine waits for what is due, and what it gave out is inside
 pub record GoesOn (of : ℕ) (e : Exported) (f : Fed) : Type 0 where
   pub same : f.machine.of ≡ of
-  pub export : f.machine.export ≡ e
-  pub waits : Waits e f.machine.phase f.machine.held
+  pub blocks : f.machine.export.blocks ≡ e.blocks
+  pub waits : Waits f.machine.export f.machine.phase f.machine.held
   pub inside : AllByRecursion (IsInside e.blocks) f.requests
   pub own : AllByRecursion (IsOf of) f.requests
 
@@ -174,37 +170,37 @@ byte_goes of e (phase.Gather p) held b waits =
     cond_goes of e (eqb (length held + 1) (wanted p)) _ _
     (λ yes. record {
       same = refl;
-      export = refl;
+      blocks = refl;
       waits = step_waits of e p (held ++ b ∷ []);
       inside = step_inside of e p (held ++ b ∷ []) waits.1 (longer ∙ eqb-true _ _ yes);
       own = step_own of e p (held ++ b ∷ []);
     })
     (λ no.
     let other = eqb-false _ _ no in
-    record { same = refl; export = refl; waits = (omega (arith, other, longer, waits.0), waits.1); inside = tt; own = tt })
+    record { same = refl; blocks = refl; waits = (omega (arith, other, longer, waits.0), waits.1); inside = tt; own = tt })
 byte_goes of e (phase.Skip left r) held b waits =
     cond_goes of e (eqb left 1) _ _
     (λ yes. record {
       same = refl;
-      export = refl;
+      blocks = refl;
       waits = skipped_waits e r;
       inside = skipped_inside (IsInside e.blocks) r;
       own = skipped_inside (IsOf of) r;
     })
     (λ no.
     let other = eqb-false _ _ no in
-    record { same = refl; export = refl; waits = (omega (arith, other, waits.0), refl); inside = tt; own = tt })
-byte_goes of e phase.Closed held b waits = record { same = refl; export = refl; waits = waits; inside = tt; own = tt }
+    record { same = refl; blocks = refl; waits = (omega (arith, other, waits.0), refl); inside = tt; own = tt })
+byte_goes of e phase.Closed held b waits = record { same = refl; blocks = refl; waits = waits; inside = tt; own = tt }
 
-pub fed_inside : (e : Exported) (m : Machine) (bytes : List ℕ) → m.export ≡ e → Waits e m.phase m.held
-    → AllByRecursion (IsInside e.blocks) (fed m bytes).requests
+pub fed_inside : (blocks : ℕ) (m : Machine) (bytes : List ℕ) → m.export.blocks ≡ blocks → Waits m.export m.phase m.held
+    → AllByRecursion (IsInside blocks) (fed m bytes).requests
 unfolding fed
-fed_inside e m [] same waits = tt
-fed_inside e m (b ∷ bs) same waits =
+fed_inside blocks m [] same waits = tt
+fed_inside blocks m (b ∷ bs) same waits =
     let first = with_byte m.of m.export m.phase m.held b in
-    let goes : GoesOn m.of e first =
-    subst (λ (x : Exported). GoesOn m.of e (with_byte m.of x m.phase m.held b)) (sym same) (byte_goes m.of e m.phase m.held b waits) in
-    all_append (IsInside e.blocks) first.requests (fed first.machine bs).requests goes.inside (fed_inside e first.machine bs goes.export goes.waits)
+    let goes : GoesOn m.of m.export first = byte_goes m.of m.export m.phase m.held b waits in
+    let inside : AllByRecursion (IsInside blocks) first.requests = subst (λ (x : ℕ). AllByRecursion (IsInside x) first.requests) same goes.inside in
+    all_append (IsInside blocks) first.requests (fed first.machine bs).requests inside (fed_inside blocks first.machine bs (goes.blocks ∙ same) goes.waits)
 
 -- what it gives out is of its own number
 own_bytes : (of : ℕ) (m : Machine) (bytes : List ℕ) → m.of ≡ of → Waits m.export m.phase m.held → AllByRecursion (IsOf of) (fed m bytes).requests
@@ -213,10 +209,8 @@ own_bytes of m [] same waits = tt
 own_bytes of m (b ∷ bs) same waits =
     let first = with_byte m.of m.export m.phase m.held b in
     let goes : GoesOn m.of m.export first = byte_goes m.of m.export m.phase m.held b waits in
-    let next : Waits first.machine.export first.machine.phase first.machine.held =
-    subst (λ (x : Exported). Waits x first.machine.phase first.machine.held) (sym goes.export) goes.waits in
     let own : AllByRecursion (IsOf of) first.requests = subst (λ (x : ℕ). AllByRecursion (IsOf x) first.requests) same goes.own in
-    all_append (IsOf of) first.requests (fed first.machine bs).requests own (own_bytes of first.machine bs (goes.same ∙ same) next)
+    all_append (IsOf of) first.requests (fed first.machine bs).requests own (own_bytes of first.machine bs (goes.same ∙ same) goes.waits)
 
 pub fed_own : (m : Machine) (bytes : List ℕ) → Waits m.export m.phase m.held → AllByRecursion (IsOf m.of) (fed m bytes).requests
 fed_own m bytes waits = own_bytes m.of m bytes refl waits

@@ -1,5 +1,5 @@
 -- What is waited for after a step: at least one byte, and of a part that is held no more than 32 MiB.
-use Rattle.std.proofs.Common.{◌≡◌, ℕ, ◌+◌, ◌<◌, ◌≤◌, Bool, true, false, cond, eqb, List, [], length, Option, Some, None, Result, Ok, Err, refl, ap, subst}
+use Rattle.std.proofs.Common.{◌≡◌, ◌≢◌, ℕ, ◌+◌, ◌<◌, ◌≤◌, Bool, true, false, cond, eqb, List, [], length, Option, Some, None, Result, Ok, Err, refl, ap, subst}
 use Rattle.std.proofs.Common.{arith}
 use Rattle.std.specs.Prelude.{nat_lt, ◌*◌, not, ◌&&◌, ◌==◌}
 use Rattle.std.proofs.lemmas.Bool.{eqb-true, eqb-false}
@@ -19,15 +19,19 @@ use Rattle.nbd.specs.declared.phase.Phase.{Phase}
 use Rattle.nbd.specs.declared.phase.Phase.TheVariants as phase
 use Rattle.nbd.specs.declared.phase.Refused.{Refused}
 use Rattle.nbd.specs.declared.phase.Refused.TheVariants as refused
-use Rattle.nbd.specs.Exports.{Exported}
-use Rattle.nbd.specs.Judging.{command_at, may_have, is_whole, is_fast, is_long, past_end, judged_range, judged_as, judged_flush, judged}
+use Rattle.nbd.specs.Exports.{Exported, export_now}
+use Rattle.nbd.specs.Judging.{command_at, may_have, is_fast, is_long, past_end, judged_range, judged_as, judged_flush, judged}
 use Rattle.nbd.specs.Machine.{IsDue, Waits}
-use Rattle.nbd.specs.Options.{option_magic, option_replied}
+use Rattle.nbd.specs.Options.{Replied, option_magic, option_replied}
 use Rattle.nbd.specs.Requests.{header_at}
-use Rattle.nbd.specs.Steps.{wanted, Stepped, phase_after, option_begins, payload_length, refuses, begins, after_header, step, skipped}
+use Rattle.nbd.specs.Steps.{wanted, Stepped, phase_after, after_reply, option_begins, payload_length, refuses, begins, after_header, step, skipped}
+
+-- what a step waits for, on the terms that it sets
+abbrev pub StepWaits : Exported → Stepped → Type 0
+StepWaits e s = Waits (export_now e s.terms) s.phase []
 
 -- the two ways of a test
-cond_waits : (e : Exported) (b : Bool) (x y : Stepped) → (b ≡ true → Waits e x.phase []) → (b ≡ false → Waits e y.phase []) → Waits e (cond b x y).phase []
+cond_waits : (e : Exported) (b : Bool) (x y : Stepped) → (b ≡ true → StepWaits e x) → (b ≡ false → StepWaits e y) → StepWaits e (cond b x y)
 cond_waits e true x y hx hy = hx refl
 cond_waits e false x y hx hy = hy refl
 
@@ -36,6 +40,9 @@ next_waits e no_zeroes Negotiate = (omega arith, tt)
 next_waits e no_zeroes Transmit = (omega arith, tt)
 next_waits e no_zeroes Close = refl
 
+reply_waits : (e : Exported) (no_zeroes : Bool) (a : Replied) → StepWaits e (after_reply no_zeroes a)
+reply_waits e no_zeroes a = next_waits (export_now e a.terms) no_zeroes a.next
+
 -- a number that is not 0
 some : (n : ℕ) → eqb n 0 ≡ false → 0 < n
 some n h = let no = eqb-false n 0 h in omega (arith, no)
@@ -43,9 +50,9 @@ some n h = let no = eqb-false n 0 h in omega (arith, no)
 within : (n : ℕ) → nat_lt 8192 n ≡ false → n ≤ 8192
 within n h = grind (arith, nat_tests)
 
-option_waits : (e : Exported) (no_zeroes : Bool) (option length : ℕ) → Waits e (option_begins e no_zeroes option length).phase []
+option_waits : (e : Exported) (no_zeroes : Bool) (option length : ℕ) → StepWaits e (option_begins e no_zeroes option length)
 option_waits e no_zeroes option length =
-    cond_waits e (eqb length 0) _ _ (λ _. next_waits e no_zeroes (option_replied e no_zeroes option []).next) (λ long.
+    cond_waits e (eqb length 0) _ _ (λ _. reply_waits e no_zeroes (option_replied e no_zeroes option [])) (λ long.
     cond_waits e (nat_lt 8192 length) _ _
     (λ _. cond_waits e (eqb option 1) _ _ (λ _. refl) (λ _. (some length long, refl)))
     (λ short. (some length long, within length short)))
@@ -76,23 +83,17 @@ not_above a b h = grind (arith, nat_tests)
 
 -- what is known of a request for blocks that is served
 pub record IsServed (e : Exported) (c : NbdCommand) (h : RequestHeader) : Type 0 where
-  pub whole : is_whole h.offset h.length ≡ true
+  pub some : nat_lt 0 h.length ≡ true
   pub short : is_long c h.length ≡ false
   pub inside : h.offset + h.length ≤ 4096 * e.blocks
 
 pub range_served : (e : Exported) (c d : NbdCommand) (h : RequestHeader) → judged_range e c h ≡ Ok d → IsServed e c h × (c ≡ d)
 range_served e c d h is =
-    let p0 = passed (not (may_have c h.flags && is_whole h.offset h.length)) Invalid _ d is in
+    let p0 = passed (not (may_have e.terms c h.flags && nat_lt 0 h.length)) Invalid _ d is in
     let p1 = passed (is_long c h.length) Overflow _ d p0.1 in
     let p2 = passed (nat_lt (4096 * e.blocks) (h.offset + h.length)) (past_end c) _ d p1.1 in
     let p3 = passed (is_fast h.flags) NotSupported (Ok c) d p2.1 in
-    (record { whole = second _ _ p0.0; short = p1.0; inside = not_above _ _ p2.0 }, served_is c d p3.1)
-
-third : (a b c : Bool) → a && (b && c) ≡ true → c ≡ true
-third true true true h = refl
-third true true false h = absurd cc
-third true false c h = absurd cc
-third false b c h = absurd cc
+    (record { some = second _ _ p0.0; short = p1.0; inside = not_above _ _ p2.0 }, served_is c d p3.1)
 
 pub first_true : (a b : Bool) → a && b ≡ true → (a ≡ true) × (b ≡ true)
 first_true true b h = (refl, h)
@@ -108,12 +109,18 @@ ServedAs e command.Disconnect h = Unit {0}
 ServedAs e command.Flush h = (h.offset ≡ 0) × (h.length ≡ 0)
 ServedAs e c h = IsServed e c h
 
-flush_served : (e : Exported) (h : RequestHeader) (d : NbdCommand) → judged_flush h ≡ Ok d → (command.Flush ≡ d) × ServedAs e d h
+flush_served : (e : Exported) (h : RequestHeader) (d : NbdCommand) → judged_flush e h ≡ Ok d → (command.Flush ≡ d) × ServedAs e d h
 flush_served e h d is =
-    let p = ok_taken (may_have command.Flush h.flags && ((h.offset == 0) && (h.length == 0))) command.Flush d is in
+    let p = ok_taken (may_have e.terms command.Flush h.flags && ((h.offset == 0) && (h.length == 0))) command.Flush d is in
     let q = first_true _ _ (first_true _ _ p.0).1 in
     let zeros : ServedAs e command.Flush h = (eqb-true _ _ q.0, eqb-true _ _ q.1) in
     (p.1, subst (λ (x : NbdCommand). ServedAs e x h) p.1 zeros)
+
+-- BLOCK_STATUS is served on terms that have its context
+status_taken : (e : Exported) (h : RequestHeader) (b : Bool) (d : NbdCommand) → cond b (judged_range e command.BlockStatus h) (Err Invalid) ≡ Ok d
+    → IsServed e command.BlockStatus h × (command.BlockStatus ≡ d)
+status_taken e h true d is = range_served e command.BlockStatus d h is
+status_taken e h false d is = absurd (refused_is Invalid d is)
 
 -- a request that is served has the command of its number, and lies inside the device
 pub served_as : (e : Exported) (o : Option NbdCommand) (h : RequestHeader) (d : NbdCommand) → judged_as e o h ≡ Ok d → (o ≡ Some d) × ServedAs e d h
@@ -123,6 +130,9 @@ served_as e (Some command.Disconnect) h d is =
     let nothing : ServedAs e command.Disconnect h = tt in
     (ap (λ (x : NbdCommand). Some x) same, subst (λ (x : NbdCommand). ServedAs e x h) same nothing)
 served_as e (Some command.Flush) h d is = let p = flush_served e h d is in (ap (λ (x : NbdCommand). Some x) p.0, p.1)
+served_as e (Some command.BlockStatus) h d is =
+    let p = status_taken e h e.terms.allocation d is in
+    (ap (λ (x : NbdCommand). Some x) p.1, subst (λ (x : NbdCommand). ServedAs e x h) p.1 p.0)
 served_as e (Some command.Read) h d is =
     let p = range_served e command.Read d h is in (ap (λ (x : NbdCommand). Some x) p.1, subst (λ (x : NbdCommand). ServedAs e x h) p.1 p.0)
 served_as e (Some command.Write) h d is =
@@ -140,37 +150,57 @@ pub payload_bounded : (e : Exported) (h : RequestHeader) → judged e h ≡ Ok c
 unfolding judged
 payload_bounded e h is =
     let s = (served_as e (command_at h.kind) h command.Write is).1 in
-    (above_none h.length (third _ _ _ s.whole), not_above 33554432 h.length s.short)
+    (above_none h.length s.some, not_above 33554432 h.length s.short)
 
-refuses_waits : (e : Exported) (h : RequestHeader) (errno : Errno) → Waits e (refuses h errno).phase []
+-- the range of a request that is given out ends below 2^64
+range_ends : (e : Exported) (c : NbdCommand) (h : RequestHeader) → IsServed e c h → e.blocks < 4294967296 → h.offset + h.length < 18446744073709551616
+range_ends e c h s few = omega (arith, s.inside, few)
+
+ends_as : (e : Exported) (h : RequestHeader) (c : NbdCommand) → ServedAs e c h → c ≢ command.Disconnect → e.blocks < 4294967296
+    → h.offset + h.length < 18446744073709551616
+ends_as e h command.Read s stays few = range_ends e command.Read h s few
+ends_as e h command.Write s stays few = range_ends e command.Write h s few
+ends_as e h command.Disconnect s stays few = absurd (stays refl)
+ends_as e h command.Flush s stays few = omega (arith, s.0, s.1)
+ends_as e h command.Trim s stays few = range_ends e command.Trim h s few
+ends_as e h command.WriteZeroes s stays few = range_ends e command.WriteZeroes h s few
+ends_as e h command.BlockStatus s stays few = range_ends e command.BlockStatus h s few
+
+pub given_ends : (e : Exported) (h : RequestHeader) (c : NbdCommand) → judged e h ≡ Ok c → c ≢ command.Disconnect → e.blocks < 4294967296
+    → h.offset + h.length < 18446744073709551616
+unfolding judged
+given_ends e h c is stays few = ends_as e h c (served_as e (command_at h.kind) h c is).1 stays few
+
+refuses_waits : (e : Exported) (h : RequestHeader) (errno : Errno) → StepWaits e (refuses e h errno)
 refuses_waits e h errno =
     cond_waits e (eqb (payload_length h) 0) _ _ (λ _. (omega arith, tt)) (λ more. (some (payload_length h) more, refl))
 
-begins_waits : (of : ℕ) (e : Exported) (h : RequestHeader) (r : Result NbdCommand Errno) → judged e h ≡ r → Waits e (begins of h r).phase []
+begins_waits : (of : ℕ) (e : Exported) (h : RequestHeader) (r : Result NbdCommand Errno) → judged e h ≡ r → StepWaits e (begins of e h r)
 begins_waits of e h (Ok command.Read) is = (omega arith, tt)
 begins_waits of e h (Ok command.Write) is = ((payload_bounded e h is).0, is)
 begins_waits of e h (Ok command.Disconnect) is = refl
 begins_waits of e h (Ok command.Flush) is = (omega arith, tt)
 begins_waits of e h (Ok command.Trim) is = (omega arith, tt)
 begins_waits of e h (Ok command.WriteZeroes) is = (omega arith, tt)
+begins_waits of e h (Ok command.BlockStatus) is = (omega arith, tt)
 begins_waits of e h (Err errno) is = refuses_waits e h errno
 
-pub header_waits : (of : ℕ) (e : Exported) (r : Result RequestHeader Refusal) → Waits e (after_header of e r).phase []
+pub header_waits : (of : ℕ) (e : Exported) (r : Result RequestHeader Refusal) → StepWaits e (after_header of e r)
 header_waits of e (Ok h) = begins_waits of e h (judged e h) refl
 header_waits of e (Err refusal) = refl
 
 -- ---- all
 
-pub step_waits : (of : ℕ) (e : Exported) (p : Part) (bytes : List ℕ) → Waits e (step of e p bytes).phase []
+pub step_waits : (of : ℕ) (e : Exported) (p : Part) (bytes : List ℕ) → StepWaits e (step of e p bytes)
 unfolding step
 step_waits of e part.ClientFlags bytes = cond_waits e (nat_lt (number_in 4 0 bytes) 4) _ _ (λ _. (omega arith, tt)) (λ _. refl)
 step_waits of e (part.Option no_zeroes) bytes =
     cond_waits e (eqb (number_in 8 0 bytes) option_magic) _ _ (λ _. option_waits e no_zeroes (number_in 4 8 bytes) (number_in 4 12 bytes)) (λ _. refl)
-step_waits of e (part.OptionData no_zeroes option length) bytes = next_waits e no_zeroes (option_replied e no_zeroes option bytes).next
+step_waits of e (part.OptionData no_zeroes option length) bytes = reply_waits e no_zeroes (option_replied e no_zeroes option bytes)
 step_waits of e part.Request bytes = header_waits of e (header_at bytes)
 step_waits of e (part.Payload h) bytes = (omega arith, tt)
 
-pub skipped_waits : (e : Exported) (r : Refused) → Waits e (skipped r).phase []
+pub skipped_waits : (e : Exported) (r : Refused) → StepWaits e (skipped r)
 unfolding skipped
 skipped_waits e (refused.LongOption no_zeroes option) = (omega arith, tt)
 skipped_waits e (refused.Write cookie errno) = (omega arith, tt)

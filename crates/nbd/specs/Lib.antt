@@ -1,3 +1,6 @@
+pub mod Chunks
+pub mod Contents
+pub mod Contexts
 pub mod Errors
 pub mod Exports
 pub mod Inside
@@ -10,4 +13,6 @@ pub mod Pieces
 pub mod Replies
 pub mod Requested
 pub mod Requests
+pub mod Spans
 pub mod Steps
+pub mod Terms

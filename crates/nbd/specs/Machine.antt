@@ -8,11 +8,11 @@ use Rattle.nbd.specs.declared.phase.Phase.TheVariants as phase
 use Rattle.nbd.specs.declared.phase.Refused.{Refused}
 use Rattle.nbd.specs.declared.phase.Refused.TheVariants as refused
 use Rattle.nbd.specs.Requested.{Requested}
-use Rattle.nbd.specs.Exports.{Exported}
+use Rattle.nbd.specs.Exports.{Exported, export_now}
 use Rattle.nbd.specs.Judging.{judged}
 use Rattle.nbd.specs.Steps.{wanted, Stepped, step, skipped}
 
--- a connection as contracts see it: its number, the export that it serves, what it waits for, and the bytes of that which it has
+-- a connection as contracts see it: its number, the export that it serves and on which terms, what it waits for, and the bytes of that which it has
 pub record Machine : Type 0 where
   pub of : ℕ
   pub export : Exported
@@ -48,9 +48,9 @@ pub record Fed : Type 0 where
 abbrev pub silent : Machine → Fed
 silent m = record { machine = m; sent = []; requests = [] }
 
--- the result of a step, with no bytes held any more
+-- the result of a step, with no bytes held any more, on the terms that it sets
 abbrev pub after_step : ℕ → Exported → Stepped → Fed
-after_step of e s = record { machine = record { of = of; export = e; phase = s.phase; held = [] }; sent = s.sent; requests = s.requests }
+after_step of e s = record { machine = record { of = of; export = export_now e s.terms; phase = s.phase; held = [] }; sent = s.sent; requests = s.requests }
 
 -- the next byte: the last of its part makes a step, and one that is skipped is counted
 abbrev pub with_byte : ℕ → Exported → Phase → List ℕ → ℕ → Fed

@@ -10,13 +10,12 @@ use Rattle.nbd.specs.declared.errno.Errno.{Errno}
 use Rattle.nbd.specs.declared.header.RequestHeader.{RequestHeader}
 use Rattle.nbd.specs.declared.phase.Part.TheVariants as part
 use Rattle.nbd.specs.declared.phase.Phase.TheVariants as phase
-use Rattle.nbd.specs.Exports.{Exported}
+use Rattle.nbd.specs.Exports.{Exported, export_now}
 use Rattle.nbd.specs.Judging.{judged}
 use Rattle.nbd.specs.Machine.{Machine, Fed, silent, after_step, then_fed, fed}
-use Rattle.nbd.specs.Options.{option_magic, option_replied, option_reply, rep_err_too_big}
-use Rattle.nbd.specs.Replies.{reply_spelling}
+use Rattle.nbd.specs.Options.{context_set, option_magic, option_replied, option_reply, rep_err_too_big}
 use Rattle.nbd.specs.Requests.{spelling, FitsFields, header_at}
-use Rattle.nbd.specs.Steps.{request_of, payload_length, failure, after_reply}
+use Rattle.nbd.specs.Steps.{request_of, payload_length, failure_bytes, after_reply}
 
 -- a request on the wire: its header, and the payload of a WRITE
 pub record Message : Type 0 where
@@ -48,8 +47,8 @@ closed of e = record { of = of; export = e; phase = phase.Closed; held = [] }
 -- refused has its reply, and one to disconnect ends the connection
 abbrev pub answer_as : ℕ → Exported → Message → Result NbdCommand Errno → Fed
 answer_as of e m (Ok command.Disconnect) = silent (closed of e)
-answer_as of e m (Ok c) = record { machine = at_request of e; sent = []; requests = request_of of c m.header m.payload ∷ [] }
-answer_as of e m (Err errno) = record { machine = at_request of e; sent = reply_spelling (failure m.header.cookie errno); requests = [] }
+answer_as of e m (Ok c) = record { machine = at_request of e; sent = []; requests = request_of of e c m.header m.payload ∷ [] }
+answer_as of e m (Err errno) = record { machine = at_request of e; sent = failure_bytes e m.header errno; requests = [] }
 
 -- the result of a message
 abbrev pub answer : ℕ → Exported → Message → Fed
@@ -113,7 +112,7 @@ at_option of e no_zeroes = record { of = of; export = e; phase = phase.Gather (p
 abbrev pub too_big : ℕ → Exported → Bool → ℕ → Fed
 too_big of e no_zeroes option =
     if option == 1 then silent (closed of e)
-    else record { machine = at_option of e no_zeroes; sent = option_reply option rep_err_too_big []; requests = [] }
+    else record { machine = at_option of (export_now e (context_set e option false)) no_zeroes; sent = option_reply option rep_err_too_big []; requests = [] }
 
 -- the result of an option
 abbrev pub option_answer : ℕ → Exported → Bool → ClientOption → Fed

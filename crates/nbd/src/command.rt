@@ -2,7 +2,7 @@
 ghost use Rattle.std.specs.Prelude.{◌≡◌};
 ghost use Rattle.nbd.specs.Judging.{kind_of, command_at, allowed, may_have, is_fast, is_long, past_end};
 
-use crate::Errno;
+use crate::{Errno, Terms};
 
 /// The most bytes of a READ or a WRITE, 32 MiB: the default that clients may rely on (NBD protocol, "Block size
 /// constraints").
@@ -14,24 +14,32 @@ pub(crate) const FLAG_FUA: u16 = 1;
 /// NBD_CMD_FLAG_NO_HOLE: the zeros are written, and no hole is made (NBD protocol, "Command flags").
 pub(crate) const FLAG_NO_HOLE: u16 = 2;
 
+/// NBD_CMD_FLAG_DF: the data of a READ come in one chunk (NBD protocol, "Structured reply flags").
+pub(crate) const FLAG_DF: u16 = 4;
+
+/// NBD_CMD_FLAG_REQ_ONE: the reply to a BLOCK_STATUS tells one extent (NBD protocol, "Command flags").
+pub(crate) const FLAG_REQ_ONE: u16 = 8;
+
 /// NBD_CMD_FLAG_FAST_ZERO: the zeros are written only if that is faster than a WRITE of zeros (NBD protocol, "Command flags").
 pub(crate) const FLAG_FAST_ZERO: u16 = 16;
 
 /// The command of a request (NBD protocol, "Request types").
 #[derive(Clone, Copy, Debug, PartialEq, Eq)]
 pub enum NbdCommand {
-    /// Reads blocks.
+    /// Reads bytes.
     Read,
-    /// Writes blocks.
+    /// Writes bytes.
     Write,
     /// Ends the connection. It has no reply.
     Disconnect,
     /// Puts all completed writes on stable storage.
     Flush,
-    /// Gives up what blocks hold. This server fills them with zeros.
+    /// Gives up bytes. This server fills the whole blocks among them with zeros.
     Trim,
-    /// Fills blocks with zeros.
+    /// Fills bytes with zeros.
     WriteZeroes,
+    /// Asks which bytes are zeros.
+    BlockStatus,
 }
 
 impl NbdCommand {
@@ -46,6 +54,7 @@ impl NbdCommand {
             NbdCommand::Flush => 3,
             NbdCommand::Trim => 4,
             NbdCommand::WriteZeroes => 6,
+            NbdCommand::BlockStatus => 7,
         }
     }
 
@@ -60,23 +69,27 @@ impl NbdCommand {
             3 => Some(NbdCommand::Flush),
             4 => Some(NbdCommand::Trim),
             6 => Some(NbdCommand::WriteZeroes),
+            7 => Some(NbdCommand::BlockStatus),
             _ => None,
         }
     }
 
-    /// Returns whether a request with this command may have these flags: FUA goes with each command, as the protocol
-    /// demands of a server that offers it; NO_HOLE and FAST_ZERO go with WRITE_ZEROES only.
-    pub(crate) fn may_have(self, flags: u16) -> bool
-        ensures { result ≡ may_have self flags }
+    /// Returns whether a request with this command may have these flags on such terms: FUA goes with each command, as the protocol
+    /// demands of a server that offers it; NO_HOLE and FAST_ZERO go with WRITE_ZEROES only, DF with a READ where replies are
+    /// structured, and REQ_ONE with BLOCK_STATUS.
+    pub(crate) fn may_have(self, terms: Terms, flags: u16) -> bool
+        ensures { result ≡ may_have terms self flags }
     {
-        flags & self.allowed_flags() == flags
+        flags & self.allowed_flags(terms) == flags
     }
 
     // Returns the flags that a request with this command may have.
-    fn allowed_flags(self) -> u16
-        ensures { result ≡ allowed self }
+    fn allowed_flags(self, terms: Terms) -> u16
+        ensures { result ≡ allowed terms self }
     {
         match self {
+            NbdCommand::Read if terms.structured => FLAG_FUA + FLAG_DF,
+            NbdCommand::BlockStatus => FLAG_FUA + FLAG_REQ_ONE,
             NbdCommand::WriteZeroes => FLAG_FUA + FLAG_NO_HOLE + FLAG_FAST_ZERO,
             _ => FLAG_FUA,
         }
@@ -87,7 +100,7 @@ impl NbdCommand {
         ensures { result ≡ is_long self length }
     {
         match self {
-            NbdCommand::Trim | NbdCommand::WriteZeroes => false,
+            NbdCommand::Trim | NbdCommand::WriteZeroes | NbdCommand::BlockStatus => false,
             _ => length > MAX_REQUEST_BYTES,
         }
     }

@@ -4,6 +4,7 @@ ghost use Rattle.blocks.specs.declared.refusal.Refusal.TheVariants.{NoMemory};
 ghost use Rattle.nbd.specs.declared.phase.Phase.TheVariants as phase;
 ghost use Rattle.nbd.specs.declared.phase.Part.TheVariants as part;
 ghost use Rattle.std.specs.List.{AllByRecursion};
+ghost use Rattle.nbd.specs.Exports.{export_now};
 ghost use Rattle.nbd.specs.Inside.{IsInside};
 ghost use Rattle.nbd.specs.Machine.{Adds, Begins, IsPortion, Waits, fed, after_step, is_negotiating};
 ghost use Rattle.nbd.specs.Options.{greeting};
@@ -13,7 +14,7 @@ ghost use Rattle.nbd.specs.Steps.{view};
 use crate::options::greeting;
 use crate::phase::{Part, Phase, Refused};
 use crate::step::{Step, end_skip, take_part};
-use crate::{Export, Output, Sayings};
+use crate::{Export, Output, Sayings, Terms};
 use blocks::Refusal;
 use std::alloc::Global;
 use std::marker::Model;
@@ -79,6 +80,13 @@ impl Connection {
         ensures { IsTrue result ↔ (self.now.phase ≡ phase.Closed) }
     {
         matches!(self.phase, Phase::Closed)
+    }
+
+    /// Returns what the handshake has agreed by now.
+    pub fn terms(&self) -> Terms
+        ensures { result ≡ self.now.export.terms }
+    {
+        self.export.terms()
     }
 
     /// Returns whether the client is still in its handshake: it has chosen no export. A server limits the time for that, or
@@ -221,7 +229,7 @@ impl Connection {
     /// bytes of the next part, at most 32 MiB. An error leaves `out` as it was.
     fn take_step(&mut self, step: Step, mut held: Vec<u8>, out: &mut Output) -> Result<(), Refusal>
         requires empty { held.items ≡ [] }
-        requires waits { Waits self.old.export step.phase [] }
+        requires waits { Waits (export_now self.old.export step.terms) step.phase [] }
         ensures number { self.new.of ≡ self.old.of }
         ensures own { out.new.of ≡ out.old.of }
         ensures adds { OnOk result (Adds (after_step self.old.of self.old.export (view step)) self.new
@@ -234,6 +242,7 @@ impl Connection {
             held.reserve_exact(part.wanted())?;
         }
         out.put(step.made)?;
+        self.export.agree(step.terms);
         self.phase = step.phase;
         self.held = held;
         Ok(())

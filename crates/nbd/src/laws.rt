@@ -1,13 +1,15 @@
 //! Laws of the machine over whole messages. These functions do nothing: each contract is a law over the
 //! definitions that the contract of [`Connection::feed`](crate::Connection::feed) cites.
-ghost use Rattle.std.specs.Prelude.{◌≡◌, Bool, ℕ, ◌+◌, ◌<◌, List, ◌++◌, slice_index};
+ghost use Rattle.std.specs.Prelude.{◌≡◌, ◌⊎◌, Bool, ℕ, ◌+◌, ◌/◌, ◌<◌, ◌≤◌, List, ◌++◌, filter, flat_map, length, slice_index};
 ghost use Rattle.std.specs.List.{AllByRecursion};
-ghost use Rattle.blocks.specs.Ranges.{IsRange};
 ghost use Rattle.nbd.specs.Exports.{Exported};
 ghost use Rattle.nbd.specs.Machine.{Machine, fed, then_fed};
 ghost use Rattle.nbd.specs.Messages.{ClientOption, FitsOption, IsMessage, Message, Parses, answer, answers, at_option, at_request, message_bytes};
 ghost use Rattle.nbd.specs.Messages.{option_answer, option_bytes, stream_of};
-ghost use Rattle.nbd.specs.Pieces.{Joins, pieces};
+ghost use Rattle.nbd.specs.Inside.{IsInside};
+ghost use Rattle.nbd.specs.Pieces.{Joins};
+ghost use Rattle.nbd.specs.Requested.{Requested};
+ghost use Rattle.nbd.specs.Spans.{IsInsideSpan, IsWholeSpan, IsWithinSpan, JoinsBytes, contents_of, covering, is_edge, places, spans, trimmed};
 
 /// It does not matter how the bytes are cut: two pieces, one after the other, have the output of both
 /// together.
@@ -42,9 +44,20 @@ pub fn nothing_else()
     ensures { (of : ℕ) (e : Exported) (bytes : List ℕ) → ((i : ℕ) → slice_index bytes i < 256) → Parses of e bytes }
 {}
 
-/// The ranges of a request cover its blocks, each block once, and the device takes each of them.
-pub fn ranges_cover()
-    ensures joined { (first count : ℕ) → Joins first (pieces first count) (first + count) }
-    ensures each { (first count : ℕ)
-        → AllByRecursion (λ p. IsRange (first + count) p.0 p.1) (pieces first count) }
+/// The spans that a request is cut into cover its bytes, each byte once; at most two of them are not of whole blocks, and the device takes
+/// each of the others. A TRIM covers the whole blocks inside its bytes, and a READ reads all blocks that have any.
+pub fn spans_cover()
+    ensures joined { (offset count : ℕ) → JoinsBytes offset (spans offset count) (offset + count) }
+    ensures within { (offset count : ℕ)
+        → AllByRecursion (λ s. IsWithinSpan s ⊎ IsWholeSpan (offset + count) s) (spans offset count) }
+    ensures edges { (offset count : ℕ) → length (filter is_edge (spans offset count)) ≤ 2 }
+    ensures inside { (offset count : ℕ)
+        → AllByRecursion (IsInsideSpan offset (offset + count)) (trimmed offset count) }
+    ensures read { (offset count : ℕ) → 0 < count
+        → Joins (offset / 4096) (covering offset count) ((offset + count + 4095) / 4096) }
+{}
+
+/// The pieces of a request have its bytes, one after another: the payload of a WRITE, and zeros of any other command.
+pub fn places_are_the_payload()
+    ensures { (blocks : ℕ) (r : Requested) → IsInside blocks r → flat_map (λ p. p.bytes) (places r) ≡ contents_of r }
 {}

@@ -2,12 +2,13 @@
 ghost use Rattle.std.specs.Prelude.{◌≡◌, ◌+◌, ◌≤◌, ◌++◌, [], length, IfOk, OnOk};
 ghost use Rattle.std.specs.Option.{option_copied};
 ghost use Rattle.nbd.specs.Options.{greeting, option_reply, size_and_flags, info_export, info_block_size, is_named, asked_name, export_name, listed, informed};
-ghost use Rattle.nbd.specs.Options.{informed_of, option_replied, replies};
+ghost use Rattle.nbd.specs.Options.{context_set, informed_of, meta, meta_refused, meta_reply, option_replied, replies, structured};
 ghost use Rattle.nbd.specs.Steps.{IsReplied};
 ghost use Rattle.packets.specs.declared.fixed_part.TheConstants.{FIXED_BYTES};
 
-use crate::Export;
 use crate::command::MAX_REQUEST_BYTES;
+use crate::contexts::{ALLOCATION, queried};
+use crate::{Export, Terms};
 use blocks::{BLOCK_BYTES, Refusal};
 use packets::{FixedPart, put_u16, put_u32, put_u64, u16_at, u32_at};
 use std::alloc::{AllocError, Global};
@@ -25,6 +26,9 @@ const HANDSHAKE_FLAGS: u16 = 3;
 /// and SEND_FAST_ZERO (2048).
 const TRANSMISSION_FLAGS: u16 = 2413;
 
+/// Those where replies are structured: SEND_DF (128), too.
+const STRUCTURED_FLAGS: u16 = 2541;
+
 /// NBD_OPT_EXPORT_NAME.
 pub(crate) const OPT_EXPORT_NAME: u32 = 1;
 
@@ -36,6 +40,12 @@ const OPT_INFO: u32 = 6;
 
 const OPT_GO: u32 = 7;
 
+const OPT_STRUCTURED_REPLY: u32 = 8;
+
+const OPT_LIST_META_CONTEXT: u32 = 9;
+
+const OPT_SET_META_CONTEXT: u32 = 10;
+
 /// What begins each reply to an option.
 const REPLY_MAGIC: u64 = 0x0003_E889_0455_65A9;
 
@@ -44,6 +54,8 @@ const REP_ACK: u32 = 1;
 const REP_SERVER: u32 = 2;
 
 const REP_INFO: u32 = 3;
+
+const REP_META_CONTEXT: u32 = 4;
 
 const REP_ERR_UNSUP: u32 = 0x8000_0001;
 
@@ -57,6 +69,9 @@ pub(crate) const REP_ERR_TOO_BIG: u32 = 0x8000_0009;
 const INFO_EXPORT: u16 = 0;
 
 const INFO_BLOCK_SIZE: u16 = 3;
+
+/// The fewest bytes of a request: a request need not be of whole blocks.
+const LEAST_REQUEST_BYTES: u32 = 1;
 
 /// The zeros that end the reply to EXPORT_NAME unless the client set NO_ZEROES.
 const EXPORT_NAME_ZEROS: [u8; 124] = [0; 124];
@@ -79,6 +94,8 @@ pub(crate) struct OptionReply {
     pub(crate) sent: Vec<u8>,
     /// What follows.
     pub(crate) next: Next,
+    /// The terms that it sets, if it sets any.
+    pub(crate) terms: Option<Terms>,
 }
 
 /// Returns the 18 bytes that a server sends first (NBD protocol, "Fixed newstyle negotiation").
@@ -109,10 +126,14 @@ pub(crate) fn reply_to_option(
         OPT_ABORT => Ok(OptionReply {
             sent: replied(alloc, OPT_ABORT, REP_ACK)?,
             next: Next::Close,
+            terms: None,
         }),
         OPT_LIST => list(alloc, export, bytes),
         OPT_INFO => inform(alloc, export, OPT_INFO, Next::Negotiate, bytes),
         OPT_GO => inform(alloc, export, OPT_GO, Next::Transmit, bytes),
+        OPT_STRUCTURED_REPLY => agree_structured(alloc, export, bytes),
+        OPT_LIST_META_CONTEXT => meta(alloc, export, OPT_LIST_META_CONTEXT, bytes),
+        OPT_SET_META_CONTEXT => meta(alloc, export, OPT_SET_META_CONTEXT, bytes),
         _ => refuse(alloc, option, REP_ERR_UNSUP),
     }
 }
@@ -124,6 +145,7 @@ pub(crate) fn refuse(alloc: Global, option: u32, kind: u32) -> Result<OptionRepl
     Ok(OptionReply {
         sent: replied(alloc, option, kind)?,
         next: Next::Negotiate,
+        terms: None,
     })
 }
 
@@ -159,7 +181,12 @@ fn put_size_and_flags(out: &mut FixedPart, export: &Export)
     ensures { out.new ≡ out.old ++ size_and_flags export.now }
 {
     put_u64(out, export.bytes());
-    put_u16(out, TRANSMISSION_FLAGS);
+    let flags = if export.terms().structured {
+        STRUCTURED_FLAGS
+    } else {
+        TRANSMISSION_FLAGS
+    };
+    put_u16(out, flags);
 }
 
 /// Replies to EXPORT_NAME with the export's size; for another name the connection closes, since the option has no error
@@ -177,6 +204,7 @@ fn export_name(
         return Ok(OptionReply {
             sent,
             next: Next::Close,
+            terms: None,
         });
     }
     let mut head = FixedPart::new();
@@ -188,6 +216,7 @@ fn export_name(
     Ok(OptionReply {
         sent,
         next: Next::Transmit,
+        terms: None,
     })
 }
 
@@ -217,6 +246,7 @@ fn list(alloc: Global, export: &Export, bytes: &[u8]) -> Result<OptionReply, Ref
     Ok(OptionReply {
         sent,
         next: Next::Negotiate,
+        terms: None,
     })
 }
 
@@ -236,6 +266,7 @@ fn inform(
         Some(_) => Ok(OptionReply {
             sent: informed(alloc, export, option)?,
             next,
+            terms: None,
         }),
     }
 }
@@ -280,8 +311,87 @@ fn block_sizes() -> FixedPart
 {
     let mut out = FixedPart::new();
     put_u16(&mut out, INFO_BLOCK_SIZE);
-    put_u32(&mut out, BLOCK_BYTES as u32);
+    put_u32(&mut out, LEAST_REQUEST_BYTES);
     put_u32(&mut out, BLOCK_BYTES as u32);
     put_u32(&mut out, MAX_REQUEST_BYTES);
     out
+}
+
+/// Replies to STRUCTURED_REPLY: from now on, replies to READs come in chunks.
+fn agree_structured(alloc: Global, export: &Export, bytes: &[u8]) -> Result<OptionReply, Refusal>
+    ensures { IsReplied result (structured export.now bytes.now) }
+{
+    if !bytes.is_empty() {
+        return refuse(alloc, OPT_STRUCTURED_REPLY, REP_ERR_INVALID);
+    }
+    Ok(OptionReply {
+        sent: replied(alloc, OPT_STRUCTURED_REPLY, REP_ACK)?,
+        next: Next::Negotiate,
+        terms: Some(Terms {
+            structured: true,
+            allocation: export.terms().allocation,
+        }),
+    })
+}
+
+/// Returns the terms that SET_META_CONTEXT sets, if `option` is that; LIST_META_CONTEXT sets none.
+pub(crate) fn context_set(export: &Export, option: u32, allocation: bool) -> Option<Terms>
+    ensures { result ≡ context_set export.now option allocation }
+{
+    (option == OPT_SET_META_CONTEXT).then_some(Terms {
+        structured: export.terms().structured,
+        allocation,
+    })
+}
+
+/// Replies to LIST or SET_META_CONTEXT.
+fn meta(alloc: Global, export: &Export, option: u32, bytes: &[u8]) -> Result<OptionReply, Refusal>
+    ensures { IsReplied result (meta export.now option bytes.now) }
+{
+    if !export.terms().structured {
+        return refuse_meta(alloc, export, option, REP_ERR_INVALID);
+    }
+    let Some((name, is_allocation)) = queried(option, bytes) else {
+        return refuse_meta(alloc, export, option, REP_ERR_INVALID);
+    };
+    if !is_named(export, name) {
+        return refuse_meta(alloc, export, option, REP_ERR_UNKNOWN);
+    }
+    let mut sent = Vec::new(alloc);
+    if is_allocation {
+        put_context(&mut sent, option)?;
+    }
+    put_reply(&mut sent, option, REP_ACK, &[])?;
+    Ok(OptionReply {
+        sent,
+        next: Next::Negotiate,
+        terms: context_set(export, option, is_allocation),
+    })
+}
+
+/// Refuses LIST or SET_META_CONTEXT: a context that was set before is not, any more.
+fn refuse_meta(
+    alloc: Global,
+    export: &Export,
+    option: u32,
+    kind: u32,
+) -> Result<OptionReply, Refusal>
+    ensures { IsReplied result (meta_refused export.now option kind) }
+{
+    Ok(OptionReply {
+        sent: replied(alloc, option, kind)?,
+        next: Next::Negotiate,
+        terms: context_set(export, option, false),
+    })
+}
+
+/// Appends the reply that names the context.
+#[tactic(auto, unfolding(crate::specs::Options::meta_reply))]
+fn put_context(out: &mut Vec<u8>, option: u32) -> Result<(), AllocError>
+    ensures { OnOk result (out.new.items ≡ out.old.items ++ meta_reply option) }
+{
+    let mut context = FixedPart::new();
+    put_u32(&mut context, 1);
+    context.put(&ALLOCATION);
+    put_reply(out, option, REP_META_CONTEXT, context.as_slice())
 }

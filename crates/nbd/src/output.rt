@@ -3,6 +3,7 @@ ghost use Rattle.std.specs.Prelude.{◌≡◌, ◌++◌, [], IfErr, OnErr, OnOk}
 ghost use Rattle.blocks.specs.declared.refusal.Refusal.TheVariants.{NoMemory};
 ghost use Rattle.nbd.specs.Steps.{made_bytes, made_requests};
 
+use crate::chunk::spelled_failure;
 use crate::step::Made;
 use crate::{Request, Sayings};
 use blocks::Refusal;
@@ -66,6 +67,9 @@ impl Output {
             Made::Nothing => {}
             Made::Bytes(bytes) => self.bytes.extend_from_slice(bytes.as_slice())?,
             Made::Reply(reply) => self.bytes.extend_from_slice(reply.encode().as_slice())?,
+            Made::Failure(cookie, errno) => self
+                .bytes
+                .extend_from_slice(spelled_failure(cookie, errno).as_slice())?,
             Made::Request(request) => self.requests.push(request)?,
         }
         Ok(())

@@ -26,13 +26,13 @@ impl Model for Ranges {
 
 impl Ranges {
     /// Returns the ranges of `block_count` blocks from `first_block` on.
-    pub(crate) fn over(first_block: u64, block_count: u32) -> Ranges
+    pub(crate) fn over(first_block: u64, block_count: u64) -> Ranges
         requires { first_block + block_count < 2 ^ 64 }
         ensures { result ≡ pieces first_block block_count }
     {
         Ranges {
             first_block,
-            block_count: u64::from(block_count),
+            block_count,
         }
     }
 }

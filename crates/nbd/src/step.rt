@@ -1,19 +1,22 @@
 //! Steps of a connection: the transition that each complete part makes.
-ghost use Rattle.std.specs.Prelude.{◌≡◌, [], length, IfOk, IfErr};
+ghost use Rattle.std.specs.Prelude.{◌≡◌, ◌+◌, ◌<◌, ◌^◌, [], length, IfOk, IfErr};
 ghost use Rattle.blocks.specs.declared.refusal.Refusal.TheVariants.{NoMemory};
-ghost use Rattle.nbd.specs.Exports.{Exported};
-ghost use Rattle.nbd.specs.Machine.{Waits};
+ghost use Rattle.nbd.specs.Exports.{Exported, export_now};
+ghost use Rattle.nbd.specs.Judging.{judged as judged_for};
+ghost use Rattle.nbd.specs.Machine.{IsDue, Waits};
+ghost use Rattle.nbd.specs.declared.command.NbdCommand.TheVariants.{Write};
 ghost use Rattle.nbd.specs.Replies.{reply_spelling};
-ghost use Rattle.nbd.specs.Steps.{after_flags, after_header, after_option, after_reply, begins, failure, gives, goes_on, refuses, sends, skipped, step, view};
+ghost use Rattle.nbd.specs.Steps.{after_flags, after_header, after_option, after_reply, begins, failure, gives, goes_on, is_in_chunks, refuses, sends, skipped, step, view};
 ghost use Rattle.nbd.specs.Steps.{wanted};
 ghost use Rattle.nbd.specs.declared.phase.Phase.TheVariants as phase;
 ghost use Rattle.nbd.specs.declared.phase.Part.TheVariants as part;
 
 use crate::options::{
-    Next, OPT_EXPORT_NAME, OPTION_MAGIC, OptionReply, REP_ERR_TOO_BIG, refuse, reply_to_option,
+    Next, OPT_EXPORT_NAME, OPTION_MAGIC, OptionReply, REP_ERR_TOO_BIG, context_set, refuse,
+    reply_to_option,
 };
 use crate::phase::{Part, Phase, Refused};
-use crate::{Errno, Export, NbdCommand, Reply, Request, RequestHeader};
+use crate::{Errno, Export, NbdCommand, Reply, Request, RequestHeader, Terms};
 use blocks::Refusal;
 use bytes::Bytes;
 use packets::{u32_at, u64_at};
@@ -32,6 +35,8 @@ pub(crate) enum Made {
     Bytes(Vec<u8>),
     /// A reply to send back.
     Reply(Reply),
+    /// A reply in one chunk, which tells the error of the request with this cookie.
+    Failure(u64, Errno),
     /// A request to serve.
     Request(Request),
 }
@@ -41,6 +46,8 @@ pub(crate) enum Made {
 pub(crate) struct Step {
     /// The next phase.
     pub(crate) phase: Phase,
+    /// The terms that it sets, if it sets any.
+    pub(crate) terms: Option<Terms>,
     /// The output.
     pub(crate) made: Made,
 }
@@ -51,6 +58,7 @@ impl Step {
     {
         Step {
             phase,
+            terms: None,
             made: Made::Nothing,
         }
     }
@@ -66,9 +74,10 @@ pub(crate) fn take_part(
     part: Part,
     held: &mut Vec<u8>,
 ) -> Result<Step, Refusal>
-    requires { length held.old.items ≡ wanted part }
+    requires whole { length held.old.items ≡ wanted part }
+    requires due { IsDue export.now part }
     ensures made { IfOk result (λ s. view s ≡ step of export.now part held.old.items) }
-    ensures waits { IfOk result (λ s. Waits export.now s.phase []) }
+    ensures waits { IfOk result (λ s. Waits (export_now export.now s.terms) s.phase []) }
     ensures refused { IfErr result (λ e. e ≡ NoMemory) }
 {
     let bytes = held.as_slice();
@@ -86,7 +95,8 @@ pub(crate) fn take_part(
         Part::Request => Ok(after_header(of, export, RequestHeader::decode(bytes))),
         Part::Payload(header) => {
             let payload = Bytes::from_vec(mem::replace(held, Vec::new(alloc)))?;
-            Ok(give(of, NbdCommand::Write, &header, payload))
+            export.is_bounded();
+            Ok(give(of, export, NbdCommand::Write, &header, payload))
         }
     }
 }
@@ -151,15 +161,19 @@ fn after_option(
     if option == OPT_EXPORT_NAME {
         return Ok(Step::to(Phase::Closed));
     }
-    Ok(Step::to(Phase::Skip {
-        left: length,
-        refused: Refused::LongOption { no_zeroes, option },
-    }))
+    Ok(Step {
+        phase: Phase::Skip {
+            left: length,
+            refused: Refused::LongOption { no_zeroes, option },
+        },
+        terms: context_set(export, option, false),
+        made: Made::Nothing,
+    })
 }
 
 /// Returns the step of a reply to an option.
 fn after_reply(no_zeroes: bool, answer: OptionReply) -> Step
-    ensures { view result ≡ after_reply no_zeroes (record { sent = answer.sent.items; next = answer.next }) }
+    ensures { view result ≡ after_reply no_zeroes (record { sent = answer.sent.items; next = answer.next; terms = answer.terms }) }
 {
     let phase = match answer.next {
         Next::Negotiate => Phase::Gather(Part::Option { no_zeroes }),
@@ -168,6 +182,7 @@ fn after_reply(no_zeroes: bool, answer: OptionReply) -> Step
     };
     Step {
         phase,
+        terms: answer.terms,
         made: Made::Bytes(answer.sent),
     }
 }
@@ -177,27 +192,43 @@ fn after_header(of: u64, export: &Export, header: Result<RequestHeader, Refusal>
     ensures { view result ≡ after_header of export.now header }
 {
     match header {
-        Ok(header) => begin(of, &header, export.judge(&header)),
+        Ok(header) => begin(of, export, &header, export.judge(&header)),
         Err(_) => Step::to(Phase::Closed),
     }
 }
 
 /// Returns the step of a request that was judged.
-fn begin(of: u64, header: &RequestHeader, judged: Result<NbdCommand, Errno>) -> Step
-    ensures { view result ≡ begins of header.now judged }
+fn begin(
+    of: u64,
+    export: &Export,
+    header: &RequestHeader,
+    judged: Result<NbdCommand, Errno>,
+) -> Step
+    requires { judged ≡ judged_for export.now header.now }
+    ensures { view result ≡ begins of export.now header.now judged }
 {
     match judged {
         Ok(NbdCommand::Disconnect) => Step::to(Phase::Closed),
         Ok(NbdCommand::Write) => Step::to(Phase::Gather(Part::Payload(*header))),
-        Ok(command) => give(of, command, header, Bytes::new()),
-        Err(errno) => refuse_request(header, errno),
+        Ok(command) => {
+            export.is_bounded();
+            give(of, export, command, header, Bytes::new())
+        }
+        Err(errno) => refuse_request(export, header, errno),
     }
 }
 
 /// Returns the step of a refused request. Only a WRITE has a payload; it is skipped before the reply.
-fn refuse_request(header: &RequestHeader, errno: Errno) -> Step
-    ensures { view result ≡ refuses header.now errno }
+fn refuse_request(export: &Export, header: &RequestHeader, errno: Errno) -> Step
+    ensures { view result ≡ refuses export.now header.now errno }
 {
+    if is_in_chunks(export, header) {
+        return Step {
+            phase: Phase::Gather(Part::Request),
+            terms: None,
+            made: Made::Failure(header.cookie, errno),
+        };
+    }
     if header.kind != NbdCommand::Write.number() || header.length == 0 {
         return fail(header.cookie, errno);
     }
@@ -210,12 +241,22 @@ fn refuse_request(header: &RequestHeader, errno: Errno) -> Step
     })
 }
 
+/// Returns whether the reply to a request has to come in chunks: that to a READ or a BLOCK_STATUS where replies are structured.
+fn is_in_chunks(export: &Export, header: &RequestHeader) -> bool
+    ensures { result ≡ is_in_chunks export.now header.now }
+{
+    export.terms().structured
+        && (header.kind == NbdCommand::Read.number()
+            || header.kind == NbdCommand::BlockStatus.number())
+}
+
 /// Returns the step that sends an error reply.
 fn fail(cookie: u64, errno: Errno) -> Step
     ensures { view result ≡ sends (phase.Gather part.Request) (reply_spelling (failure cookie errno)) }
 {
     Step {
         phase: Phase::Gather(Part::Request),
+        terms: None,
         made: Made::Reply(Reply {
             cookie,
             error: Some(errno),
@@ -224,11 +265,20 @@ fn fail(cookie: u64, errno: Errno) -> Step
 }
 
 /// Returns the step that gives a request to the caller.
-fn give(of: u64, command: NbdCommand, header: &RequestHeader, payload: Bytes) -> Step
-    ensures { view result ≡ gives of command header.now payload }
+fn give(
+    of: u64,
+    export: &Export,
+    command: NbdCommand,
+    header: &RequestHeader,
+    payload: Bytes,
+) -> Step
+    requires inside { header.now.offset + header.now.length < 2 ^ 64 }
+    requires whole { command ≡ Write → length payload ≡ header.now.length }
+    ensures { view result ≡ gives of export.now command header.now payload }
 {
     Step {
         phase: Phase::Gather(Part::Request),
-        made: Made::Request(Request::with(of, command, header, payload)),
+        terms: None,
+        made: Made::Request(Request::with(of, export.terms(), command, header, payload)),
     }
 }

@@ -25,13 +25,13 @@ pub record IsCarriedOut (old new : EndState) (before after : Option (List ℕ)) 
   pub appended : Appends before after written
   pub few : length rest ≤ 65536
 
--- The piece is of a first connection and has 1 to 1,400 bytes.
+-- The piece is of a first connection and has 1 to 4,352 bytes.
 pub record IsFirstPiece (piece : PieceState) : Type 0 where
   pub first : piece.number ≡ 1
   pub some : 0 < length piece.bytes
-  pub few : length piece.bytes ≤ 1400
+  pub few : length piece.bytes ≤ 4352
 
--- Pieces of a first connection, each of 1 to 1,400 bytes, were pushed with these bytes.
+-- Pieces of a first connection, each of 1 to 4,352 bytes, were pushed with these bytes.
 pub record PushesBytes (old new : EndState) (bytes : List ℕ) : Type 0 where
   pub pushed : List PieceState
   pub passed : PassPieces old new pushed

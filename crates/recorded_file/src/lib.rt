@@ -7,8 +7,10 @@ mod length;
 mod opened;
 mod record;
 mod shared;
+mod stretch;
 
 pub use file::RecordedFile;
 pub use length::bytes_of;
 pub use opened::OpenedFile;
 pub use shared::SharedFile;
+pub use stretch::Stretch;

@@ -1,13 +1,15 @@
 //! A second handle on a file.
-ghost use Rattle.std.specs.Prelude.{◌≡◌};
+ghost use Rattle.std.specs.Prelude.{◌≡◌, ◌<◌, ◌^◌, ◌-◌};
 ghost use Rattle.recorded_file.specs.Calls.{path_in};
 
+use crate::Stretch;
+use crate::holes::Holes;
 use crate::record::Record;
-use std::fs::OpenFile;
+use std::fs::{File, OpenFile};
 use std::io;
 use std::marker::Model;
 
-/// A second handle on a file, which makes it durable and does nothing else. Threads may share it if they may share the file's type.
+/// A second handle on a file, which makes it durable, and tells where it has data. Threads may share it if they may share the file's type.
 #[derive(Drop)]
 pub struct SharedFile<F> {
     file: F,
@@ -35,5 +37,15 @@ impl<F: OpenFile> SharedFile<F> {
     /// nothing about a write that is under way meanwhile.
     pub fn sync(&self) -> io::Result<()> {
         self.file.sync_data()
+    }
+}
+
+impl SharedFile<File> {
+    /// Returns what the file has at this offset, and up to where: `Stretch`. Promises nothing about a write that is under way meanwhile.
+    pub fn stretch_at(&self, offset: u64) -> Stretch
+        requires { offset < 2 ^ 64 - 1 }
+        ensures { offset < result.end }
+    {
+        Holes::of(&self.file).stretch_at(offset)
     }
 }

@@ -1,18 +1,19 @@
 //! Requests of a client done together.
 use crate::client::Client;
 use crate::conversation::Conversation;
-use crate::request_budget::places_of;
+use crate::request_budget::{blocks_of, places_of};
 use crate::service::Service;
 use crate::sync_queue::Unsynced;
-use blocks::Refusal;
+use blocks::{MAX_RANGE, Refusal};
+use ghost_log::LogName;
 use nbd::{NbdCommand, Request};
-use primary::Receipt;
-use serve_requests::{RequestUnderWay, asks_for_sync};
+use serve_requests::{Answered, BegunRequest, asks_for_sync};
 use session_api::Device;
 use std::alloc::Global;
 use std::sync::atomic::{AtomicBool, Ordering};
 use std::sync::{Arc, Wait};
 use std::time::{Clock, Instant};
+use told::Caller;
 
 /// The most requests that are done together.
 const TOGETHER: usize = 16;
@@ -21,16 +22,20 @@ const TOGETHER: usize = 16;
 /// begins 32,768 ranges, and shorter requests that began with it would wait for seconds until all of them have.
 const SHORT_BLOCKS: u32 = 512;
 
+/// The most receipts of the requests that are done together: one for each 32 blocks, and four more for each request, whose first and last
+/// ranges may be shorter, and which may begin and end within a block.
+const SHORT_RECEIPTS: usize = 80;
+
 /// The most blocks of data of a reply that is never sent by another thread: 32 KiB.
 const HELD_BLOCKS: u32 = 8;
 
 /// Requests of a client that were begun.
 #[derive(Drop)]
-struct Batch {
+struct Batch<J: LogName> {
     // Those that do not wait for stable storage, and those that do, first under way and then ended. Each has room for all, so that what was
     // begun is also ended.
-    quick: Vec<RequestUnderWay>,
-    syncing: Vec<RequestUnderWay>,
+    quick: Vec<BegunRequest<J>>,
+    syncing: Vec<BegunRequest<J>>,
     unsynced: Vec<Unsynced>,
     // When they were taken, if there is a clock.
     begun: Option<Instant>,
@@ -39,71 +44,101 @@ struct Batch {
 }
 
 /// Does the next requests of a client: begins as many as are done together, then ends one after another, and sends their replies in one
-/// piece. Those that wait for stable storage come last, and are left to the thread that syncs for all clients. Appends the receipts of
+/// piece. Those that wait for stable storage come last, and are left to the thread that syncs for all clients. Keeps the receipts of
 /// their writes. Does none if the next request has to wait; the caller then calls again.
-pub(crate) fn answer_some<R: Wait + Clock>(
+pub(crate) fn answer_some<R: Wait + Clock, D: Device>(
     rt: &R,
     service: &Service,
-    device: &impl Device,
+    device: &D,
+    me: &mut Caller<D::Name>,
     conversation: &mut Conversation,
-    receipts: &mut Vec<Receipt>,
+    answered: &mut Answered<D::Name>,
 ) -> Result<(), Refusal> {
     if conversation.next_blocks().unwrap_or(0) <= SHORT_BLOCKS {
-        let batch = begin_short(rt, service, device, conversation)?;
-        return end_all(rt, service, device, &conversation.client, batch, receipts);
+        let batch = begin_short(rt, service, device, me, conversation, answered)?;
+        return end_all(
+            rt,
+            service,
+            device,
+            me,
+            &conversation.client,
+            batch,
+            answered,
+        );
     }
     // Few long requests are done at a time, so that they leave the device to the short ones of other clients. How long a client takes to
     // read its reply is another matter.
     if !service.long_requests.take(rt, 1) {
         return Ok(());
     }
-    let done = answer_long(rt, service, device, conversation, receipts);
+    let done = answer_long(rt, service, device, me, conversation, answered);
     service.long_requests.free(rt, 1);
     conversation.client.send_held(rt);
     done
 }
 
-// Does a long request by itself. It may have waited for its turn, so the session may be over.
-fn answer_long<R: Wait + Clock>(
+// Does a long request by itself, with room for its receipts made before. It may have waited for its turn, so the session may be over.
+fn answer_long<R: Wait + Clock, D: Device>(
     rt: &R,
     service: &Service,
-    device: &impl Device,
+    device: &D,
+    me: &mut Caller<D::Name>,
     conversation: &mut Conversation,
-    receipts: &mut Vec<Receipt>,
+    answered: &mut Answered<D::Name>,
 ) -> Result<(), Refusal> {
     if service.is_session_over() {
         return Ok(());
     }
-    let mut batch = Batch::new(rt, service)?;
+    answered.reserve(most_receipts(conversation.next_blocks().unwrap_or(0)))?;
+    let mut batch = Batch::<D::Name>::new(rt, service)?;
     batch.is_long = true;
-    batch.begin_next(rt, service, device, conversation)?;
-    end_all(rt, service, device, &conversation.client, batch, receipts)
+    batch.begin_next(rt, service, device, me, conversation)?;
+    end_all(
+        rt,
+        service,
+        device,
+        me,
+        &conversation.client,
+        batch,
+        answered,
+    )
 }
 
-// Begins the next short requests, until as many are begun as are done together, a long one comes, or one has to wait for places.
-fn begin_short<R: Wait + Clock>(
+// Begins the next short requests, until as many are begun as are done together, a long one comes, or one has to wait for places. Room for
+// all their receipts is made before, so that want of memory ends the connection before anything is written, and no begun write stays
+// without its receipt.
+fn begin_short<R: Wait + Clock, D: Device>(
     rt: &R,
     service: &Service,
-    device: &impl Device,
+    device: &D,
+    me: &mut Caller<D::Name>,
     conversation: &mut Conversation,
-) -> Result<Batch, Refusal> {
-    let mut batch = Batch::new(rt, service)?;
+    answered: &mut Answered<D::Name>,
+) -> Result<Batch<D::Name>, Refusal> {
+    answered.reserve(SHORT_RECEIPTS)?;
+    let mut batch = Batch::<D::Name>::new(rt, service)?;
     let mut blocks = 0u32;
     for _ in 0..TOGETHER {
         let Some(more) = conversation.next_blocks() else {
             break;
         };
         blocks = blocks.saturating_add(more);
-        if blocks > SHORT_BLOCKS || !batch.begin_next(rt, service, device, conversation)? {
+        if blocks > SHORT_BLOCKS || !batch.begin_next(rt, service, device, me, conversation)? {
             break;
         }
     }
     Ok(batch)
 }
 
-impl Batch {
+// Returns how many receipts a request of this many blocks has at the most: one for each of its pieces. The first and the last of its
+// ranges may have fewer blocks than the others, and it may begin and end within a block.
+fn most_receipts(blocks: u32) -> usize {
+    (u64::from(blocks) / MAX_RANGE) as usize + 4
+}
+
+impl<J: LogName> Batch<J> {
     // Creates a batch with no request.
-    fn new<R: Clock>(rt: &R, service: &Service) -> Result<Batch, Refusal> {
+    fn new<R: Clock>(rt: &R, service: &Service) -> Result<Batch<J>, Refusal> {
         Ok(Batch {
             quick: Vec::with_capacity(service.alloc, TOGETHER)?,
             syncing: Vec::with_capacity(service.alloc, TOGETHER)?,
@@ -114,11 +149,12 @@ impl Batch {
     }
 
     // Begins the next request of a client. Returns whether it did: not if its reply may wait and it gets no places.
-    fn begin_next<R: Wait + Clock>(
+    fn begin_next<R: Wait + Clock, D: Device<Name = J>>(
         &mut self,
         rt: &R,
         service: &Service,
-        device: &impl Device,
+        device: &D,
+        me: &mut Caller<J>,
         conversation: &mut Conversation,
     ) -> Result<bool, Refusal> {
         let Some(next) = conversation.next() else {
@@ -133,11 +169,11 @@ impl Batch {
         let Some(request) = conversation.take_next() else {
             return Ok(false);
         };
-        let under_way = service.requests.begin(device, request);
+        let begun = BegunRequest::begin(&service.requests, device, me, request);
         if syncs {
-            self.syncing.push(under_way)?;
+            self.syncing.push(begun)?;
         } else {
-            self.quick.push(under_way)?;
+            self.quick.push(begun)?;
         }
         Ok(true)
     }
@@ -147,7 +183,7 @@ impl Batch {
 // its data.
 fn needs_places(request: &Request) -> bool {
     asks_for_sync(request)
-        || (request.command() == NbdCommand::Read && request.block_count() > HELD_BLOCKS)
+        || (request.command() == NbdCommand::Read && blocks_of(request) > HELD_BLOCKS)
 }
 
 // Sends the replies that are held if they are many bytes, by another thread if one has nothing to do: this one has more.
@@ -159,13 +195,14 @@ fn send_if_full<R: Wait + Clock>(rt: &R, service: &Service, client: &Arc<Client,
 
 // Ends the requests of a batch, and sends their replies. Those that wait for stable storage have all ended before the first of them is
 // finished, so that one sync does for them.
-fn end_all<R: Wait + Clock>(
+fn end_all<R: Wait + Clock, D: Device>(
     rt: &R,
     service: &Service,
-    device: &impl Device,
+    device: &D,
+    me: &mut Caller<D::Name>,
     client: &Arc<Client, Global>,
-    batch: Batch,
-    receipts: &mut Vec<Receipt>,
+    batch: Batch<D::Name>,
+    answered: &mut Answered<D::Name>,
 ) -> Result<(), Refusal> {
     let Batch {
         quick,
@@ -174,8 +211,8 @@ fn end_all<R: Wait + Clock>(
         begun,
         is_long,
     } = batch;
-    for under_way in quick {
-        let ended = service.requests.end(device, under_way, receipts);
+    for begun_request in quick {
+        let ended = answered.end(&service.requests, device, me, begun_request);
         let command = ended.request().command();
         let places = if needs_places(ended.request()) {
             places_of(ended.request())
@@ -192,8 +229,8 @@ fn end_all<R: Wait + Clock>(
     if !is_long {
         client.send_held(rt);
     }
-    for under_way in syncing {
-        let ended = service.requests.end(device, under_way, receipts);
+    for begun_request in syncing {
+        let ended = answered.end(&service.requests, device, me, begun_request);
         let client = Arc::try_clone(client)?;
         unsynced.push(Unsynced {
             ended,

@@ -1,5 +1,6 @@
 //! A client, with its connection and the requests that wait for a session.
 use crate::client::Client;
+use crate::request_budget::blocks_of;
 use crate::service::Service;
 use blocks::Refusal;
 use nbd::{Connection, Errno, Export, Request};
@@ -70,7 +71,7 @@ impl Conversation {
 
     /// Returns the blocks of the next request that no thread has begun.
     pub(crate) fn next_blocks(&self) -> Option<u32> {
-        self.requests.last().map(|request| request.block_count())
+        self.requests.last().map(|request| blocks_of(request))
     }
 
     /// Returns the next request that no thread has begun.

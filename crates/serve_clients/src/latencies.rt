@@ -39,8 +39,8 @@ impl CountedLatencies {
             NbdCommand::Flush => self.flush.note(microseconds),
             // A TRIM writes zeros, too.
             NbdCommand::Trim | NbdCommand::WriteZeroes => self.write_zeroes.note(microseconds),
-            // It has no reply.
-            NbdCommand::Disconnect => {}
+            // A DISC has no reply, and a BLOCK_STATUS touches no data.
+            NbdCommand::Disconnect | NbdCommand::BlockStatus => {}
         }
     }
 

@@ -4,10 +4,11 @@ use crate::conversation::Conversation;
 use crate::service::Service;
 use blocks::Refusal;
 use client_socket::is_passing;
-use primary::Receipt;
+use serve_requests::Answered;
 use session_api::Device;
 use std::sync::{Mutex, Wait};
 use std::time::Clock;
+use told::Caller;
 
 /// The most bytes that are read at once: a request for the longest range and its payload.
 const BUFFER_BYTES: usize = 132 * 1024;
@@ -23,17 +24,19 @@ enum Next {
     End,
 }
 
-/// Serves a client over one session, until it leaves, takes its replies slowly, or the session or the server ends, and hands it on. Puts the
-/// receipts of its writes into `gathered`.
-pub(crate) fn serve_client<R: Wait + Clock>(
+/// Serves a client over one session, as this caller of it, until it leaves, takes its replies slowly, or the session or the server ends,
+/// and hands it on. Puts the receipts of its writes into `gathered`, with what was told of them.
+pub(crate) fn serve_client<R: Wait + Clock, D: Device>(
     rt: &R,
     service: &Service,
-    device: &impl Device,
+    device: &D,
+    caller: Caller<D::Name>,
     conversation: Conversation,
-    gathered: &Mutex<Vec<Receipt>>,
+    gathered: &Mutex<Answered<D::Name>>,
 ) {
+    let mut me = caller;
     let mut conversation = conversation;
-    match converse(rt, service, device, &mut conversation, gathered) {
+    match converse(rt, service, device, &mut me, &mut conversation, gathered) {
         Ok(Next::Serve) => service.conversations.put(rt, conversation, service),
         Ok(Next::Write) => service.conversations.write_late(rt, conversation, service),
         Ok(Next::End) => service.conversations.end(rt, conversation, service),
@@ -42,17 +45,18 @@ pub(crate) fn serve_client<R: Wait + Clock>(
 }
 
 // Serves a client until it is handed on. A refusal ends its connection at once.
-fn converse<R: Wait + Clock>(
+fn converse<R: Wait + Clock, D: Device>(
     rt: &R,
     service: &Service,
-    device: &impl Device,
+    device: &D,
+    me: &mut Caller<D::Name>,
     conversation: &mut Conversation,
-    gathered: &Mutex<Vec<Receipt>>,
+    gathered: &Mutex<Answered<D::Name>>,
 ) -> Result<Next, Refusal> {
     let mut buffer = Vec::from_elem(service.alloc, 0u8, BUFFER_BYTES)?;
     conversation.greet(rt)?;
     for _ in rt.forever() {
-        do_requests(rt, service, device, conversation, gathered)?;
+        do_requests(rt, service, device, me, conversation, gathered)?;
         if let Some(next) = next_of(rt, service, conversation) {
             return Ok(next);
         }
@@ -87,14 +91,15 @@ fn next_of<R: Wait + Clock>(
 
 // Does the requests that a client has sent, until none is left, the session ends, or the client takes its replies slowly. One read may
 // have thousands of them, so those that are left once the server ends are refused: it would wait for a slow client as long as for all.
-fn do_requests<R: Wait + Clock>(
+fn do_requests<R: Wait + Clock, D: Device>(
     rt: &R,
     service: &Service,
-    device: &impl Device,
+    device: &D,
+    me: &mut Caller<D::Name>,
     conversation: &mut Conversation,
-    gathered: &Mutex<Vec<Receipt>>,
+    gathered: &Mutex<Answered<D::Name>>,
 ) -> Result<(), Refusal> {
-    let mut receipts = Vec::new(service.alloc);
+    let mut own = Answered::new(service.alloc, me);
     for _ in rt.forever() {
         if conversation.next().is_none() {
             break;
@@ -106,9 +111,9 @@ fn do_requests<R: Wait + Clock>(
         if service.is_session_over() || conversation.client.is_left(rt) {
             break;
         }
-        let answered = answer_some(rt, service, device, conversation, &mut receipts);
-        service.counts.note_receipts(&receipts);
-        gathered.lock(rt).append(&mut receipts)?;
+        let answered = answer_some(rt, service, device, me, conversation, &mut own);
+        service.counts.note_receipts(own.receipts());
+        gathered.lock(rt).take(&mut own)?;
         answered?;
     }
     Ok(())

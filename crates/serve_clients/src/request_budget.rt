@@ -1,7 +1,8 @@
 //! Limits on requests under way.
 ghost use Rattle.std.specs.Prelude.{◌≡◌};
-ghost use Rattle.serve_clients.specs.RequestBudget.{places_for, places_of};
+ghost use Rattle.serve_clients.specs.RequestBudget.{blocks_of, places_for, places_of};
 
+use blocks::BLOCK_BYTES;
 use nbd::{NbdCommand, Request};
 use std::sync::{Condvar, Mutex, Wait};
 use std::time::{Clock, Duration};
@@ -71,16 +72,24 @@ impl RequestBudget {
     }
 }
 
+/// Returns how many blocks' bytes a request reads or writes, the last one begun: none for a FLUSH, and none for a BLOCK_STATUS, which
+/// looks only where the images have data.
+pub(crate) fn blocks_of(request: &Request) -> u32
+    ensures { result ≡ blocks_of request.now }
+{
+    match request.command() {
+        NbdCommand::Read | NbdCommand::Write | NbdCommand::Trim | NbdCommand::WriteZeroes => {
+            request.length().div_ceil(BLOCK_BYTES as u32)
+        }
+        NbdCommand::Flush | NbdCommand::Disconnect | NbdCommand::BlockStatus => 0,
+    }
+}
+
 /// Returns how many places a request has: one for each 2 MiB begun that it reads or writes, at least one.
 pub(crate) fn places_of(request: &Request) -> u32
     ensures { result ≡ places_of request.now }
 {
-    match request.command() {
-        NbdCommand::Read | NbdCommand::Write | NbdCommand::Trim | NbdCommand::WriteZeroes => {
-            places_for(request.block_count())
-        }
-        NbdCommand::Flush | NbdCommand::Disconnect => 1,
-    }
+    places_for(blocks_of(request))
 }
 
 // Returns how many places a request has that reads or writes this many blocks.

@@ -7,13 +7,15 @@ use crate::senders::SENDERS;
 use crate::service::Service;
 use crate::teller::tell_events;
 use blocks::Refusal;
-use primary::Receipt;
+use ghost_log::LogName;
+use serve_requests::Answered;
 use session_api::{Device, Runtime};
 use std::io::Write;
 use std::sync::atomic::{AtomicBool, Ordering};
 use std::sync::{Mutex, Wait};
 use std::thread;
 use std::time::{Clock, Duration};
+use told::Callers;
 
 /// The time between two looks whether the disks are alike, in milliseconds.
 const LOOK_MS: u64 = 100;
@@ -41,21 +43,22 @@ const MOST_LOOKS_TO_GO_ON: u32 = 100;
 /// The most receipts of a session: one for each write that it has room for.
 const MOST_RECEIPTS: usize = 1_048_576;
 
-/// Does the requests of clients over this device until the server ends or the session has accepted some 960,000 writes,
-/// and returns the receipts of all their writes. After the last request it waits for the link to come to rest: until both disks
-/// are alike and the link has nothing to do, or a sync of the peer's image has failed, or ten seconds pass in which no marked
-/// block is copied and the peer's disk does no item. If another session follows it waits one such second, and ten in all. Meanwhile a
-/// line on `err` tells each event of the link and of the disks.
+/// Does the requests of clients over this device, each client's thread as a caller of its own, until the server ends or the session has
+/// accepted some 960,000 writes, and returns the receipts of all their writes, with what was told of them. After the last request it waits
+/// for the link to come to rest: until both disks are alike and the link has nothing to do, or a sync of the peer's image has failed, or
+/// ten seconds pass in which no marked block is copied and the peer's disk does no item. If another session follows it waits one such
+/// second, and ten in all. Meanwhile a line on `err` tells each event of the link and of the disks.
 ///
 /// `NoMemory` (7) if there is no memory for the receipts, or if the thread that keeps the link up does not run within a
 /// second, as where it cannot be started: then no request is done, since nothing would reconnect the link.
-pub fn work<R: Runtime, E: Write + Send>(
+pub fn work<R: Runtime, N: LogName + Send + Sync, D: Device<Name = N> + Sync, E: Write + Send>(
     rt: &R,
     service: &Service,
-    device: &(impl Device + Sync),
+    device: &D,
+    callers: &Callers<N>,
     cut_every: Option<u32>,
     err: &mut E,
-) -> Result<Vec<Receipt>, Refusal> {
+) -> Result<Answered<N>, Refusal> {
     let is_kept = AtomicBool::new(false);
     let over = AtomicBool::new(false);
     // Where no thread can be started, the first is called last, and finds that the session is over.
@@ -65,8 +68,8 @@ pub fn work<R: Runtime, E: Write + Send>(
             is_kept.store(true, Ordering::SeqCst);
             keep(rt, service, device, cut_every, &over)
         },
-        || -> Result<Vec<Receipt>, Refusal> {
-            let done = work_beside_teller(rt, service, device, &is_kept, &over, err);
+        || -> Result<Answered<N>, Refusal> {
+            let done = work_beside_teller(rt, service, device, callers, &is_kept, &over, err);
             over.store(true, Ordering::SeqCst);
             done
         },
@@ -76,19 +79,25 @@ pub fn work<R: Runtime, E: Write + Send>(
 
 // Does requests until the session ends, beside the thread that writes the log. Where that one cannot be started, its last look tells what
 // has come of the link.
-fn work_beside_teller<R: Runtime, E: Write + Send>(
+fn work_beside_teller<
+    R: Runtime,
+    N: LogName + Send + Sync,
+    D: Device<Name = N> + Sync,
+    E: Write + Send,
+>(
     rt: &R,
     service: &Service,
-    device: &(impl Device + Sync),
+    device: &D,
+    callers: &Callers<N>,
     is_kept: &AtomicBool,
     over: &AtomicBool,
     err: &mut E,
-) -> Result<Vec<Receipt>, Refusal> {
+) -> Result<Answered<N>, Refusal> {
     let (_, done) = thread::join(
         rt,
         || tell_events(rt, service, device, over, err),
-        || -> Result<Vec<Receipt>, Refusal> {
-            let done = work_beside_housekeeper(rt, service, device, is_kept, over);
+        || -> Result<Answered<N>, Refusal> {
+            let done = work_beside_housekeeper(rt, service, device, callers, is_kept, over);
             over.store(true, Ordering::SeqCst);
             done
         },
@@ -98,18 +107,19 @@ fn work_beside_teller<R: Runtime, E: Write + Send>(
 
 // Does requests until the session ends, beside the thread that lets extents leave the metadata. Where that one cannot be started, they
 // stay, which costs a later start time and nothing else.
-fn work_beside_housekeeper<R: Runtime>(
+fn work_beside_housekeeper<R: Runtime, N: LogName + Send + Sync, D: Device<Name = N> + Sync>(
     rt: &R,
     service: &Service,
-    device: &(impl Device + Sync),
+    device: &D,
+    callers: &Callers<N>,
     is_kept: &AtomicBool,
     over: &AtomicBool,
-) -> Result<Vec<Receipt>, Refusal> {
+) -> Result<Answered<N>, Refusal> {
     let (_, done) = thread::join(
         rt,
         || keep_house(rt, service, device, over),
-        || -> Result<Vec<Receipt>, Refusal> {
-            let done = work_if_kept(rt, service, device, is_kept);
+        || -> Result<Answered<N>, Refusal> {
+            let done = work_if_kept(rt, service, device, callers, is_kept);
             over.store(true, Ordering::SeqCst);
             done
         },
@@ -118,16 +128,17 @@ fn work_beside_housekeeper<R: Runtime>(
 }
 
 // Does requests until the session ends, and lets the link come to rest, if the thread that keeps the link up runs.
-fn work_if_kept<R: Runtime>(
+fn work_if_kept<R: Runtime, N: LogName + Send + Sync, D: Device<Name = N> + Sync>(
     rt: &R,
     service: &Service,
-    device: &(impl Device + Sync),
+    device: &D,
+    callers: &Callers<N>,
     is_kept: &AtomicBool,
-) -> Result<Vec<Receipt>, Refusal> {
+) -> Result<Answered<N>, Refusal> {
     if !is_keeper_running(rt, is_kept) {
         return Err(Refusal::NoMemory);
     }
-    let done = do_requests(rt, service, device);
+    let done = do_requests(rt, service, device, callers);
     wait_for_rest(rt, service, device);
     done
 }
@@ -145,18 +156,21 @@ fn is_keeper_running<R: Clock>(rt: &R, is_kept: &AtomicBool) -> bool {
 
 // Does requests of all clients, and gathers the receipts. Their room is made at once: if it grew, the memory of a session would depend on
 // those before it. Where no thread can be started that syncs for all, each client's thread syncs by itself.
-fn do_requests<R: Runtime>(
+fn do_requests<R: Runtime, N: LogName + Send + Sync, D: Device<Name = N> + Sync>(
     rt: &R,
     service: &Service,
-    device: &(impl Device + Sync),
-) -> Result<Vec<Receipt>, Refusal> {
-    let gathered = Mutex::new(Vec::with_capacity(service.alloc, MOST_RECEIPTS)?);
+    device: &D,
+    callers: &Callers<N>,
+) -> Result<Answered<N>, Refusal> {
+    let mut none = Answered::new(service.alloc, &callers.caller());
+    none.reserve(MOST_RECEIPTS)?;
+    let gathered = Mutex::new(none);
     let over = AtomicBool::new(false);
     thread::join(
         rt,
         || finish_waiting(rt, service, device, &over),
         || {
-            serve_clients(rt, service, device, &gathered);
+            serve_clients(rt, service, device, callers, &gathered);
             over.store(true, Ordering::SeqCst);
         },
     );
@@ -164,11 +178,12 @@ fn do_requests<R: Runtime>(
 }
 
 // Gives each client a thread, until the session is over or the server has ended and no client is left, and waits for all of them.
-fn serve_clients<R: Runtime>(
+fn serve_clients<R: Runtime, N: LogName + Send + Sync, D: Device<Name = N> + Sync>(
     rt: &R,
     service: &Service,
-    device: &(impl Device + Sync),
-    gathered: &Mutex<Vec<Receipt>>,
+    device: &D,
+    callers: &Callers<N>,
+    gathered: &Mutex<Answered<N>>,
 ) {
     service.senders.begin_session();
     thread::scope(thread::scope_env(), rt, |scope| {
@@ -184,7 +199,14 @@ fn serve_clients<R: Runtime>(
                 continue;
             };
             let started = scope.spawn(move || {
-                serve_client(rt, service, device, conversation, gathered);
+                serve_client(
+                    rt,
+                    service,
+                    device,
+                    callers.caller(),
+                    conversation,
+                    gathered,
+                );
             });
             // A client without a thread is closed.
             if started.is_err() {

@@ -1,20 +1,21 @@
 //! The answer to a request.
-ghost use Rattle.std.specs.Prelude.{◌≡◌, [], None};
+ghost use Rattle.std.specs.Prelude.{◌≡◌, ◌++◌, None};
 ghost use Rattle.serve_requests.specs.Stored.{SuitsRequest};
+ghost use Rattle.serve_requests.specs.Told.{failure_spelling};
 
+use crate::reply_bytes::ReplyBytes;
 use crate::stored::Stored;
-use nbd::{Errno, Reply, Request};
+use nbd::{Errno, FixedPart, Request};
 use std::alloc::Global;
 use std::marker::Model;
 
-/// The answer to a request: the header of its reply, and the data that follow it: those of a READ that is done, and none for any
-/// other request or for one that failed. `Requests::finish` and `Requests::refuse` alone make one, each from a request that they
-/// take, and it cannot be copied. So a request has one answer at most, which is for its own client.
+/// The answer to a request: the bytes of its reply. `Requests::finish` and `Requests::refuse` alone make one, each from a request that
+/// they take, and it cannot be copied. So a request has one answer at most, which is for its own client.
 #[derive(Debug, Drop)]
 pub struct Answer {
     of: u64,
-    reply: Reply,
-    data: Vec<u8>,
+    error: Option<Errno>,
+    reply: ReplyBytes,
     stored: Option<Stored>,
 }
 
@@ -25,38 +26,35 @@ impl Model for Answer {
 
     ghost view = { λ a. record {
       of = a.of;
-      cookie = a.reply.cookie;
-      error = a.reply.error;
-      bytes = a.data.items;
+      error = a.error;
+      spelled = a.reply;
       stored = a.stored;
     } };
 }
 
 impl Answer {
-    /// Creates the answer to a request that is done, with these data. It ended once the round `round` of syncing had begun; if it asks
+    /// Creates the answer to a request that is done, with this reply. It ended once the round `round` of syncing had begun; if it asks
     /// for stable storage, it comes with what a later one left.
     pub(crate) fn done(
         request: Request,
         round: u64,
-        data: Vec<u8>,
+        reply: ReplyBytes,
         stored: Option<Stored>,
     ) -> Answer
         requires { SuitsRequest request round stored }
         ensures { result ≡ record {
           of = request.of;
-          cookie = request.cookie;
           error = None;
-          bytes = data.items;
+          spelled = reply;
           stored = stored;
         } }
     {
         // The round is there for the contract alone.
         let _ = round;
-        let of = request.of();
         Answer {
-            of,
-            reply: request.reply(None),
-            data,
+            of: request.of(),
+            error: None,
+            reply,
             stored,
         }
     }
@@ -65,17 +63,15 @@ impl Answer {
     pub(crate) fn failed(alloc: Global, request: Request, errno: Errno) -> Answer
         ensures { result ≡ record {
           of = request.of;
-          cookie = request.cookie;
           error = Some errno;
-          bytes = [];
+          spelled = failure_spelling request errno;
           stored = None;
         } }
     {
-        let of = request.of();
         Answer {
-            of,
-            reply: request.reply(Some(errno)),
-            data: Vec::new(alloc),
+            of: request.of(),
+            error: Some(errno),
+            reply: ReplyBytes::of_failure(alloc, &request, errno),
             stored: None,
         }
     }
@@ -91,15 +87,14 @@ impl Answer {
     pub fn error(&self) -> Option<Errno>
         ensures { result ≡ self.now.error }
     {
-        self.reply.error
+        self.error
     }
 
-    /// Returns the header of the reply, and the data that follow it.
-    pub fn into_parts(self) -> (Reply, Vec<u8>)
-        ensures reply { result.0 ≡ record { cookie = self.cookie; error = self.error } }
-        ensures data { result.1.items ≡ self.bytes }
+    /// Returns the bytes of the reply in two parts: those before its data, and the data, which are not copied.
+    pub fn into_parts(self) -> (FixedPart, Vec<u8>)
+        ensures { result.0 ++ result.1.items ≡ self.spelled }
     {
-        let Answer { reply, data, .. } = self;
-        (reply, data)
+        let Answer { reply, .. } = self;
+        reply.into_parts()
     }
 }

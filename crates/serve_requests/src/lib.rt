@@ -1,24 +1,28 @@
-//! Requests of block clients over a device: reads, writes with their receipts, and flushes; and how long a client may take
-//! for its replies.
+//! Requests of block clients over a device: reads, writes with their receipts, flushes, and where the images have data; and how
+//! long a client may take for its replies.
 #![tactic(auto)]
 
 mod answer;
+mod answered;
+mod begun_request;
 mod complete;
 mod done;
 mod ended;
 mod last_round;
 mod pace;
-mod payload;
 mod perform;
 mod release;
+mod reply_bytes;
 mod requests;
 mod stable_storage;
+mod status;
 mod stored;
 mod syncs;
 mod under_way;
-mod zeroes;
 
 pub use answer::Answer;
+pub use answered::Answered;
+pub use begun_request::BegunRequest;
 pub use ended::Ended;
 pub use pace::time_left;
 pub use requests::Requests;

@@ -1,125 +1,223 @@
-//! Reading ranges of a device, and beginning to write them, one after another.
-ghost use Rattle.std.specs.Prelude.{◌≡◌, ◌*◌, ◌<◌, ◌^◌, ◌++◌, All, List, ℕ, length, vec_len, IfOk, OnOk, OnErr};
+//! Reading the bytes of a request from a device, and beginning to write its pieces, one after another.
+ghost use Rattle.std.specs.Prelude.{◌≡◌, ◌==◌, ◌&&◌, ◌%◌, ◌+◌, ◌*◌, ◌<◌, ◌≤◌, ◌^◌, ◌∷◌, ◌++◌, List, ℕ, [], drop, length, take, vec_len, IfOk, OnErr, OnOk};
+ghost use mathlib.Core.List.{IsPrefix};
 ghost use Rattle.blocks.specs.declared.refusal.Refusal.TheVariants.{BadRange, NoMemory};
-ghost use Rattle.nbd.specs.Pieces.{pair_of};
 ghost use Rattle.nbd.specs.declared.errno.Errno.TheVariants as errno;
-ghost use Rattle.serve_requests.specs.Reads.{AreHeld};
-ghost use Rattle.serve_requests.specs.Receipts.{BeginsOne, HasFront, HasMore, IsAccepted, IsWhole, IsZeroes, begun_bytes, span_of};
+ghost use Rattle.device_parts.specs.Places.{laid_over};
+ghost use Rattle.serve_requests.specs.Places.{AllPairs, AreOwn, BeginsOne, IsBegunFor, IsFrontBy};
+ghost use Rattle.serve_requests.specs.Reads.{AreHeld, AreRead};
+ghost use Rattle.told.specs.Log.{SaysHeldSince, WasTold};
+ghost use Rattle.told.specs.declared.entry.Told.TheVariants.{Accepted, Patched};
 
-use crate::payload::front;
 use crate::requests::Requests;
-use crate::zeroes::Zeroes;
 use blocks::{BLOCK_BYTES, Range, Refusal};
 use bytes::Bytes;
-use nbd::{Errno, Ranges};
+use device_parts::Part;
+use nbd::{Errno, Piece, Pieces, Ranges, Request};
 use session_api::{Begun, Device};
 use std::alloc::Global;
+use told::Caller;
 
-/// Reads these ranges, which have `count` blocks together. `NoMemory` if there is no memory for all of them, before any is
-/// read.
+/// The most bytes that a READ may ask for: 32 MiB.
+const MAX_READ_BYTES: u32 = 33_554_432;
+
+/// Reads the bytes of a request: all blocks that have any, and of these what it asks for. `Invalid` if its range ends past 2^64 or is
+/// longer than a READ may be, and `NoMemory` if there is no memory for all of them, before any is read.
 pub(crate) fn read<D: Device>(
     alloc: Global,
     device: &D,
-    ranges: Ranges,
-    count: u64,
+    me: &mut Caller<D::Name>,
+    request: &Request,
 ) -> Result<Vec<u8>, Errno>
-    requires { count * 4096 < 2 ^ 64 }
-    ensures length { IfOk result (λ read. vec_len read ≡ count * 4096) }
-    ensures held { IfOk result (λ read. AreHeld D.holds ranges read.items) }
+    ensures length { IfOk result (λ read. vec_len read ≡ request.now.length) }
+    ensures few { OnOk result (request.now.length ≤ 33554432) }
+    ensures read { IfOk result (λ read. AreRead (SaysHeldSince me.old.log me.new.log) request.now.offset request.now.length read.items) }
+    ensures goes_on { IsPrefix me.old.log me.new.log }
+    ensures mine { me.new.own ≡ me.old.own }
 {
-    let Ok(mut data) = Vec::with_capacity(alloc, count as usize * BLOCK_BYTES) else {
+    let count = request.length();
+    if count > MAX_READ_BYTES || request.offset().checked_add(u64::from(count)).is_none() {
+        return Err(Errno::Invalid);
+    }
+    let from = (request.offset() % BLOCK_BYTES as u64) as usize;
+    let data = read_blocks(alloc, device, me, request.ranges(), from + count as usize)?;
+    cut(alloc, data, from, count as usize)
+}
+
+// Reads these ranges, which have at least `least` bytes together.
+fn read_blocks<D: Device>(
+    alloc: Global,
+    device: &D,
+    me: &mut Caller<D::Name>,
+    ranges: Ranges,
+    least: usize,
+) -> Result<Vec<u8>, Errno>
+    requires { least < 2 ^ 32 }
+    ensures length { IfOk result (λ read. least ≤ vec_len read) }
+    ensures held { IfOk result (λ read. AreHeld (SaysHeldSince me.old.log me.new.log) ranges read.items) }
+    ensures goes_on { IsPrefix me.old.log me.new.log }
+    ensures mine { me.new.own ≡ me.old.own }
+{
+    let room = least.next_multiple_of(BLOCK_BYTES);
+    let Ok(mut data) = Vec::with_capacity(alloc, room) else {
         return Err(Errno::NoMemory);
     };
     for range in ranges {
-        let mut bytes = read_range(device, range)?;
+        let mut bytes = read_range(device, me, range)?;
         if data.append(&mut bytes).is_err() {
             return Err(Errno::NoMemory);
         }
     }
-    // A reply with more or fewer bytes would spoil all that follow it.
-    if data.len() as u64 != count * BLOCK_BYTES as u64 {
+    // A reply with fewer bytes would spoil all that follow it.
+    if data.len() < least {
         return Err(Errno::InputOutput);
     }
     Ok(data)
 }
 
 // Reads one range.
-fn read_range<D: Device>(device: &D, range: Range) -> Result<Vec<u8>, Errno>
-    ensures { IfOk result (λ read. D.holds range.first.0 range.count read.items) }
+fn read_range<D: Device>(
+    device: &D,
+    me: &mut Caller<D::Name>,
+    range: Range,
+) -> Result<Vec<u8>, Errno>
+    ensures held { IfOk result (λ read. SaysHeldSince me.old.log me.new.log range.first.0 range.count read.items) }
+    ensures goes_on { IsPrefix me.old.log me.new.log }
+    ensures mine { me.new.own ≡ me.old.own }
 {
-    match device.read(range.first.0, range.count) {
+    match device.read(me, range.first.0, range.count) {
         Ok(bytes) => Ok(bytes),
         Err(refusal) => Err(errno_of(refusal)),
     }
 }
 
-/// Begins to write the payload to these ranges, each from the place in it where the one before ends, until one is refused.
-pub(crate) fn begin_write<D: Device>(
+// Cuts `count` bytes out of these, from the byte `from` on. Those at the front are not copied.
+fn cut(alloc: Global, found: Vec<u8>, from: usize, count: usize) -> Result<Vec<u8>, Errno>
+    requires { from + count ≤ vec_len found }
+    ensures cut { IfOk result (λ bytes. bytes.items ≡ take count (drop from found.items)) }
+    ensures length { IfOk result (λ bytes. vec_len bytes ≡ count) }
+{
+    if from == 0 {
+        let mut bytes = found;
+        bytes.truncate(count);
+        return Ok(bytes);
+    }
+    match Vec::from_slice(alloc, &found[from..from + count]) {
+        Ok(bytes) => Ok(bytes),
+        Err(_) => Err(Errno::NoMemory),
+    }
+}
+
+/// Begins to write these pieces as this caller, one after another, until one is refused.
+pub(crate) fn begin_pieces<D: Device>(
     requests: &Requests,
     device: &D,
-    ranges: Ranges,
-    payload: Bytes,
+    me: &mut Caller<D::Name>,
+    pieces: Pieces,
     begun: &mut Vec<Begun>,
 ) -> Result<(), Errno>
-    ensures ranges { OnOk result (HasMore span_of ranges begun.old.items begun.new.items) }
-    ensures front { HasFront span_of ranges begun.old.items begun.new.items }
-    ensures contents { (rest : List ℕ) × (begun_bytes begun.new.items ++ rest ≡ begun_bytes begun.old.items ++ payload) }
-    ensures whole { All IsWhole begun.old.items → All IsWhole begun.new.items }
-    ensures accepted { All (IsAccepted D.accepts) begun.old.items → All (IsAccepted D.accepts) begun.new.items }
+    requires { begun.old.items ≡ [] }
+    ensures all { OnOk result (AllPairs (IsBegunFor (WasTold me.new.log)) pieces begun.new.items) }
+    ensures front { IsFrontBy (IsBegunFor (WasTold me.new.log)) pieces begun.new.items }
+    ensures goes_on { IsPrefix me.old.log me.new.log }
+    ensures mine { AreOwn begun.old.items begun.new.items me.old.own me.new.own }
 {
-    let mut payload = payload;
-    for range in ranges {
-        let bytes = front(&mut payload, range.count)?;
-        begin_range(requests, device, range, bytes, begun)?;
+    let mut pieces = pieces;
+    while let Some(piece) = pieces.next()? {
+        begin_piece(requests, device, me, piece, begun)?;
     }
     Ok(())
 }
 
-/// Begins to write zeroes to these ranges, which have `count` blocks together, until one is refused.
-pub(crate) fn begin_zeroes<D: Device>(
+// Begins to write a piece.
+fn begin_piece<D: Device>(
     requests: &Requests,
     device: &D,
-    ranges: Ranges,
-    count: u64,
+    me: &mut Caller<D::Name>,
+    piece: Piece,
     begun: &mut Vec<Begun>,
 ) -> Result<(), Errno>
-    ensures ranges { OnOk result (HasMore span_of ranges begun.old.items begun.new.items) }
-    ensures front { HasFront span_of ranges begun.old.items begun.new.items }
-    ensures zeroes { All IsZeroes begun.old.items → All IsZeroes begun.new.items }
-    ensures accepted { All (IsAccepted D.accepts) begun.old.items → All (IsAccepted D.accepts) begun.new.items }
-{
-    let zeroes = Zeroes::new(requests.alloc, count)?;
-    for range in ranges {
-        let bytes = zeroes.front(range.count)?;
-        begin_range(requests, device, range, bytes, begun)?;
-    }
-    Ok(())
-}
-
-// Begins to write these bytes to one range.
-fn begin_range<D: Device>(
-    requests: &Requests,
-    device: &D,
-    range: Range,
-    bytes: Bytes,
-    begun: &mut Vec<Begun>,
-) -> Result<(), Errno>
-    requires { length bytes ≡ range.count * 4096 }
-    ensures one { OnOk result (BeginsOne (pair_of range) bytes begun.old.items begun.new.items) }
+    ensures one { OnOk result (BeginsOne (IsBegunFor (WasTold me.new.log)) piece begun.old.items begun.new.items) }
     ensures unchanged { OnErr result (begun.new.items ≡ begun.old.items) }
-    ensures accepted { All (IsAccepted D.accepts) begun.old.items → All (IsAccepted D.accepts) begun.new.items }
+    ensures goes_on { IsPrefix me.old.log me.new.log }
+    ensures mine { AreOwn begun.old.items begun.new.items me.old.own me.new.own }
 {
     requests.count_write();
     if begun.try_reserve(1).is_err() {
         return Err(Errno::NoMemory);
     }
-    let write = match device.begin(range.first.0, bytes) {
-        Ok(write) => write,
-        Err(refusal) => return Err(errno_of(refusal)),
-    };
-    match begun.push(write) {
-        Ok(()) => Ok(()),
-        Err(_) => Err(Errno::NoMemory),
+    let write = begin_at(device, me, piece)?;
+    begun.push_reserved(write);
+    Ok(())
+}
+
+// Begins to write a piece at its place: whole blocks as they are, and bytes within a block over what that has. `Invalid` for bytes that
+// are neither, as no piece of a request is.
+fn begin_at<D: Device>(device: &D, me: &mut Caller<D::Name>, piece: Piece) -> Result<Begun, Errno>
+    ensures begun { IfOk result (IsBegunFor (WasTold me.new.log) piece) }
+    ensures goes_on { IsPrefix me.old.log me.new.log }
+    ensures mine { IfOk result (λ begun. me.new.own ≡ me.old.own ++ begun.number ∷ []) }
+    ensures not_mine { OnErr result (me.new.own ≡ me.old.own) }
+{
+    let block = piece.block();
+    let from = piece.from();
+    let bytes = piece.into_bytes();
+    if are_whole(from, &bytes) {
+        begin_blocks(device, me, block, bytes)
+    } else if bytes.is_empty() || bytes.len() > BLOCK_BYTES.saturating_sub(from as usize) {
+        Err(Errno::Invalid)
+    } else {
+        begin_within(device, me, block, from, &bytes)
+    }
+}
+
+// Returns whether bytes from this byte of a block on are whole blocks.
+fn are_whole(from: u32, bytes: &Bytes) -> bool
+    ensures { result ≡ ((from == 0) && (length bytes.now % 4096 == 0)) }
+{
+    from == 0 && bytes.len() % BLOCK_BYTES == 0
+}
+
+// Begins to write whole blocks.
+fn begin_blocks<D: Device>(
+    device: &D,
+    me: &mut Caller<D::Name>,
+    first: u64,
+    bytes: Bytes,
+) -> Result<Begun, Errno>
+    ensures range { IfOk result (λ begun. (begun.first ≡ first) × (begun.count * 4096 ≡ length bytes)) }
+    ensures contents { IfOk result (λ begun. begun.contents ≡ bytes) }
+    ensures told { IfOk result (λ begun. WasTold me.new.log (Accepted begun.number first bytes)) }
+    ensures goes_on { IsPrefix me.old.log me.new.log }
+    ensures mine { IfOk result (λ begun. me.new.own ≡ me.old.own ++ begun.number ∷ []) }
+    ensures not_mine { OnErr result (me.new.own ≡ me.old.own) }
+{
+    match device.begin(me, first, bytes) {
+        Ok(begun) => Ok(begun),
+        Err(refusal) => Err(errno_of(refusal)),
+    }
+}
+
+// Begins to write bytes within a block, over what that has.
+fn begin_within<D: Device>(
+    device: &D,
+    me: &mut Caller<D::Name>,
+    block: u64,
+    from: u32,
+    bytes: &Bytes,
+) -> Result<Begun, Errno>
+    requires some { 0 < length bytes.now }
+    requires within { from + length bytes.now ≤ 4096 }
+    ensures block { IfOk result (λ begun. (begun.first ≡ block) × (begun.count ≡ 1)) }
+    ensures laid { IfOk result (λ begun. (old : List ℕ) × (begun.contents ≡ laid_over from bytes.now old)) }
+    ensures told { IfOk result (λ begun. WasTold me.new.log (Patched begun.number block from bytes.now)) }
+    ensures goes_on { IsPrefix me.old.log me.new.log }
+    ensures mine { IfOk result (λ begun. me.new.own ≡ me.old.own ++ begun.number ∷ []) }
+    ensures not_mine { OnErr result (me.new.own ≡ me.old.own) }
+{
+    match device.begin_within(me, block, from, bytes) {
+        Ok(begun) => Ok(begun),
+        Err(refusal) => Err(errno_of(refusal)),
     }
 }
 

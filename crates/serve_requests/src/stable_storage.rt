@@ -1,15 +1,18 @@
 //! Stable storage of both images.
-ghost use Rattle.std.specs.Prelude.{◌≡◌, IfErr, IfOk, IfSome};
+ghost use Rattle.std.specs.Prelude.{◌≡◌, ◌≤◌, vec_len, IfErr, IfOk, IfSome};
 ghost use Rattle.image_store.specs.declared.sync_handle.Disk.TheVariants.{Local, Peer};
 ghost use Rattle.nbd.specs.declared.errno.Errno.TheVariants.{InputOutput};
+ghost use Rattle.serve_requests.specs.Extents.{AreExtents};
 ghost use Rattle.serve_requests.specs.Stored.{IsLater};
 
 use crate::done::Done;
 use crate::last_round::LastRound;
+use crate::status::extents_of;
 use crate::stored::Stored;
 use image_store::{Disk, PerDisk, SyncHandle, SyncedAll};
-use nbd::Errno;
+use nbd::{Errno, Extent, Request};
 use recorded_file::SharedFile;
+use std::alloc::Global;
 use std::fs::File;
 use std::io;
 use std::sync::atomic::{AtomicBool, AtomicU64, Ordering};
@@ -147,6 +150,14 @@ impl StableStorage {
             return None;
         }
         sync_unfailed(&self.images.peer, round, failed)
+    }
+
+    /// Returns what the range of a BLOCK_STATUS is: `extents_of`.
+    pub(crate) fn extents_of(&self, alloc: Global, request: &Request) -> Result<Vec<Extent>, Errno>
+        ensures are { IfOk result (λ extents. AreExtents request.now extents.items) }
+        ensures few { IfOk result (λ extents. vec_len extents ≤ 1024) }
+    {
+        extents_of(alloc, &self.images, request)
     }
 
     /// Syncs both images, whatever has failed. Returns for each why its first sync failed, now or before.

@@ -11,7 +11,7 @@ pub fn asks_for_sync(request: &Request) -> bool
 {
     match request.command() {
         NbdCommand::Flush => true,
-        NbdCommand::Write | NbdCommand::Trim | NbdCommand::WriteZeroes => request.fua(),
-        NbdCommand::Read | NbdCommand::Disconnect => false,
+        NbdCommand::Write | NbdCommand::Trim | NbdCommand::WriteZeroes => request.has_fua(),
+        NbdCommand::Read | NbdCommand::Disconnect | NbdCommand::BlockStatus => false,
     }
 }

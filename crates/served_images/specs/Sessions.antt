@@ -19,11 +19,14 @@ use Rattle.primary.specs.State.{PrimaryView, node as primary_node}
 use Rattle.primary_protocol.specs.Node.{NodeHas as PrimaryHas}
 use Rattle.secondary.specs.State.{SecondaryView, node as secondary_node}
 use Rattle.secondary_protocol.specs.Node.{NodeHas as SecondaryHas}
+use Rattle.serve_requests.specs.Answered.{AreAnswered}
 use Rattle.disk_pair.specs.Disks.{AreFaithful, DisksState}
 use Rattle.served_images.specs.declared.totals.Totals.{Totals}
-use Rattle.settlement.specs.Settled.{WasHonest, WereHonest}
+use Rattle.settlement.specs.Settled.{AreAll, WasHonest, WereHonest}
 use Rattle.session_api.specs.Opening.{opening_of}
 use Rattle.session_api.specs.declared.session_start.SessionStart.{SessionStart}
+use Rattle.told.specs.declared.entry.Told.{Told}
+use Rattle.told.specs.Stands.{AllReadOwn, Stands, StandsIn}
 
 -- what a session leaves for the next one: both disks, what the next one starts from, and the results so far
 pub record Rest : Type 0 where
@@ -39,13 +42,14 @@ opening rest = opening_of rest.parts (slice_get rest.disks.local) (slice_get res
 abbrev pub counted : ℕ → ℕ → ℕ
 counted a b = min (a + b) 18446744073709551615
 
--- What a session of these two histories comes to, with the receipts that its work gave: its settlement says all that the theorem on
--- joined nodes says of one, with honest identifiers and without; the totals go on by the settlement's numbers; the parts are what both
--- nodes leave; and if the resyncs copied what the local disk held, the opening of these parts over the disks as they are is sound.
+-- What a session of these two histories comes to, with the receipts that its work gave: they are all that the session gave, one for each
+-- completed write; its settlement says all that the theorem on joined nodes says of one, with honest identifiers and without; the totals
+-- go on by the settlement's numbers; the parts are what both nodes leave; and if the resyncs copied what the local disk held, the opening of these parts over the disks as they are is sound.
 pub record ComesTo (p : PrimaryHistory) (s : SecondaryHistory) (receipts : List Receipt) (before after : Totals) (parts : SessionStart) : Type 0 where
   pub numbers : Settlement
   pub anyhow : SettlesAnyhow p s receipts numbers
   pub settles : WereHonest p s → Settles p s receipts numbers
+  pub all : AreAll p receipts
   pub completed : after.completed ≡ counted before.completed (length receipts)
   pub confirmed : after.confirmed ≡ counted before.confirmed numbers.confirmed
   pub marked : after.marked ≡ length (marked_blocks p)
@@ -62,13 +66,22 @@ NodesComeTo primary secondary receipts before after parts =
     → SecondaryHas (secondary_node secondary) s → IsJoined p s → ComesTo p s receipts before after parts
 
 -- One session: two runs of the model, one of each node, from the session's opening. They are joined and come to what is left, and
--- both disks hold what the runs lead to. If each read of the local disk so far was faithful, the resyncs copied what it held. If they
--- did, and the opening was sound, what is left for the next session is sound, too; and if no local write failed besides, the peer's
+-- both disks hold what the runs lead to. The receipts are those of requests that the session's clients had answered, and each write of
+-- these stands in the history to which the primary's run leads, under its number and with its bytes: those of a WRITE that was answered
+-- with success are the parts of its payload, and each has its receipt. All else that the session's callers were told stands there, too:
+-- each write that was told as accepted, each receipt, and each read at a moment of its own, at which the disk had each write of which the
+-- number and the receipt had been told before. If each read of the local disk so far was faithful, the resyncs copied what it held. If
+-- they did, and the opening was sound, what is left for the next session is sound, too; and if no local write failed besides, the peer's
 -- disk has an order of writes while it calls itself consistent.
 pub record IsSession (o : Opening) (before : Totals) (rest : Rest) : Type 0 where
   pub here : List PrimaryEvent
   pub there : List SecondaryEvent
   pub receipts : List Receipt
+  pub first : List PrimaryEvent
+  pub log : List Told
+  pub told : Stands rest.disks.local_faithful (primary_run first (primary_at o)) log (primary_run here (primary_at o))
+  pub own : AllReadOwn rest.disks.local_faithful (primary_run first (primary_at o)) log (primary_run here (primary_at o))
+  pub answered : AreAnswered (StandsIn (primary_run here (primary_at o))) receipts
   pub joined : IsJoined (primary_run here (primary_at o)) (secondary_run there (secondary_at o))
   pub comes : ComesTo (primary_run here (primary_at o)) (secondary_run there (secondary_at o)) receipts before rest.totals rest.parts
   pub local : (block : ℕ) → slice_get rest.disks.local block ≡ local_map (primary_run here (primary_at o)) block

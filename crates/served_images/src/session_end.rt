@@ -10,7 +10,7 @@ use image_metadata::OpeningBytes;
 use link::{FrameIn, FrameOut};
 use primary::{Primary, Receipt};
 use secondary::Secondary;
-use settlement::{confirm, parts_after};
+use settlement::{confirm_all, parts_after};
 use std::alloc::Global;
 use std::marker::Model;
 use volume::SessionStart;
@@ -33,8 +33,8 @@ impl<D: Store, M: OpeningBytes, N: OpeningBytes> Model for SessionEnd<D, M, N> {
 }
 
 /// Settles two nodes at rest with the receipts that their session gave, if its work was done, and returns what the next session
-/// starts from, over the same disks and with these words. It reads no block. The refusals are that of the work, and those of `confirm` and
-/// `parts_after`.
+/// starts from, over the same disks and with these words. It reads no block. The refusals are that of the work, and those of
+/// `confirm_all` and `parts_after`.
 pub fn settle_session<D: Store + Drop, M: OpeningBytes, N: OpeningBytes>(
     alloc: Global,
     words: ConnectionWords,
@@ -80,7 +80,7 @@ fn settle_and_hand_over(
     ensures comes { IfOk result (λ left. IfOk worked (λ receipts. NodesComeTo primary.old secondary.now receipts.items totals left.1 left.0)) }
 {
     let receipts = worked?;
-    let confirmed = confirm(primary, secondary, receipts.as_slice())?;
+    let confirmed = confirm_all(primary, secondary, receipts.as_slice())?;
     let parts = parts_after(alloc, primary, secondary, words)?;
     let totals = totals.with_session(receipts.len(), confirmed, primary.marks());
     Ok((parts, totals))

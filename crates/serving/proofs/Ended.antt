@@ -22,14 +22,22 @@ use Rattle.model.specs.Settlement.{Receipt}
 use Rattle.model.specs.Theorems.{Opening, primary_at, secondary_at}
 use Rattle.primary.specs.State.{PrimaryView}
 use Rattle.secondary.specs.State.{SecondaryView}
+use Rattle.serve_requests.proofs.Answering.{are-weaker}
+use Rattle.serve_requests.specs.Answered.{AreAnswered}
 use Rattle.disk_pair.specs.Disks.{AreFaithful, DisksState, unmarked_between}
 use Rattle.served_images.specs.Sessions.{NodesComeTo, IsSession, Rest, opening}
 use Rattle.served_images.specs.declared.totals.Totals.{Totals}
-use Rattle.session_nodes.specs.Primaries.{PrimaryHas, PrimaryIsHad}
+use Rattle.session_nodes.specs.Primaries.{PrimaryHas}
 use Rattle.session_nodes.specs.Secondaries.{SecondaryHas, SecondaryIsHad}
 use Rattle.settlement.proofs.Openings.{were-honest}
 use Rattle.settlement.proofs.Settling.{keeps-order}
 use Rattle.settlement.specs.Settled.{WasHonest}
+use Rattle.told.specs.declared.entry.Told.{Told}
+use Rattle.told.specs.declared.entry.Told.TheVariants.{Accepted, Given, Held, Patched}
+use Rattle.told.specs.Log.{WasTold}
+use Rattle.told.specs.Stands.{AllReadOwn, Stands, StandsIn}
+use Rattle.told_nodes.specs.Told.{IsTold}
+use Rattle.told_nodes.proofs.Ran.{ran}
 
 -- Disks without differences.
 
@@ -81,45 +89,60 @@ honest-over : (rest : Rest) (p : PrimaryHistory) (s : SecondaryHistory) → ((bl
     → WasHonest (opening_of rest.parts (local_map p) (secondary_map s)) → WasHonest (opening rest)
 honest-over rest p s local peer = subst WasHonest (λ i. opening_of rest.parts (λ block. sym (local block) i) (λ block. sym (peer block) i))
 
+-- all that was told of writes and receipts stands in the history
+stands-in : (faithful : Bool) (start : PrimaryHistory) (log : List Told) (history : PrimaryHistory) → Stands faithful start log history → (one : Told)
+    → WasTold log one → StandsIn history one
+stands-in faithful start log history stands (Accepted number first bytes) was = stands.writes number first bytes was
+stands-in faithful start log history stands (Patched number block from bytes) was = stands.patches number block from bytes was
+stands-in faithful start log history stands (Given receipt) was = stands.receipts receipt was
+stands-in faithful start log history stands (Held first count bytes) was = tt
+
 -- what two nodes that ended make of what they leave
 pub session-of : (o : Opening) (before : Totals) (result : Result Rest Refusal) (worked : Result (Vec Receipt Global) Refusal) (a : PrimaryView)
-    (b : SecondaryView) → PrimaryIsHad (Some o) a × SecondaryIsHad (Some o) b
+    (b : SecondaryView) (log : List Told) → IfOk worked (λ receipts. AreAnswered (WasTold log) receipts.items) → IsTold (Some o) log a
+    → SecondaryIsHad (Some o) b
     → ((p : PrimaryHistory) (s : SecondaryHistory) → PrimaryHas a p → SecondaryHas b s → IsJoined p s) → b.core.number ≤ a.core.connections
     → IfOk result (λ rest. rest.disks.local_faithful ≡ a.faithful) → IfOk result (λ _. IsOk worked)
     → IfOk result (λ rest. (rest.disks.local ≡ a.disk) × (rest.disks.peer ≡ b.disk))
     → IfOk result (λ rest. IfOk worked (λ receipts. NodesComeTo a b receipts.items before rest.totals rest.parts))
     → IfOk result (λ rest. IsSession o before rest)
-session-of o before (Err refusal) worked a b had joined numbered faithful done disks comes = tt
-session-of o before (Ok rest) (Err refusal) a b had joined numbered faithful done disks comes = absurd (let wrong : false ≡ true = done in cc (wrong))
-session-of o before (Ok rest) (Ok receipts) a b had joined numbered faithful done disks comes =
-    let p = had.0 in
-    let s = had.1 in
-    let here : PrimaryHas a (primary_run p.began.0 (primary_at o)) = subst (PrimaryHas a) p.began.1 p.has in
+session-of o before (Err refusal) worked a b log answered told had joined numbered faithful done disks comes = tt
+session-of o before (Ok rest) (Err refusal) a b log answered told had joined numbered faithful done disks comes = absurd (let wrong : false ≡ true = done in cc (wrong))
+session-of o before (Ok rest) (Ok receipts) a b log answered told had joined numbered faithful done disks comes =
+    let p = ran o log a told in
+    let s = had in
+    let here = p.has in
     let there : SecondaryHas b (secondary_run s.began.0 (secondary_at o)) = subst (SecondaryHas b) s.began.1 s.has in
-    let joins = joined (primary_run p.began.0 (primary_at o)) (secondary_run s.began.0 (secondary_at o)) here there in
-    let left = comes numbered (primary_run p.began.0 (primary_at o)) (secondary_run s.began.0 (secondary_at o)) here.has there.has joins in
-    let local : (block : ℕ) → slice_get rest.disks.local block ≡ local_map (primary_run p.began.0 (primary_at o)) block =
+    let joins = joined (primary_run p.events (primary_at o)) (secondary_run s.began.0 (secondary_at o)) here there in
+    let left = comes numbered (primary_run p.events (primary_at o)) (secondary_run s.began.0 (secondary_at o)) here.has there.has joins in
+    let local : (block : ℕ) → slice_get rest.disks.local block ≡ local_map (primary_run p.events (primary_at o)) block =
     λ block. ap (λ (l : List (List ℕ)). slice_get l block) disks.0 ∙ here.has.leaves.disk block in
     let peer : (block : ℕ) → slice_get rest.disks.peer block ≡ secondary_map (secondary_run s.began.0 (secondary_at o)) block =
     λ block. ap (λ (l : List (List ℕ)). slice_get l block) disks.1 ∙ there.has.leaves.disk block in
-    let opens : IsUnparted o → (primary_run p.began.0 (primary_at o)).opening_tuple.current
-    ≡ (secondary_run s.began.0 (secondary_at o)).opening_tuple.current → (primary_run p.began.0 (primary_at o)).opening_tuple.bitmap ≡ 0
-    = λ unparted same. ap (λ (t : Tuple). t.bitmap) (kept-opening-primary o p.began.0).tuple
-    ∙ unparted (ap (λ (t : Tuple). t.current) (sym (kept-opening-primary o p.began.0).tuple) ∙ same
+    let opens : IsUnparted o → (primary_run p.events (primary_at o)).opening_tuple.current
+    ≡ (secondary_run s.began.0 (secondary_at o)).opening_tuple.current → (primary_run p.events (primary_at o)).opening_tuple.bitmap ≡ 0
+    = λ unparted same. ap (λ (t : Tuple). t.bitmap) (kept-opening-primary o p.events).tuple
+    ∙ unparted (ap (λ (t : Tuple). t.current) (sym (kept-opening-primary o p.events).tuple) ∙ same
     ∙ ap (λ (t : Tuple). t.current) (kept-opening-secondary o s.began.0).tuple) in
     record {
-      here = p.began.0;
+      here = p.events;
       there = s.began.0;
       receipts = receipts.items;
+      first = p.first;
+      log = log;
+      told = subst (λ b. Stands b (primary_run p.first (primary_at o)) log (primary_run p.events (primary_at o))) (sym faithful) p.stands;
+      own = subst (λ b. AllReadOwn b (primary_run p.first (primary_at o)) log (primary_run p.events (primary_at o))) (sym faithful) p.own;
+      answered = are-weaker (WasTold log) (StandsIn (primary_run p.events (primary_at o)))
+          (stands-in a.faithful (primary_run p.first (primary_at o)) log (primary_run p.events (primary_at o)) p.stands) receipts.items answered;
       joined = joins;
       comes = left;
       local = local;
       peer = peer;
       faithful = λ fine. here.has.leaves.faithful (subst IsTrue faithful fine);
-      honest = λ honest fine. honest-over rest (primary_run p.began.0 (primary_at o)) (secondary_run s.began.0 (secondary_at o)) local peer
-          (left.sound (were-honest o p.began.0 s.began.0 honest) fine).identifiers;
-      unparted = λ honest unparted. left.unparted (were-honest o p.began.0 s.began.0 honest) (opens unparted);
-      order = λ honest unparted fine none. keeps-order _ _ here.has.reached there.has.reached (were-honest o p.began.0 s.began.0 honest) joins
+      honest = λ honest fine. honest-over rest (primary_run p.events (primary_at o)) (secondary_run s.began.0 (secondary_at o)) local peer
+          (left.sound (were-honest o p.events s.began.0 honest) fine).identifiers;
+      unparted = λ honest unparted. left.unparted (were-honest o p.events s.began.0 honest) (opens unparted);
+      order = λ honest unparted fine none. keeps-order _ _ here.has.reached there.has.reached (were-honest o p.events s.began.0 honest) joins
           (record { faithful = fine; local = none; opening = opens unparted });
     }
 

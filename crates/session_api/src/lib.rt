@@ -4,6 +4,7 @@
 
 mod begun;
 mod bell;
+mod called_half;
 mod device;
 mod host;
 mod primary_half;
@@ -15,6 +16,7 @@ mod turn;
 
 pub use begun::Begun;
 pub use bell::Bell;
+pub use called_half::CalledHalf;
 pub use device::Device;
 pub use host::{Host, Runtime};
 pub use node_lines::{ConnectionItems, PrimaryProgress, SecondaryProgress};

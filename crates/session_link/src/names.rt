@@ -1,13 +1,15 @@
 //! The name of a session: its link, and what its nodes start from.
 ghost use Rattle.thread_link.specs.Names.{LinkName};
 
+use ghost_log::LogName;
 use session_nodes::Beginning;
 use std::marker::{Brand, PhantomData};
 use thread_link::Named;
 
-/// Which link a session has, and what its nodes start from. It has no bytes: whoever calls a function with such a parameter
-/// picks both.
+/// Which link a session has, what its nodes start from, and which log says what its callers are told. It has no bytes: whoever calls a
+/// function with such a parameter picks all three.
 pub trait Linked {
+    ghost use Rattle.std.specs.Prelude.{ℕ};
     ghost use Rattle.thread_link.specs.Names.{LinkName};
     ghost use Rattle.model.specs.Theorems.{Opening};
 
@@ -16,6 +18,9 @@ pub trait Linked {
 
     /// What both nodes start from.
     ghost opening: { Opening };
+
+    /// The name of the log of what its callers are told.
+    ghost log: { ℕ };
 }
 
 impl Linked for Brand {
@@ -25,11 +30,17 @@ impl Linked for Brand {
     ghost link = { no_link };
 
     ghost opening = { no_opening };
+
+    ghost log = { 0 };
 }
 
 /// The beginning of a session over a link.
 pub struct Began<L: Linked> {
     of: PhantomData<L>,
+}
+
+impl<L: Linked> LogName for Began<L> {
+    ghost name = { L.log };
 }
 
 impl<L: Linked> Beginning for Began<L> {

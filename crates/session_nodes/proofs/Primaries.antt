@@ -1,9 +1,9 @@
 -- A primary's calls keep all its connections over one link.
 use Rattle.std.proofs.Common.{ℕ, zero, suc, ◌≡◌, ◌<◌, ◌≤◌, ◌-◌, inl, inr, Bool, true, false, not, List, [], ◌∷◌, ◌++◌, length, take, Option}
 use Rattle.std.proofs.Common.{Some, None, slice_get, Ok, refl, sym, ◌∙◌, ap, subst, arith}
-use Rattle.std.specs.Prelude.{unwrap_or, Result, Err, IfOk, IfSome, IsTrue, OnErr, is_some}
+use Rattle.std.specs.Prelude.{All, unwrap_or, Result, Err, IfOk, IfSome, IsTrue, OnErr, is_some}
 use Rattle.std.proofs.lemmas.List.{length-append}
-use Rattle.std.proofs.lemmas.List.Elements.{All-append, All-cons, All-nil}
+use Rattle.std.proofs.lemmas.List.Elements.{All-append, All-cons, All-head, All-nil, All-tail}
 use Rattle.std.proofs.lemmas.Bool.{cases_lt}
 use Rattle.std.proofs.lemmas.Option.{slice_get_within}
 use Rattle.blocks.specs.declared.refusal.Refusal.{Refusal}
@@ -43,7 +43,7 @@ use Rattle.primary.specs.State.{IsRestarted, PrimaryView, node}
 use Rattle.primary.specs.Work.{IsWork}
 use Rattle.session_nodes.specs.Traffic.{KnowTraffic}
 use Rattle.session_nodes.proofs.Ends.{NextTraffic, SameEnds, traffic-begins, traffic-first, traffic-stays}
-use Rattle.session_nodes.specs.Primaries.{sent, came, PrimaryHas, PrimaryBegan, PrimaryIsHad, IsPrimaryStep, PrimarySteps, PrimaryRuns}
+use Rattle.session_nodes.specs.Primaries.{sent, came, PrimaryHas, PrimaryBegan, PrimaryIsHad, IsOwnStep, IsPrimaryStep, PrimaryGoesOn, PrimarySteps, PrimaryRuns}
 use Rattle.laws.proofs.Rules.Memory.{may-open, ack-in-has}
 
 -- Events that open no end leave the number of connections.
@@ -237,6 +237,58 @@ runs-on u v w first second h was =
     let one = first h was in
     let two = second (primary_run one.0 h) one.1.1 in
     (one.0 ++ two.0, (All-append IsWork one.0 two.0 one.1.0 two.1.0, subst (PrimaryHas w) (run-both one.0 two.0 h) two.1.1))
+
+-- What is work is a step of the node's own.
+work-own : (event : PrimaryEvent) → IsWork event → IsOwnStep event
+work-own (Opens sync loss out_of_memory) work = absurd work
+work-own (Submits first contents out_of_memory) work = absurd work
+work-own (WritesLocally number) work = tt
+work-own (FailsLocally number offsets) work = tt
+work-own (Sends room out_of_memory) work = tt
+work-own (Takes frame out_of_memory) work = tt
+work-own (Resyncs read out_of_memory) work = tt
+work-own (FailsResync out_of_memory) work = tt
+work-own Closes work = absurd work
+work-own (Receipts number) work = absurd work
+
+works-own : (events : List PrimaryEvent) → All IsWork events → All IsOwnStep events
+works-own [] work = All-nil IsOwnStep
+works-own (event ∷ events) work = All-cons IsOwnStep event events (work-own event (All-head IsWork event events work))
+    (works-own events (All-tail IsWork event events work))
+
+-- A disk that is as faithful as before has not become faithful.
+pub falls-with : (v w : PrimaryView) → w.faithful ≡ v.faithful → IsTrue w.faithful → IsTrue v.faithful
+falls-with v w same still = subst IsTrue same still
+
+-- nor does a new connection make it so
+pub falls-reopened : (v w : PrimaryView) (result : Result ℕ Refusal) → IfOk result (λ number. IsRestarted number v w) → OnErr result (w ≡ v)
+    → IsTrue w.faithful → IsTrue v.faithful
+falls-reopened v w (Ok number) restarted unchanged = falls-with v w (ap (λ (x : PrimaryView). x.faithful) restarted.rest)
+falls-reopened v w (Err e) restarted unchanged = falls-with v w (ap (λ (x : PrimaryView). x.faithful) unchanged)
+
+pub goes-on-self : (v : PrimaryView) → PrimaryGoesOn v v
+goes-on-self v = record { leads = λ h was. ([], (All-nil IsOwnStep, was)); falls = λ still. still }
+
+pub goes-on-runs : (v w : PrimaryView) → PrimaryRuns v w → (IsTrue w.faithful → IsTrue v.faithful) → PrimaryGoesOn v w
+goes-on-runs v w runs falls = record {
+  leads = λ h was. let run = runs h was in (run.0, (works-own run.0 run.1.0, run.1.1));
+  falls = falls;
+}
+
+pub goes-on-closes : (v w : PrimaryView) (returned : Reply) → PrimarySteps Closes v returned w → (IsTrue w.faithful → IsTrue v.faithful) → PrimaryGoesOn v w
+goes-on-closes v w returned steps falls = record {
+  leads = λ h was. (Closes ∷ [], (All-cons IsOwnStep Closes [] tt (All-nil IsOwnStep), steps.after h was));
+  falls = falls;
+}
+
+pub goes-on-both : (u v w : PrimaryView) → PrimaryGoesOn u v → PrimaryGoesOn v w → PrimaryGoesOn u w
+goes-on-both u v w first second = record {
+  leads = λ h was.
+      let one = first.leads h was in
+      let two = second.leads (primary_run one.0 h) one.1.1 in
+      (one.0 ++ two.0, (All-append IsOwnStep one.0 two.0 one.1.0 two.1.0, subst (PrimaryHas w) (run-both one.0 two.0 h) two.1.1));
+  falls = λ still. first.falls (second.falls still);
+}
 
 -- A run from an opening goes on.
 began-run : (o : Option Opening) (events : List PrimaryEvent) (h : PrimaryHistory) → PrimaryBegan o h → PrimaryBegan o (primary_run events h)

@@ -1,9 +1,9 @@
 -- A primary whose connections all went over one link.
-use Rattle.std.specs.Prelude.{ℕ, suc, ◌≡◌, ◌<◌, List, take, Some, None, slice_get, length, true, false, ◌&&◌, All, Option, is_none, Result}
+use Rattle.std.specs.Prelude.{ℕ, suc, ◌≡◌, ◌<◌, List, take, Some, None, slice_get, length, true, false, ◌&&◌, All, Option, is_none, IsTrue, Result}
 use Rattle.model.specs.Contents.{IsRead}
 use Rattle.model.specs.Primary.{PrimaryConnection, PrimaryHistory, primary_connection_at, frames_due, local_map}
 use Rattle.model.specs.Frames.{Packet, Received}
-use Rattle.model.specs.LocalRuns.{PrimaryEvent, Submits, Takes, primary_run}
+use Rattle.model.specs.LocalRuns.{PrimaryEvent, Closes, Submits, Takes, primary_run}
 use Rattle.model.specs.Theorems.{Opening, primary_at}
 use Rattle.blocks.specs.declared.refusal.Refusal.{Refusal}
 use Rattle.blocks.specs.declared.outcome.Done.{Done}
@@ -65,6 +65,17 @@ PrimarySteps event = IsPrimaryStep (primary_step event)
 abbrev pub PrimaryRuns : PrimaryView → PrimaryView → Type 0
 PrimaryRuns v w = (h : PrimaryHistory) → PrimaryHas v h
     → (events : List PrimaryEvent) × (All IsWork events × PrimaryHas w (primary_run events h))
+
+-- A step that no caller asks for: the node's own work, or a close of its end.
+abbrev pub IsOwnStep : PrimaryEvent → Type 0
+IsOwnStep Closes = Unit {0}
+IsOwnStep event = IsWork event
+
+-- From every such history that the node refined, some steps that no caller asked for lead to one that it refines now; and its disk is
+-- faithful only if it was.
+pub record PrimaryGoesOn (v w : PrimaryView) : Type 0 where
+  pub leads : (h : PrimaryHistory) → PrimaryHas v h → (events : List PrimaryEvent) × (All IsOwnStep events × PrimaryHas w (primary_run events h))
+  pub falls : IsTrue w.faithful → IsTrue v.faithful
 
 -- The call was the step of taking some frame, or none.
 pub record PrimaryTakes (result : Result Done Refusal) (v w : PrimaryView) : Type 0 where

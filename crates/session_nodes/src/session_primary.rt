@@ -123,6 +123,7 @@ impl<B: Beginning, O: FrameOut + Drop, I: FrameIn + Drop, S: Store + Drop> Sessi
         ensures number { IfOk result (λ accepted. accepted.1.what ≡ what.Write accepted.0) }
         ensures accepted { IfOk result (λ accepted. HasAccepted B.opening accepted.0 first bytes.now) }
         ensures refused { IfErr result (λ e. submit_refuses e ≡ true) }
+        ensures falls { IsTrue self.new.faithful → IsTrue self.old.faithful }
     {
         self.node.submit(first, bytes)
     }
@@ -132,6 +133,7 @@ impl<B: Beginning, O: FrameOut + Drop, I: FrameIn + Drop, S: Store + Drop> Sessi
         ensures step { IsPrimaryStep (take_receipt number) self.old result self.new }
         ensures number { IfOk result (λ receipt. receipt.number ≡ number) }
         ensures refused { IfErr result (λ e. take_completed_refuses e ≡ true) }
+        ensures falls { IsTrue self.new.faithful → IsTrue self.old.faithful }
     {
         self.node.take_completed(number)
     }
@@ -159,6 +161,7 @@ impl<B: Beginning, O: FrameOut + Drop, I: FrameIn + Drop, S: Store + Drop> Sessi
         ensures link { link.Sends result self.old.outgoing self.new.outgoing }
         ensures memory { IfErr result (λ e. e ≡ NoMemory → owes_blocks self.old.core ≡ true) }
         ensures refused { IfErr result (λ e. send_refuses e ≡ true) }
+        ensures falls { IsTrue self.new.faithful → IsTrue self.old.faithful }
     {
         self.node.send()
     }
@@ -169,6 +172,7 @@ impl<B: Beginning, O: FrameOut + Drop, I: FrameIn + Drop, S: Store + Drop> Sessi
         ensures step { PrimaryTakes result self.old self.new }
         ensures runs { PrimaryRuns self.old self.new }
         ensures refused { IfErr result (λ e. ack_in_refuses e ≡ true) }
+        ensures falls { IsTrue self.new.faithful → IsTrue self.old.faithful }
     {
         self.node.ack_in()
     }
@@ -181,6 +185,7 @@ impl<B: Beginning, O: FrameOut + Drop, I: FrameIn + Drop, S: Store + Drop> Sessi
         ensures outward { self.new.outgoing ≡ self.old.outgoing }
         ensures inward { self.new.incoming ≡ self.old.incoming }
         ensures refused { IfErr result (λ e. e ≡ NothingThere) }
+        ensures falls { IsTrue self.new.faithful → IsTrue self.old.faithful }
     {
         match self.node.next_local() {
             Some(number) => self.write_at(number),
@@ -194,6 +199,7 @@ impl<B: Beginning, O: FrameOut + Drop, I: FrameIn + Drop, S: Store + Drop> Sessi
         ensures writes { WritesOne number result self.old self.new }
         ensures outward { self.new.outgoing ≡ self.old.outgoing }
         ensures inward { self.new.incoming ≡ self.old.incoming }
+        ensures falls { IsTrue self.new.faithful → IsTrue self.old.faithful }
     {
         self.node.local(number)
     }
@@ -206,6 +212,7 @@ impl<B: Beginning, O: FrameOut + Drop, I: FrameIn + Drop, S: Store + Drop> Sessi
         ensures outward { self.new.outgoing ≡ self.old.outgoing }
         ensures inward { self.new.incoming ≡ self.old.incoming }
         ensures refused { IfErr result (λ e. resync_next_refuses e ≡ true) }
+        ensures falls { IsTrue self.new.faithful → IsTrue self.old.faithful }
     {
         self.node.resync_next()
     }
@@ -214,6 +221,7 @@ impl<B: Beginning, O: FrameOut + Drop, I: FrameIn + Drop, S: Store + Drop> Sessi
     pub fn close(&mut self) -> Result<u32, Refusal>
         ensures step { PrimarySteps Closes self.old (replied reply.Closed result) self.new }
         ensures refused { IfErr result (λ e. e ≡ NotConnected) }
+        ensures falls { IsTrue self.new.faithful → IsTrue self.old.faithful }
     {
         self.node.close()
     }
@@ -222,6 +230,7 @@ impl<B: Beginning, O: FrameOut + Drop, I: FrameIn + Drop, S: Store + Drop> Sessi
     pub fn close_lost(&mut self, connection: u32)
         ensures closes { self.old.core.connections ≤ connection → (reply : Reply) × PrimarySteps Closes self.old reply self.new }
         ensures later { connection < self.old.core.connections → self.new ≡ self.old }
+        ensures falls { IsTrue self.new.faithful → IsTrue self.old.faithful }
     {
         if self.node.connection_number() <= connection {
             let _ = self.close();
@@ -233,6 +242,7 @@ impl<B: Beginning, O: FrameOut + Drop, I: FrameIn + Drop, S: Store + Drop> Sessi
         ensures step { PrimarySteps (Opens words.sync words.loss (is_out_of_memory result)) self.old (replied (λ number. plainly tt) result) self.new }
         ensures number { IfOk result (λ number. number ≡ self.new.core.connections) }
         ensures refused { IfErr result (λ e. reopen_refuses e ≡ true) }
+        ensures falls { IsTrue self.new.faithful → IsTrue self.old.faithful }
     {
         self.node.reopen(words.sync, words.loss)
     }

@@ -17,14 +17,19 @@ use Rattle.program_values.specs.declared.run_options.Path.TheVariants.{Link, Soc
 use Rattle.program_values.specs.declared.run_options.RunOptions.{RunOptions}
 use Rattle.primary.specs.State.{PrimaryView}
 use Rattle.session_run.specs.Plan.{AreOfPlan}
+use Rattle.told.specs.Log.{SaysAccepted}
+use Rattle.session_run.proofs.Plan.{plan-means}
 use Rattle.secondary.specs.State.{SecondaryView}
-use Rattle.session_nodes.specs.Primaries.{HasAccepted, PrimaryHas, PrimaryIsHad}
+use Rattle.session_nodes.specs.Primaries.{PrimaryHas}
 use Rattle.session_nodes.specs.Secondaries.{SecondaryHas, SecondaryIsHad}
 use Rattle.session_run.specs.Outcome.{AreAtRest, HasSettled, IsLinked, IsNumber, IsOpening, IsOutcome, IsRun}
 use Rattle.session_run.specs.declared.report.RunReport.{RunReport}
 use Rattle.settlement.proofs.Openings.{were-honest}
 use Rattle.settlement.proofs.Settling.{keeps-order}
 use Rattle.settlement.specs.Settled.{WasHonest}
+use Rattle.told.specs.declared.entry.Told.{Told}
+use Rattle.told.specs.Stands.{IsWritten}
+use Rattle.told_nodes.proofs.Ran.{Ran}
 
 -- where nodes settle, it is to these numbers
 pub settled-numbers : (p : PrimaryHistory) (s : SecondaryHistory) (receipts : List Receipt) (faulty : Bool) (numbers : Settlement)
@@ -36,58 +41,41 @@ settled-numbers p s receipts faulty numbers = by (first_refusal (settle_tests p 
     by None is = cc
     by (Some refusal) is = absurd (cc)
 
--- the settlement of the nodes that ended
-pub ended-settles : (worked : Result (Vec Receipt Global) Refusal) (ended : Result (PrimaryView × SecondaryView) Refusal) (a : PrimaryView)
-    (b : SecondaryView) (confirmed unmarked : ℕ) → ended ≡ Ok (a, b)
-    → IfOk worked (λ receipts. b.core.number ≤ a.core.connections → HasSettled a b receipts.items confirmed unmarked)
-    → IfOk worked (λ receipts. IfOk ended (λ nodes. nodes.1.core.number ≤ nodes.0.core.connections
-    → HasSettled nodes.0 nodes.1 receipts.items confirmed unmarked))
-ended-settles (Err refusal) ended a b confirmed unmarked is settles = tt
-ended-settles (Ok receipts) ended a b confirmed unmarked is settles =
-    subst (λ w. IfOk w (λ nodes. nodes.1.core.number ≤ nodes.0.core.connections → HasSettled nodes.0 nodes.1 receipts.items confirmed unmarked)) (sym is)
-    settles
-
 -- what a session's nodes, once they are settled, make of its report
 pub outcome-of : (options : RunOptions) (o : Opening) (result : Result RunReport Refusal) (worked : Result (Vec Receipt Global) Refusal)
-    (ended : Result (PrimaryView × SecondaryView) Refusal) → WasHonest o → o.own.bitmap ≡ 0 → IfOk result (λ _. IsOk worked × IsOk ended)
-    → IfOk worked (λ receipts. AreOfPlan (HasAccepted (Some o)) options receipts.items)
+    (log : List Told) (a : PrimaryView) (b : SecondaryView) → WasHonest o → o.own.bitmap ≡ 0 → IfOk result (λ _. IsOk worked)
+    → IfOk worked (λ receipts. AreOfPlan (SaysAccepted log) options receipts.items)
     → IfOk result (λ report. IfOk worked (λ receipts. report.completed ≡ vec_len receipts))
-    → IfOk result (λ report. IfOk worked (λ receipts. IfOk ended (λ nodes. IsNumber (λ n. n.confirmed) nodes.0 nodes.1 receipts.items report.confirmed)))
-    → IfOk result (λ report. IfOk worked (λ receipts. IfOk ended (λ nodes. IsNumber (λ n. n.unmarked) nodes.0 nodes.1 receipts.items report.unmarked)))
-    → IfOk result (λ report. IfOk worked (λ receipts. IfOk ended (λ nodes. AreAtRest nodes.0 nodes.1 receipts.items)))
-    → IfOk result (λ report. IfOk worked (λ receipts. IfOk ended (λ nodes. nodes.1.core.number ≤ nodes.0.core.connections
-    → HasSettled nodes.0 nodes.1 receipts.items report.confirmed report.unmarked)))
-    → IfOk result (λ report. IfOk ended (λ nodes. (report.disks.local ≡ nodes.0.disk) × (report.disks.peer ≡ nodes.1.disk) × IsTrue nodes.0.faithful))
-    → IfOk ended (λ nodes. PrimaryIsHad (Some o) nodes.0 × SecondaryIsHad (Some o) nodes.1)
-    → IfOk ended (λ nodes. nodes.1.core.number ≤ nodes.0.core.connections) → IfOk result (IsOutcome options o)
-outcome-of options o (Err refusal) worked ended honest unparted done planned count confirmed unmarked rest settles disks had numbered = tt
-outcome-of options o (Ok report) (Err refusal) ended honest unparted done planned count confirmed unmarked rest settles disks had numbered =
-    absurd (let wrong : false ≡ true = done.0 in cc (wrong))
-outcome-of options o (Ok report) (Ok receipts) (Err refusal) honest unparted done planned count confirmed unmarked rest settles disks had numbered =
-    absurd (let wrong : false ≡ true = done.1 in cc (wrong))
-outcome-of options o (Ok report) (Ok receipts) (Ok nodes) honest unparted done planned count confirmed unmarked rest settles disks had numbered =
-    let p = had.0 in
-    let s = had.1 in
-    let here : PrimaryHas nodes.0 (primary_run p.began.0 (primary_at o)) = subst (PrimaryHas nodes.0) p.began.1 p.has in
-    let there : SecondaryHas nodes.1 (secondary_run s.began.0 (secondary_at o)) = subst (SecondaryHas nodes.1) s.began.1 s.has in
-    let were = were-honest o p.began.0 s.began.0 honest in
+    → IfOk result (λ report. IfOk worked (λ receipts. IsNumber (λ n. n.confirmed) a b receipts.items report.confirmed))
+    → IfOk result (λ report. IfOk worked (λ receipts. IsNumber (λ n. n.unmarked) a b receipts.items report.unmarked))
+    → IfOk result (λ report. IfOk worked (λ receipts. AreAtRest a b receipts.items))
+    → IfOk result (λ report. IfOk worked (λ receipts. b.core.number ≤ a.core.connections → HasSettled a b receipts.items report.confirmed report.unmarked))
+    → IfOk result (λ report. (report.disks.local ≡ a.disk) × (report.disks.peer ≡ b.disk) × IsTrue a.faithful)
+    → Ran o log a → SecondaryIsHad (Some o) b → b.core.number ≤ a.core.connections → IfOk result (IsOutcome options o)
+outcome-of options o (Err refusal) worked log a b honest unparted done planned count confirmed unmarked rest settles disks p s numbered = tt
+outcome-of options o (Ok report) (Err refusal) log a b honest unparted done planned count confirmed unmarked rest settles disks p s numbered =
+    absurd (let wrong : false ≡ true = done in cc (wrong))
+outcome-of options o (Ok report) (Ok receipts) log a b honest unparted done planned count confirmed unmarked rest settles disks p s numbered =
+    let here = p.has in
+    let there : SecondaryHas b (secondary_run s.began.0 (secondary_at o)) = subst (SecondaryHas b) s.began.1 s.has in
+    let were = were-honest o p.events s.began.0 honest in
     record {
-      here = p.began.0;
+      here = p.events;
       there = s.began.0;
       receipts = receipts.items;
-      planned = planned;
+      planned = plan-means (SaysAccepted log) (IsWritten (primary_run p.events (primary_at o))) p.stands.writes options receipts.items planned;
       completed = omega (arith, count, receipts.ok);
-      confirmed = confirmed (primary_run p.began.0 (primary_at o)) (secondary_run s.began.0 (secondary_at o)) here.has there.has;
-      unmarked = unmarked (primary_run p.began.0 (primary_at o)) (secondary_run s.began.0 (secondary_at o)) here.has there.has;
-      rest = (rest (primary_run p.began.0 (primary_at o)) (secondary_run s.began.0 (secondary_at o)) here.has there.has).0;
-      entries = (rest (primary_run p.began.0 (primary_at o)) (secondary_run s.began.0 (secondary_at o)) here.has there.has).1;
+      confirmed = confirmed (primary_run p.events (primary_at o)) (secondary_run s.began.0 (secondary_at o)) here.has there.has;
+      unmarked = unmarked (primary_run p.events (primary_at o)) (secondary_run s.began.0 (secondary_at o)) here.has there.has;
+      rest = (rest (primary_run p.events (primary_at o)) (secondary_run s.began.0 (secondary_at o)) here.has there.has).0;
+      entries = (rest (primary_run p.events (primary_at o)) (secondary_run s.began.0 (secondary_at o)) here.has there.has).1;
       settles = λ joined.
-          let settled = settles numbered (primary_run p.began.0 (primary_at o)) (secondary_run s.began.0 (secondary_at o)) here.has there.has joined were in
-          subst (Settles (primary_run p.began.0 (primary_at o)) (secondary_run s.began.0 (secondary_at o)) receipts.items) settled.1.0.exact settled.1.0;
+          let settled = settles numbered (primary_run p.events (primary_at o)) (secondary_run s.began.0 (secondary_at o)) here.has there.has joined were in
+          subst (Settles (primary_run p.events (primary_at o)) (secondary_run s.began.0 (secondary_at o)) receipts.items) settled.1.0.exact settled.1.0;
       order = λ joined none. keeps-order _ _ here.has.reached there.has.reached were joined (record {
         faithful = here.has.leaves.faithful disks.2;
         local = none;
-        opening = λ same. ap (λ (t : Tuple). t.bitmap) (kept-opening-primary o p.began.0).tuple ∙ unparted;
+        opening = λ same. ap (λ (t : Tuple). t.bitmap) (kept-opening-primary o p.events).tuple ∙ unparted;
       });
       local = λ block. ap (λ (l : List (List ℕ)). slice_get l block) disks.0 ∙ here.has.leaves.disk block;
       peer = λ block. ap (λ (l : List (List ℕ)). slice_get l block) disks.1 ∙ there.has.leaves.disk block;
@@ -95,28 +83,23 @@ outcome-of options o (Ok report) (Ok receipts) (Ok nodes) honest unparted done p
 
 -- the same of nodes whose histories are joined
 pub linked-of : (options : RunOptions) (o : Opening) (result : Result RunReport Refusal) (worked : Result (Vec Receipt Global) Refusal)
-    (ended : Result (PrimaryView × SecondaryView) Refusal) → WasHonest o → o.own.bitmap ≡ 0 → IfOk result (λ _. IsOk worked × IsOk ended)
-    → IfOk worked (λ receipts. AreOfPlan (HasAccepted (Some o)) options receipts.items)
+    (log : List Told) (a : PrimaryView) (b : SecondaryView) → WasHonest o → o.own.bitmap ≡ 0 → IfOk result (λ _. IsOk worked)
+    → IfOk worked (λ receipts. AreOfPlan (SaysAccepted log) options receipts.items)
     → IfOk result (λ report. IfOk worked (λ receipts. report.completed ≡ vec_len receipts))
-    → IfOk result (λ report. IfOk worked (λ receipts. IfOk ended (λ nodes. IsNumber (λ n. n.confirmed) nodes.0 nodes.1 receipts.items report.confirmed)))
-    → IfOk result (λ report. IfOk worked (λ receipts. IfOk ended (λ nodes. IsNumber (λ n. n.unmarked) nodes.0 nodes.1 receipts.items report.unmarked)))
-    → IfOk result (λ report. IfOk worked (λ receipts. IfOk ended (λ nodes. AreAtRest nodes.0 nodes.1 receipts.items)))
-    → IfOk result (λ report. IfOk worked (λ receipts. IfOk ended (λ nodes. nodes.1.core.number ≤ nodes.0.core.connections
-    → HasSettled nodes.0 nodes.1 receipts.items report.confirmed report.unmarked)))
-    → IfOk result (λ report. IfOk ended (λ nodes. (report.disks.local ≡ nodes.0.disk) × (report.disks.peer ≡ nodes.1.disk) × IsTrue nodes.0.faithful))
-    → IfOk ended (λ nodes. PrimaryIsHad (Some o) nodes.0 × SecondaryIsHad (Some o) nodes.1)
-    → IfOk ended (λ nodes. nodes.1.core.number ≤ nodes.0.core.connections)
-    → IfOk ended (λ nodes. (p : PrimaryHistory) (s : SecondaryHistory) → PrimaryHas nodes.0 p → SecondaryHas nodes.1 s → IsJoined p s)
-    → IfOk result (IsLinked options o)
+    → IfOk result (λ report. IfOk worked (λ receipts. IsNumber (λ n. n.confirmed) a b receipts.items report.confirmed))
+    → IfOk result (λ report. IfOk worked (λ receipts. IsNumber (λ n. n.unmarked) a b receipts.items report.unmarked))
+    → IfOk result (λ report. IfOk worked (λ receipts. AreAtRest a b receipts.items))
+    → IfOk result (λ report. IfOk worked (λ receipts. b.core.number ≤ a.core.connections → HasSettled a b receipts.items report.confirmed report.unmarked))
+    → IfOk result (λ report. (report.disks.local ≡ a.disk) × (report.disks.peer ≡ b.disk) × IsTrue a.faithful)
+    → Ran o log a → SecondaryIsHad (Some o) b → b.core.number ≤ a.core.connections
+    → ((p : PrimaryHistory) (s : SecondaryHistory) → PrimaryHas a p → SecondaryHas b s → IsJoined p s) → IfOk result (IsLinked options o)
 unfolding outcome-of
-linked-of options o (Err refusal) worked ended honest unparted done planned count confirmed unmarked rest settles disks had numbered joined = tt
-linked-of options o (Ok report) (Err refusal) ended honest unparted done planned count confirmed unmarked rest settles disks had numbered joined =
-    absurd (let wrong : false ≡ true = done.0 in cc (wrong))
-linked-of options o (Ok report) (Ok receipts) (Err refusal) honest unparted done planned count confirmed unmarked rest settles disks had numbered joined =
-    absurd (let wrong : false ≡ true = done.1 in cc (wrong))
-linked-of options o (Ok report) (Ok receipts) (Ok nodes) honest unparted done planned count confirmed unmarked rest settles disks had numbered joined = record {
-  outcome = outcome-of options o (Ok report) (Ok receipts) (Ok nodes) honest unparted done planned count confirmed unmarked rest settles disks had numbered;
-  joined = joined _ _ (subst (PrimaryHas nodes.0) had.0.began.1 had.0.has) (subst (SecondaryHas nodes.1) had.1.began.1 had.1.has);
+linked-of options o (Err refusal) worked log a b honest unparted done planned count confirmed unmarked rest settles disks p s numbered joined = tt
+linked-of options o (Ok report) (Err refusal) log a b honest unparted done planned count confirmed unmarked rest settles disks p s numbered joined =
+    absurd (let wrong : false ≡ true = done in cc (wrong))
+linked-of options o (Ok report) (Ok receipts) log a b honest unparted done planned count confirmed unmarked rest settles disks p s numbered joined = record {
+  outcome = outcome-of options o (Ok report) (Ok receipts) log a b honest unparted done planned count confirmed unmarked rest settles disks p s numbered;
+  joined = joined _ _ p.has (subst (SecondaryHas b) s.began.1 s.has);
 }
 
 -- a report of joined runs from an opening is one of the options and images that the opening is made of

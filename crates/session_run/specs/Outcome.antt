@@ -21,9 +21,9 @@ use Rattle.program_values.specs.Text.{results_text}
 use Rattle.session_run.specs.Plan.{AreOfPlan}
 use Rattle.secondary.specs.State.{SecondaryView, node as secondary_node}
 use Rattle.secondary_protocol.specs.Node.{NodeHas as SecondaryHas}
-use Rattle.session_nodes.specs.Primaries.{HasAccepted}
 use Rattle.session_run.specs.declared.report.RunReport.{RunReport}
 use Rattle.settlement.specs.Settled.{AreEntries, WereHonest}
+use Rattle.told.specs.Stands.{IsWritten}
 
 -- This number is that of the settlement with these receipts, for all histories that the two nodes have.
 abbrev pub IsNumber : (Settlement → ℕ) → PrimaryView → SecondaryView → List Receipt → ℕ → Type 0
@@ -64,15 +64,15 @@ pub record IsOpening (chosen : Settings) (local_image peer_image : List ℕ) (o 
   pub other : (local_image ≡ peer_image → ⊥) → o.peer_tuple ≡ unknown
   pub marks : (block : ℕ) → o.marks block ≡ false
 
--- What a run comes to: two runs of the model, one of each node, from the opening. Each receipt is that of a planned write, which the primary accepted with the
--- bytes of the plan, and each is that of an entry of the journal to which the primary's run leads, none given twice. Both runs lead to rest. The report has the
+-- What a run comes to: two runs of the model, one of each node, from the opening. Each receipt is that of a planned write, which stands under its number and with
+-- the bytes of the plan in the history to which the primary's run leads, and each is that of an entry of its journal, none given twice. Both runs lead to rest. The report has the
 -- numbers of the settlement with all receipts, and the disks that the runs lead to. If the runs are joined, the settlement says all that the theorem on joined
 -- nodes says of one, and if no local write failed besides, the peer's disk has an order of writes while it calls itself consistent.
 pub record IsOutcome (options : RunOptions) (o : Opening) (report : RunReport) : Type 0 where
   pub here : List PrimaryEvent
   pub there : List SecondaryEvent
   pub receipts : List Receipt
-  pub planned : AreOfPlan (HasAccepted (Some o)) options receipts
+  pub planned : AreOfPlan (IsWritten (primary_run here (primary_at o))) options receipts
   pub completed : report.completed ≡ length receipts
   pub confirmed : report.confirmed ≡ (settlement (primary_run here (primary_at o)) (secondary_run there (secondary_at o)) receipts).confirmed
   pub unmarked : report.unmarked ≡ (settlement (primary_run here (primary_at o)) (secondary_run there (secondary_at o)) receipts).unmarked

@@ -14,6 +14,7 @@ mod session;
 mod sockets;
 mod whole_run;
 mod workers;
+mod written;
 
 pub use program_values::{Images, LiveOutput, Path, RunOptions};
 pub use volume::Host;

@@ -51,8 +51,8 @@ impl RunReport {
     }
 }
 
-/// Returns the outcome of a session whose writers have the receipts `worked`, and whose nodes at rest are `ended`. If a
-/// write was refused, returns that refusal; else those of the end and of `settle`.
+/// Returns the outcome of a session whose writers have the receipts `worked`, and which ended with these nodes at rest. If a
+/// write was refused, returns that refusal; else those of `settle`.
 pub(crate) fn conclude<
     O: FrameOut + Drop,
     I: FrameIn + Drop,
@@ -61,23 +61,22 @@ pub(crate) fn conclude<
 >(
     options: &RunOptions,
     worked: Result<Vec<Receipt>, Refusal>,
-    ended: Result<(Primary<O, I, MemStore>, Secondary<P, J, MemStore>), Refusal>,
+    primary: Primary<O, I, MemStore>,
+    secondary: Secondary<P, J, MemStore>,
 ) -> Result<RunReport, Refusal>
     requires { IfOk worked (λ receipts. vec_len receipts ≡ options.now.writers * options.now.writes) }
-    ensures done { IfOk result (λ _. IsOk worked × IsOk ended) }
+    ensures done { IfOk result (λ _. IsOk worked) }
     ensures completed { IfOk result (λ report. report.completed ≡ options.now.writers * options.now.writes) }
     ensures count { IfOk result (λ report. IfOk worked (λ receipts. report.completed ≡ vec_len receipts)) }
-    ensures confirmed { IfOk result (λ report. IfOk worked (λ receipts. IfOk ended (λ nodes. IsNumber (λ n. n.confirmed) nodes.0 nodes.1 receipts.items report.confirmed))) }
-    ensures unmarked { IfOk result (λ report. IfOk worked (λ receipts. IfOk ended (λ nodes. IsNumber (λ n. n.unmarked) nodes.0 nodes.1 receipts.items report.unmarked))) }
-    ensures rest { IfOk result (λ report. IfOk worked (λ receipts. IfOk ended (λ nodes. AreAtRest nodes.0 nodes.1 receipts.items))) }
-    ensures settles { IfOk result (λ report. IfOk worked (λ receipts. IfOk ended (λ nodes. nodes.1.core.number ≤ nodes.0.core.connections
-        → HasSettled nodes.0 nodes.1 receipts.items report.confirmed report.unmarked))) }
-    ensures disks { IfOk result (λ report. IfOk ended (λ nodes. (report.disks.local ≡ nodes.0.disk) × (report.disks.peer ≡ nodes.1.disk) × IsTrue nodes.0.faithful)) }
+    ensures confirmed { IfOk result (λ report. IfOk worked (λ receipts. IsNumber (λ n. n.confirmed) primary secondary receipts.items report.confirmed)) }
+    ensures unmarked { IfOk result (λ report. IfOk worked (λ receipts. IsNumber (λ n. n.unmarked) primary secondary receipts.items report.unmarked)) }
+    ensures rest { IfOk result (λ report. IfOk worked (λ receipts. AreAtRest primary secondary receipts.items)) }
+    ensures settles { IfOk result (λ report. IfOk worked (λ receipts. secondary.core.number ≤ primary.core.connections
+        → HasSettled primary secondary receipts.items report.confirmed report.unmarked)) }
+    ensures disks { IfOk result (λ report. (report.disks.local ≡ primary.disk) × (report.disks.peer ≡ secondary.disk) × IsTrue primary.faithful) }
 {
-    let (mut primary, mut secondary) = match ended {
-        Ok(nodes) => nodes,
-        Err(refusal) => return Err(worked.err().unwrap_or(refusal)),
-    };
+    let mut primary = primary;
+    let mut secondary = secondary;
     let settled = settled_by(&mut primary, &mut secondary, worked);
     let status = status(options, &primary, &secondary);
     let disks = PerDisk {

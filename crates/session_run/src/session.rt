@@ -1,7 +1,6 @@
 //! A session over a link in this process, from its start to its settlement.
-ghost use Rattle.session_run.specs.Plan.{AreOfPlan};
-ghost use Rattle.session_nodes.specs.Primaries.{HasAccepted};
-ghost use Rattle.std.specs.Prelude.{◌≡◌, ◌*◌, ◌<◌, Some, slice_get, vec_len, IfOk};
+ghost use Rattle.session_run.specs.Plan.{AreWriters};
+ghost use Rattle.std.specs.Prelude.{◌≡◌, ◌*◌, ◌<◌, slice_get, vec_len, IfOk};
 ghost use Rattle.thread_link.specs.Names as names;
 ghost use Rattle.session_run.specs.Outcome.{IsLinked, IsRun};
 ghost use Rattle.settlement.specs.Settled.{WasHonest};
@@ -11,16 +10,18 @@ ghost use Rattle.volume.specs.Opening.{opening_of};
 use crate::parts::{Disks, parts};
 use crate::report::{RunReport, conclude};
 use crate::workers::work;
+use crate::written::{Written, gather};
 use blocks::{MemStore, Refusal};
+use ghost_log::Blank;
 use image_store::PerDisk;
 use metadata::StableFile;
-use primary::Receipt;
 use program_values::RunOptions;
 use std::alloc::Global;
 use std::io::Write;
 use std::marker::Brand;
 use thread_link::{RuledIn, RuledOut, ruled};
-use volume::{Linked, Runtime, Session, SessionStart, SharedLinkSession};
+use told::Callers;
+use volume::{Began, Linked, Runtime, Session, SessionStart, SharedLinkSession};
 
 /// Runs a session over the images of two disks: starts it, makes all writes while the link is cut, ends it, and
 /// settles. Reports on `err` what the options ask for.
@@ -40,7 +41,8 @@ pub(crate) fn run_session<R: Runtime, E: Write + Send>(
     let (parts, disks) = parts(alloc, options, images)?;
     let there = ruled(rt, alloc, parts.settings.link)?;
     let back = ruled(rt, alloc, parts.settings.link)?;
-    run_named::<Brand, R, E>(rt, alloc, options, there, back, disks, parts, err)
+    let blank = Blank::new();
+    run_named::<Brand, R, E>(rt, alloc, options, there, back, disks, parts, blank, err)
 }
 
 // Uses the session, from its start to its end, in one function over its name, which the caller picks.
@@ -52,22 +54,33 @@ fn run_named<L: Linked + Send + Sync + 'static, R: Runtime, E: Write + Send>(
     back: (RuledOut<R>, RuledIn<R>),
     disks: Disks,
     parts: SessionStart,
+    blank: Blank,
     err: &mut E,
 ) -> Result<RunReport, Refusal>
     requires blocks { 0 < options.now.blocks }
     requires there { AreEndsOf L.link names.There there }
     requires back { AreEndsOf L.link names.Back back }
     requires opening { L.opening ≡ opening_of parts (slice_get disks.local) (slice_get disks.peer) }
+    requires log { blank.name ≡ L.log }
     requires honest { WasHonest L.opening }
     requires unparted { L.opening.own.bitmap ≡ 0 }
     ensures completed { IfOk result (λ report. report.completed ≡ options.now.writers * options.now.writes) }
     ensures outcome { IfOk result (IsLinked options.now L.opening) }
 {
     let PerDisk { local, peer } = disks;
-    match Session::<R, L, MemStore, MemStore>::start(rt, alloc, there, back, local, peer, parts) {
+    match Session::<R, L, MemStore, MemStore>::start(
+        rt, alloc, there, back, local, peer, parts, blank,
+    ) {
         Ok(session) => {
-            let worked = work_over(&rt, alloc, session.mirror(), options, err);
-            conclude(options, worked, session.finish())
+            let callers = session.callers();
+            let worked = work_over(&rt, alloc, session.mirror(), callers, options, err);
+            match session.finish() {
+                Ok((primary, secondary, log)) => {
+                    let receipts = gather(alloc, options, log, worked);
+                    conclude(options, receipts, primary, secondary)
+                }
+                Err(refusal) => Err(worked.err().unwrap_or(refusal)),
+            }
         }
         Err(refusal) => Err(refusal),
     }
@@ -84,12 +97,13 @@ fn work_over<
     rt: &R,
     alloc: Global,
     mirror: &SharedLinkSession<R, L, MemStore, MemStore, F, G>,
+    callers: &Callers<Began<L>>,
     options: &RunOptions,
     err: &mut E,
-) -> Result<Vec<Receipt>, Refusal>
+) -> Result<Vec<Written<Began<L>>>, Refusal>
     requires { 0 < options.now.blocks }
-    ensures count { IfOk result (λ receipts. vec_len receipts ≡ options.now.writers * options.now.writes) }
-    ensures plan { IfOk result (λ receipts. AreOfPlan (HasAccepted (Some L.opening)) options.now receipts.items) }
+    ensures count { IfOk result (λ written. vec_len written ≡ options.now.writers) }
+    ensures writers { IfOk result (λ written. AreWriters options.now written.items) }
 {
-    work(rt, alloc, mirror, options, err)
+    work(rt, alloc, mirror, callers, options, err)
 }

@@ -1,6 +1,5 @@
 //! A session over two sockets of this machine, from its start to its settlement.
-ghost use Rattle.session_run.specs.Plan.{AreOfPlan};
-ghost use Rattle.session_nodes.specs.Primaries.{HasAccepted};
+ghost use Rattle.session_run.specs.Plan.{AreWriters};
 ghost use Rattle.std.specs.Prelude.{◌≡◌, ◌*◌, ◌<◌, Some, slice_get, vec_len, IfOk};
 ghost use Rattle.program_values.specs.declared.run_options.Path.TheVariants as path;
 ghost use Rattle.session_run.specs.Outcome.{IsOutcome, IsRun};
@@ -10,11 +9,12 @@ ghost use Rattle.volume.specs.Opening.{opening_of};
 use crate::parts::{Disks, parts};
 use crate::report::{RunReport, conclude};
 use crate::workers::work;
+use crate::written::{Written, gather};
 use blocks::{MemStore, Refusal};
+use ghost_log::Blank;
 use image_store::PerDisk;
 use locked_halves::{LockedPrimary, LockedSecondary};
 use metadata::StableFile;
-use primary::Receipt;
 use program_values::RunOptions;
 use session_threads::SharedSession;
 use std::alloc::Global;
@@ -22,6 +22,7 @@ use std::io::Write;
 use std::marker::Brand;
 use stream_session::{Beginning, Socket, StreamSession, Ways};
 use thread_link::{RuledIn, RuledOut};
+use told::Callers;
 use volume::{Runtime, SessionStart};
 
 /// Runs a session over the images of two disks and these sockets: starts it, makes all writes, ends it, and settles.
@@ -42,7 +43,8 @@ pub(crate) fn run_over<R: Runtime, E: Write + Send>(
     ensures outcome { IfOk result (IsRun options.now images.local.items images.peer.items) }
 {
     let (parts, disks) = parts(alloc, options, images)?;
-    run_begun::<Brand, R, E>(rt, alloc, options, ways, disks, parts, err)
+    let blank = Blank::new();
+    run_begun::<Brand, R, E>(rt, alloc, options, ways, disks, parts, blank, err)
 }
 
 // Uses the session, from its start to its end, in one function over its beginning, which the caller picks.
@@ -53,10 +55,12 @@ fn run_begun<B: Beginning + Send + Sync + 'static, R: Runtime, E: Write + Send>(
     ways: Ways<Socket, Socket>,
     disks: Disks,
     parts: SessionStart,
+    blank: Blank,
     err: &mut E,
 ) -> Result<RunReport, Refusal>
     requires blocks { 0 < options.now.blocks }
     requires opening { B.opening ≡ Some (opening_of parts (slice_get disks.local) (slice_get disks.peer)) }
+    requires log { blank.name ≡ B.name }
     requires honest { WasHonest (opening_of parts (slice_get disks.local) (slice_get disks.peer)) }
     requires unparted { parts.own.bitmap ≡ 0 }
     ensures completed { IfOk result (λ report. report.completed ≡ options.now.writers * options.now.writes) }
@@ -64,11 +68,18 @@ fn run_begun<B: Beginning + Send + Sync + 'static, R: Runtime, E: Write + Send>(
 {
     let PerDisk { local, peer } = disks;
     match StreamSession::<R, B, MemStore, MemStore>::start_over(
-        rt, alloc, local, peer, parts, ways,
+        rt, alloc, local, peer, parts, ways, blank,
     ) {
         Ok(session) => {
-            let worked = work_over(&rt, alloc, session.mirror(), options, err);
-            conclude(options, worked, session.finish())
+            let callers = session.callers();
+            let worked = work_over(&rt, alloc, session.mirror(), callers, options, err);
+            match session.finish() {
+                Ok((primary, secondary, log)) => {
+                    let receipts = gather(alloc, options, log, worked);
+                    conclude(options, receipts, primary, secondary)
+                }
+                Err(refusal) => Err(worked.err().unwrap_or(refusal)),
+            }
         }
         Err(refusal) => Err(refusal),
     }
@@ -92,12 +103,13 @@ fn work_over<
     rt: &R,
     alloc: Global,
     mirror: &FiledSession<R, B, F, G>,
+    callers: &Callers<B>,
     options: &RunOptions,
     err: &mut E,
-) -> Result<Vec<Receipt>, Refusal>
+) -> Result<Vec<Written<B>>, Refusal>
     requires { 0 < options.now.blocks }
-    ensures count { IfOk result (λ receipts. vec_len receipts ≡ options.now.writers * options.now.writes) }
-    ensures plan { IfOk result (λ receipts. AreOfPlan (HasAccepted B.opening) options.now receipts.items) }
+    ensures count { IfOk result (λ written. vec_len written ≡ options.now.writers) }
+    ensures writers { IfOk result (λ written. AreWriters options.now written.items) }
 {
-    work(rt, alloc, mirror, options, err)
+    work(rt, alloc, mirror, callers, options, err)
 }

@@ -1,12 +1,13 @@
 //! The threads of a run: those that write, the one that cuts the link, and the one that reports.
-ghost use Rattle.std.specs.Prelude.{◌≡◌, ◌*◌, ◌<◌, ◌^◌, vec_len, IfOk};
+ghost use Rattle.std.specs.Prelude.{◌≡◌, ◌<◌, ◌^◌, vec_len, IfOk};
 ghost use Rattle.std.specs.Thread.{IsSend, IsSync};
-ghost use Rattle.session_run.specs.Plan.{AreOfPlan, AreOfWriter};
+ghost use Rattle.session_run.specs.Plan.{AreWriters, IsWriter};
 
 use crate::progress::{Progress, report};
+use crate::written::Written;
 use blocks::{BLOCK_BYTES, ConnectionWords, Refusal};
 use bytes::Bytes;
-use primary::Receipt;
+use ghost_log::LogName;
 use program_values::{RunOptions, byte_of_turn, reconnect_words};
 use session_api::{Device, Runtime};
 use std::alloc::Global;
@@ -14,35 +15,42 @@ use std::io::Write;
 use std::sync::Wait;
 use std::thread;
 use std::time::{Clock, Duration};
+use told::{Caller, Callers};
 
 /// How long a thread waits between two cuts, and before it asks the session again, in milliseconds.
 const PAUSE_MS: u64 = 1;
 
-/// Makes all writes of a run over a device while its link is cut, reports on `err` what the options ask for, and
-/// returns the receipts of all writes once the disks are alike or the link is down. If writers are refused, returns the
+/// Makes all writes of a run over a device while its link is cut, each writer as a caller of its own, reports on `err` what the options
+/// ask for, and returns what each writer has done once the disks are alike or the link is down. If writers are refused, returns the
 /// refusal of the first of them; every other writer still makes its writes. The device must have blocks.
-pub(crate) fn work<R: Runtime, D: Device + Sync, E: Write + Send>(
+pub(crate) fn work<
+    R: Runtime,
+    N: LogName + Send + Sync,
+    D: Device<Name = N> + Sync,
+    E: Write + Send,
+>(
     rt: &R,
     alloc: Global,
     device: &D,
+    callers: &Callers<N>,
     options: &RunOptions,
     err: &mut E,
-) -> Result<Vec<Receipt>, Refusal>
+) -> Result<Vec<Written<N>>, Refusal>
     requires { 0 < options.now.blocks }
-    ensures count { IfOk result (λ receipts. vec_len receipts ≡ options.now.writers * options.now.writes) }
-    ensures plan { IfOk result (λ receipts. AreOfPlan D.accepts options.now receipts.items) }
+    ensures count { IfOk result (λ written. vec_len written ≡ options.now.writers) }
+    ensures writers { IfOk result (λ written. AreWriters options.now written.items) }
 {
     let progress = Progress::new();
     if !options.live.status && !options.live.progress {
-        return write_and_cut(rt, alloc, device, options, &progress);
+        return write_and_cut(rt, alloc, device, callers, options, &progress);
     }
     let (_, worked) = thread::join(
         rt,
         || { report(rt, device, options, &progress, err) },
-        || -> Result<Vec<Receipt>, Refusal>
+        || -> Result<Vec<Written<N>>, Refusal>
             requires { IsSend R.row × IsSync R.row × IsSync D.row × (0 < options.now.blocks) }
         {
-            let worked = write_and_cut(rt, alloc, device, options, &progress);
+            let worked = write_and_cut(rt, alloc, device, callers, options, &progress);
             progress.end(rt);
             worked
         },
@@ -51,28 +59,29 @@ pub(crate) fn work<R: Runtime, D: Device + Sync, E: Write + Send>(
 }
 
 // Makes all writes while the link is cut, and then waits until the disks are alike, if the link is up.
-fn write_and_cut<R: Runtime, D: Device + Sync>(
+fn write_and_cut<R: Runtime, N: LogName + Send + Sync, D: Device<Name = N> + Sync>(
     rt: &R,
     alloc: Global,
     device: &D,
+    callers: &Callers<N>,
     options: &RunOptions,
     progress: &Progress,
-) -> Result<Vec<Receipt>, Refusal>
+) -> Result<Vec<Written<N>>, Refusal>
     requires { 0 < options.now.blocks }
-    ensures count { IfOk result (λ receipts. vec_len receipts ≡ options.now.writers * options.now.writes) }
-    ensures plan { IfOk result (λ receipts. AreOfPlan D.accepts options.now receipts.items) }
+    ensures count { IfOk result (λ written. vec_len written ≡ options.now.writers) }
+    ensures writers { IfOk result (λ written. AreWriters options.now written.items) }
 {
     let (cut, written) = thread::join(
         rt,
         || -> Result<(), Refusal> { cut_all(rt, device, options.cuts) },
-        || -> Result<Vec<Receipt>, Refusal>
+        || -> Result<Vec<Written<N>>, Refusal>
             requires { IsSend R.row × IsSync R.row × IsSync D.row × (0 < options.now.blocks) }
-        { write_all(rt, alloc, device, options, progress) },
+        { write_all(rt, alloc, device, callers, options, progress) },
     );
     rest(rt, device);
-    let receipts = written?;
+    let written = written?;
     cut?;
-    Ok(receipts)
+    Ok(written)
 }
 
 // Waits until the link has nothing more to do.
@@ -85,53 +94,64 @@ fn rest<R: Wait + Clock>(rt: &R, device: &impl Device) {
     }
 }
 
-// Makes the writes of each writer in a thread of its own, and gathers the receipts.
-fn write_all<R: Runtime, D: Device + Sync>(
+// Makes the writes of each writer in a thread of its own, as a new caller. Returns what each has done, one writer after another.
+fn write_all<R: Runtime, N: LogName + Send + Sync, D: Device<Name = N> + Sync>(
     rt: &R,
     alloc: Global,
     device: &D,
+    callers: &Callers<N>,
     options: &RunOptions,
     progress: &Progress,
-) -> Result<Vec<Receipt>, Refusal>
+) -> Result<Vec<Written<N>>, Refusal>
     requires { 0 < options.now.blocks }
-    ensures count { IfOk result (λ receipts. vec_len receipts ≡ options.now.writers * options.now.writes) }
-    ensures plan { IfOk result (λ receipts. AreOfPlan D.accepts options.now receipts.items) }
+    ensures count { IfOk result (λ written. vec_len written ≡ options.now.writers) }
+    ensures writers { IfOk result (λ written. AreWriters options.now written.items) }
 {
-    let written = thread::map_indices(
+    let results = thread::map_indices(
         rt,
         alloc,
         options.writers as usize,
-        &|writer| -> Result<Vec<Receipt>, Refusal>
+        &|writer| -> Result<Written<N>, Refusal>
             requires { (0 < options.now.blocks) × (writer < 2 ^ 32) }
-            ensures { IfOk result (λ receipts. (vec_len receipts ≡ options.entry.now.writes) × AreOfWriter D.accepts options.entry.now writer receipts.items) }
-        { write_turns(alloc, device, options, writer as u32, progress) },
+            ensures { IfOk result (IsWriter options.entry.now writer) }
+        {
+            write_turns(
+                alloc,
+                device,
+                callers.caller(),
+                options,
+                writer as u32,
+                progress,
+            )
+        },
     )?;
-    let mut all = Vec::new(alloc);
-    for receipts in written {
-        all.append(&mut receipts?)?;
+    let mut all = Vec::with_capacity(alloc, results.len())?;
+    for written in results {
+        all.push(written?)?;
     }
     Ok(all)
 }
 
-// Makes the writes of one writer, one after another. Returns their receipts in this order.
+// Makes the writes of one writer, one after another, as this caller. Returns their receipts in this order, and the caller.
 fn write_turns<D: Device>(
     alloc: Global,
     device: &D,
+    caller: Caller<D::Name>,
     options: &RunOptions,
     writer: u32,
     progress: &Progress,
-) -> Result<Vec<Receipt>, Refusal>
+) -> Result<Written<D::Name>, Refusal>
     requires { 0 < options.now.blocks }
-    ensures count { IfOk result (λ receipts. vec_len receipts ≡ options.now.writes) }
-    ensures plan { IfOk result (λ receipts. AreOfWriter D.accepts options.now writer receipts.items) }
+    ensures { IfOk result (IsWriter options.now writer) }
 {
+    let mut me = caller;
     let mut receipts = Vec::with_capacity(alloc, options.writes as usize)?;
     for turn in 0..options.writes {
         let bytes = Bytes::copy_from_slice(alloc, &[byte_of_turn(writer, turn); BLOCK_BYTES])?;
-        receipts.push(device.write(options.block(writer, turn), &bytes)?)?;
+        receipts.push(device.write(&mut me, options.block(writer, turn), &bytes)?)?;
         progress.count();
     }
-    Ok(receipts)
+    Ok(Written { receipts, me })
 }
 
 // Cuts the link and reconnects it, `cuts` times.

@@ -41,7 +41,7 @@ pub struct Rows<R: Wait + Drop> {
 }
 
 /// Creates the two rows of a half, and returns the node's ends and the pumps'. Each row has room for exactly `link` of the
-/// longest frames, of 94 pieces each (`room`). `NoMemory` (7) if there is no memory for them, and no other refusal.
+/// longest frames, of 31 pieces each (`room`). `NoMemory` (7) if there is no memory for them, and no other refusal.
 pub fn half_rows<R: Wait + Copy + Drop>(
     rt: R,
     alloc: Global,

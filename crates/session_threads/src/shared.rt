@@ -1,5 +1,6 @@
 //! The state that both halves of a running session share, and the loop of each thread.
 use session_api::{PrimaryHalf, PrimaryRole, SecondaryHalf, SecondaryRole, Turn};
+use std::mem;
 use std::sync::atomic::{AtomicBool, AtomicU32, Ordering};
 use std::sync::{Mutex, Wait};
 use std::time::Clock;
@@ -30,6 +31,8 @@ pub(crate) struct Shared<R: Wait, A: PrimaryHalf, B: SecondaryHalf> {
     begun: AtomicU32,
     // Whether the primary pushed a frame for which no thread of the secondary was woken: the thread that waits for the write takes it.
     is_unrung: AtomicBool,
+    // Whether a thread of the primary does the peer's turns too, as for a copy: then no other thread needs to look unless it is rung for.
+    is_driven: AtomicBool,
 }
 
 impl<R: Wait, A: PrimaryHalf, B: SecondaryHalf> Shared<R, A, B> {
@@ -44,6 +47,7 @@ impl<R: Wait, A: PrimaryHalf, B: SecondaryHalf> Shared<R, A, B> {
             stop: AtomicBool::new(false),
             begun: AtomicU32::new(0),
             is_unrung: AtomicBool::new(false),
+            is_driven: AtomicBool::new(false),
         }
     }
 
@@ -133,11 +137,36 @@ impl<R: Wait, A: PrimaryHalf, B: SecondaryHalf> Shared<R, A, B> {
         if turn.pushed {
             self.ring_for_push();
         }
+        self.close_secondary(turn);
+        turn
+    }
+
+    // Does a turn at the primary for a thread of its own, and over a link the peer's turn for what that pushed. From then on the thread drives
+    // both nodes, until there is nothing to do: a block of a copy goes to the peer's disk and is acknowledged with no other thread to wake.
+    // Returns whether it did something.
+    fn drive(&self, role: PrimaryRole, drives: &mut bool) -> bool {
+        let turn = self.primary.turn(role);
+        self.close_secondary(turn);
+        if turn.pushed {
+            self.is_unrung.store(true, Ordering::SeqCst);
+            *drives |= !self.is_driven.swap(true, Ordering::SeqCst);
+        }
+        let has_helped = (turn.pushed || *drives) && self.help_secondary();
+        let worked = turn.worked || has_helped;
+        if *drives && !worked {
+            *drives = false;
+            self.is_driven.store(false, Ordering::SeqCst);
+            self.ring_if_unrung();
+        }
+        worked
+    }
+
+    // Closes the secondary's end if the connection closed in a turn at the primary.
+    fn close_secondary(&self, turn: Turn) {
         if let Some(connection) = turn.closed {
             let _connecting = self.connecting.lock(&self.rt);
             self.secondary.close_lost(connection);
         }
-        turn
     }
 
     /// Does a turn at the secondary. Wakes a thread for the frames that it pushed, and closes the primary's end if the
@@ -169,17 +198,28 @@ impl<R: Wait, A: PrimaryHalf, B: SecondaryHalf> Shared<R, A, B> {
 impl<R: Wait + Clock, A: PrimaryHalf, B: SecondaryHalf> Shared<R, A, B> {
     /// Runs the loop of a thread of the primary's half.
     pub(crate) fn work_primary(&self, role: PrimaryRole) {
-        self.primary.work_bell().watch();
+        let bell = self.primary.work_bell();
+        bell.watch();
         let mut looks = 0u32;
+        let mut seen = bell.rings();
+        let mut drives = false;
         for _ in self.rt.forever() {
             if self.is_over() {
                 break;
             }
-            let rings = self.primary.work_bell().rings();
-            if self.turn_primary(role).worked {
+            let rings = bell.rings();
+            let is_rung = rings != mem::replace(&mut seen, rings);
+            let worked = match self.transport {
+                Transport::Link => {
+                    let looks_on = drives || looks == 0;
+                    (looks_on || self.needs_looking(is_rung)) && self.drive(role, &mut drives)
+                }
+                Transport::Streams => self.turn_primary(role).worked,
+            };
+            if worked {
                 looks = 0;
             } else {
-                self.primary.work_bell().wait(&self.rt, rings, looks);
+                bell.wait(&self.rt, rings, looks);
                 looks = looks.saturating_add(1);
             }
         }
@@ -187,20 +227,29 @@ impl<R: Wait + Clock, A: PrimaryHalf, B: SecondaryHalf> Shared<R, A, B> {
 
     /// Runs the loop of a thread of the secondary's half.
     pub(crate) fn work_secondary(&self, role: SecondaryRole) {
-        self.secondary.work_bell().watch();
+        let bell = self.secondary.work_bell();
+        bell.watch();
         let mut looks = 0u32;
+        let mut seen = bell.rings();
         for _ in self.rt.forever() {
             if self.is_over() {
                 break;
             }
-            let rings = self.secondary.work_bell().rings();
-            if self.turn_secondary(role).worked {
+            let rings = bell.rings();
+            let is_rung = rings != mem::replace(&mut seen, rings);
+            let needs_looking = looks == 0 || self.needs_looking(is_rung);
+            if needs_looking && self.turn_secondary(role).worked {
                 looks = 0;
             } else {
-                self.secondary.work_bell().wait(&self.rt, rings, looks);
+                bell.wait(&self.rt, rings, looks);
                 looks = looks.saturating_add(1);
             }
         }
+    }
+
+    // Whether a thread looks for something to do: unless another one drives both nodes and nobody has rung.
+    fn needs_looking(&self, is_rung: bool) -> bool {
+        is_rung || !self.is_driven.load(Ordering::SeqCst)
     }
 
     /// Lets both disks finish all pending work, while both ends are closed.

@@ -7,3 +7,4 @@ pub mod Sized
 pub mod Leaving
 pub mod Alike
 pub mod Handing
+pub mod Every

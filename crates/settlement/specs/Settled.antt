@@ -7,6 +7,7 @@ use Rattle.model.specs.Secondary.{SecondaryHistory, secondary_connection}
 use Rattle.model.specs.Headline.{IsHonest, opening_marked}
 use Rattle.model.specs.Settlement.{Receipt, Settlement, receipt_of}
 use Rattle.model.specs.Theorems.{Opening, marks_at}
+use Rattle.primary_protocol.specs.Core.{Completed, Failed, JournalEntry, Open}
 use Rattle.settlement.specs.declared.settlement.Confirmed.{Confirmed}
 use Rattle.settlement.specs.declared.settlement.Settled.{Settled}
 
@@ -52,3 +53,12 @@ pub record AreEntries (p : PrimaryHistory) (receipts : List Receipt) : Type 0 wh
   pub each : (i : ℕ) (receipt : Receipt) → slice_get receipts i ≡ Some receipt
       → (n : ℕ) × (entry : Completion) × (slice_get p.journal n ≡ Some entry) × (receipt ≡ receipt_of entry)
   pub once : (i j : ℕ) (receipt : Receipt) → slice_get receipts i ≡ Some receipt → slice_get receipts j ≡ Some receipt → i ≡ j
+
+-- what became of an accepted write is that it was completed
+abbrev pub is_completed : JournalEntry → Bool
+is_completed entry = elim entry.fate [ Open ↦ false | Failed ↦ false | Completed linked home ↦ true ]
+
+-- Each entry of the journal has its receipt among these, by its number.
+abbrev pub AreAll : PrimaryHistory → List Receipt → Type 0
+AreAll p receipts = (n : ℕ) (entry : Completion) → slice_get p.journal n ≡ Some entry
+    → (i : ℕ) × (receipt : Receipt) × (slice_get receipts i ≡ Some receipt) × (receipt.number ≡ entry.write.number)

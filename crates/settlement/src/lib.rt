@@ -11,4 +11,4 @@ mod settlement;
 
 pub use law::what_is_left;
 pub use parts::parts_after;
-pub use settlement::{Confirmed, Settled, confirm, is_at_rest, settle};
+pub use settlement::{Confirmed, Settled, confirm, confirm_all, is_at_rest, settle};

@@ -1,5 +1,5 @@
 //! The settlement of two nodes.
-ghost use Rattle.std.specs.Prelude.{◌≡◌, ◌⊎◌, ◌<◌, ◌≤◌, false, length, true, IsTrue, Err, IfOk, OnOk};
+ghost use Rattle.std.specs.Prelude.{◌≡◌, ◌⊎◌, ◌<◌, ◌≤◌, count_by, false, length, true, IsTrue, Err, IfOk, OnOk};
 ghost use Rattle.blocks.specs.declared.refusal.Refusal.TheVariants.{ReadFault};
 ghost use Rattle.model.specs.Headline.{IsJoined};
 ghost use Rattle.model.specs.Primary.{PrimaryHistory};
@@ -11,12 +11,12 @@ ghost use Rattle.primary.specs.State.{node as primary_node};
 ghost use Rattle.primary_protocol.specs.Node.{NodeHas as PrimaryHas};
 ghost use Rattle.secondary.specs.State.{node as secondary_node};
 ghost use Rattle.secondary_protocol.specs.Node.{NodeHas as SecondaryHas};
-ghost use Rattle.settlement.specs.Settled.{AreEntries, WereHonest, compared, is_read_fault, kept, numbers, settled, with_unmarked};
+ghost use Rattle.settlement.specs.Settled.{AreAll, AreEntries, WereHonest, compared, is_completed, is_read_fault, kept, numbers, settled, with_unmarked};
 
 use crate::compare::unmarked;
 use blocks::{Refusal, Store};
 use link::{FrameIn, FrameOut};
-use primary::{Primary, Receipt};
+use primary::{Fate, JournalEntry, Primary, Receipt};
 use secondary::Secondary;
 
 /// The counts of two nodes at rest.
@@ -170,6 +170,58 @@ pub fn confirm<
         applied,
         confirmed,
     })
+}
+
+/// Compares the callers' receipts of two nodes at rest with the journal, as `confirm` does, and asks for all of them: also returns
+/// `StrangeReceipt` (19) if a completed write has no receipt among these. So they are all that the session gave, each once, and no
+/// completed write is left out of what is settled.
+pub fn confirm_all<
+    O: FrameOut + Drop,
+    I: FrameIn + Drop,
+    S: Store + Drop,
+    P: FrameOut + Drop,
+    J: FrameIn + Drop,
+    T: Store + Drop,
+>(
+    primary: &mut Primary<O, I, S>,
+    secondary: &Secondary<P, J, T>,
+    receipts: &[Receipt],
+) -> Result<Confirmed, Refusal>
+    ensures same { primary.new ≡ primary.old }
+    ensures settles { secondary.now.core.number ≤ primary.old.core.connections
+        → IfOk result (λ n. (p : PrimaryHistory) (s : SecondaryHistory) → PrimaryHas (primary_node primary.old) p → SecondaryHas (secondary_node secondary.now) s
+        → IsJoined p s → WereHonest p s → Settles p s receipts.now (with_unmarked (unmarked_differences p s) n)) }
+    ensures anyhow { secondary.now.core.number ≤ primary.old.core.connections
+        → IfOk result (λ n. (p : PrimaryHistory) (s : SecondaryHistory) → PrimaryHas (primary_node primary.old) p → SecondaryHas (secondary_node secondary.now) s
+        → IsJoined p s → SettlesAnyhow p s receipts.now (with_unmarked (unmarked_differences p s) n)) }
+    ensures entries { OnOk result ((p : PrimaryHistory) → PrimaryHas (primary_node primary.old) p → AreEntries p receipts.now) }
+    ensures all { OnOk result ((p : PrimaryHistory) → PrimaryHas (primary_node primary.old) p → AreAll p receipts.now) }
+{
+    let confirmed = confirm(primary, secondary, receipts)?;
+    if completed_writes(primary) != receipts.len() {
+        return Err(Refusal::StrangeReceipt);
+    }
+    Ok(confirmed)
+}
+
+// Returns how many writes were completed.
+fn completed_writes<O: FrameOut + Drop, I: FrameIn + Drop, S: Store + Drop>(
+    primary: &Primary<O, I, S>,
+) -> usize
+    ensures { result ≡ count_by is_completed primary.now.core.entries }
+{
+    primary
+        .journal()
+        .iter()
+        .filter(|entry| is_completed(entry))
+        .count()
+}
+
+// Returns whether a write was completed.
+fn is_completed(entry: &JournalEntry) -> bool
+    ensures { result ≡ is_completed entry.now }
+{
+    matches!(entry.fate(), Fate::Completed { .. })
 }
 
 /// Returns whether two nodes are at rest: both ends are closed, nothing is pending at the secondary, and the primary's

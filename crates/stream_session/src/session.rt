@@ -1,5 +1,5 @@
 //! A session whose frames go over streams of bytes, such as sockets.
-ghost use Rattle.std.specs.Prelude.{◌≡◌, ◌<◌, ◌≤◌, ◌⊎◌, ◌*◌, true, false, Err, length, slice_get, unwrap_or, vec_len, IfErr, IfOk, IfSome, IsTrue};
+ghost use Rattle.std.specs.Prelude.{◌≡◌, ◌<◌, ◌≤◌, ◌⊎◌, ◌*◌, ◌∷◌, ◌++◌, [], List, true, false, Err, length, slice_get, unwrap_or, vec_len, IfErr, IfOk, IfSome, OnErr};
 ghost use Rattle.blocks.specs.declared.block.TheConstants.{BLOCK_BYTES};
 ghost use Rattle.blocks.specs.declared.refusal.Refusal.TheVariants.{BadRange, NoMemory, NotConnected, NotDrained, ReadFault};
 ghost use Rattle.session_api.specs.Opening.{opening_of};
@@ -7,12 +7,17 @@ ghost use Rattle.model.specs.CallRefusals.{local_open_refuses, peer_open_refuses
 ghost use Rattle.model.specs.Primary.{primary_opening};
 ghost use Rattle.model.specs.Secondary.{secondary_opening};
 ghost use Rattle.model.specs.Theorems.{primary_at, secondary_at};
-ghost use Rattle.session_nodes.specs.Primaries.{HasAccepted, HasHeld, PrimaryIsHad};
+ghost use Rattle.session_nodes.specs.Primaries.{PrimaryIsHad};
 ghost use Rattle.session_nodes.specs.Secondaries.{SecondaryIsHad};
+ghost use Rattle.told.specs.Log.{Extends};
+ghost use Rattle.told.specs.declared.entry.Told.{Told};
+ghost use Rattle.told.specs.declared.entry.Told.TheVariants.{Accepted, Given, Held};
+ghost use Rattle.told_nodes.specs.Told.{IsTold};
 
 use bitmap::Bitmap;
 use blocks::{ConnectionWords, Refusal, Settings, Store, Tuple};
 use bytes::Bytes;
+use ghost_log::Blank;
 use kept_nodes::NoFile;
 use locked_halves::{LockedPrimary, LockedSecondary};
 use metadata::StableFile;
@@ -26,6 +31,7 @@ use std::alloc::Global;
 use std::sync::Wait;
 use std::thread::Threads;
 use thread_link::{RuledIn, RuledOut};
+use told::{Caller, Callers, ToldLog, open_log};
 
 // The primary's half of a session over streams, with a metadata file of type `F`.
 type FiledPrimary<R, B, S, F> = LockedPrimary<R, B, RuledOut<R>, RuledIn<R>, S, F>;
@@ -55,6 +61,7 @@ pub type StreamSecondary<R, T> = Secondary<RuledOut<R>, RuledIn<R>, T>;
 /// A running session over streams. It has one connection. It cannot be dropped: whoever starts it has to finish it.
 pub struct StreamSession<R: Threads + Wait + Drop, B: Beginning, S: Store + Drop, T: Store + Drop> {
     running: Running<R, LockedStreamPrimary<R, B, S>, LockedStreamSecondary<R, B, T>>,
+    callers: Callers<B>,
 }
 
 impl<
@@ -78,12 +85,15 @@ impl<
         peer: T,
         parts: SessionStart,
         ways: Ways<Way<W, D>, Way<V, E>>,
+        blank: Blank,
     ) -> Result<StreamSession<R, B, S, T>, Refusal>
         requires opening { IfSome B.opening (λ opening. opening ≡ opening_of parts (slice_get (S.contents local)) (slice_get (T.contents peer))) }
+        requires log { blank.name ≡ B.name }
         ensures refused { IfErr result (λ e. start_over_refuses e ≡ true) }
     {
         parts.settings.check()?;
         let settings = parts.settings;
+        let (log, callers) = open_log::<B>(blank);
         let (primary, primary_rows) = open_primary(
             rt,
             alloc,
@@ -92,6 +102,7 @@ impl<
             parts.own,
             parts.marks,
             parts.words,
+            log,
         )?;
         match open_secondary(rt, alloc, settings, peer, parts.peer) {
             Ok((secondary, secondary_rows)) => {
@@ -100,7 +111,7 @@ impl<
                     secondary: secondary_rows,
                 };
                 match run_over(rt, alloc, primary, secondary, rows, ways, parts.is_cut) {
-                    Ok(running) => Ok(StreamSession { running }),
+                    Ok(running) => Ok(StreamSession { running, callers }),
                     Err(refusal) => Err(refusal),
                 }
             }
@@ -147,14 +158,18 @@ fn open_primary<R: Wait + Copy + Drop, B: Beginning, S: Store + Drop>(
     tuple: Tuple,
     marks: Bitmap,
     words: ConnectionWords,
+    log: ToldLog<B>,
 ) -> Result<(LockedStreamPrimary<R, B, S>, PumpEnds<R>), Refusal>
     requires link { 0 < settings.link }
     requires began { IfSome B.opening (λ opening. primary_opening settings (slice_get (S.contents store)) tuple (λ block. unwrap_or (slice_get marks block) false)
         ≡ primary_at opening) }
+    requires log { log.log ≡ [] }
     ensures refused { IfErr result (λ e. local_open_refuses e ≡ true) }
 {
     let (ends, rows) = half_rows(rt, alloc, settings.link)?;
-    match LockedPrimary::open(rt, alloc, settings, store, tuple, marks, ends, words, None) {
+    match LockedPrimary::open(
+        rt, alloc, settings, store, tuple, marks, ends, words, None, log,
+    ) {
         Ok(half) => Ok((half, rows)),
         Err(refusal) => Err(refusal),
     }
@@ -185,26 +200,41 @@ impl<R: Runtime, B: Beginning, S: Store + Drop, T: Store + Drop> StreamSession<R
         self.running.mirror()
     }
 
+    /// Returns a new caller of the session, which was told nothing yet.
+    pub fn caller(&self) -> Caller<B>
+        ensures { result ≡ record { log = []; own = [] } }
+    {
+        self.callers.caller()
+    }
+
+    /// Returns the right to make callers of the session, which any number of threads may share.
+    pub fn callers(&self) -> &Callers<B> {
+        &self.callers
+    }
+
     /// Writes whole blocks from `first` on, and returns the receipt once the write is completed as the protocol says:
-    /// `Device::write` of the mirror, with its refusals, 1, 5 to 8, 12 and 16. A primary that began as the session did accepted
-    /// these bytes under the receipt's number.
-    pub fn write(&self, first: u64, bytes: &Bytes) -> Result<Receipt, Refusal>
+    /// `Device::write` of the mirror, with its refusals, 1, 5 to 8, 12 and 16. The caller is told that the primary accepted these bytes
+    /// under the receipt's number, and the receipt.
+    pub fn write(&self, me: &mut Caller<B>, first: u64, bytes: &Bytes) -> Result<Receipt, Refusal>
         ensures own { IfOk result (λ receipt. (receipt.first ≡ first) × (receipt.count * BLOCK_BYTES ≡ length bytes.now)) }
-        ensures accepted { IfOk result (λ receipt. HasAccepted B.opening receipt.number first bytes.now) }
+        ensures told { IfOk result (λ receipt. (between : List Told) × Extends me.old.log (Accepted receipt.number first bytes.now) between
+            × Extends between (Given receipt) me.new.log) }
+        ensures mine { IfOk result (λ receipt. me.new.own ≡ me.old.own ++ receipt.number ∷ []) }
         ensures refused { IfErr result (λ e. write_refuses e ≡ true) }
     {
-        self.running.mirror().write(first, bytes)
+        self.running.mirror().write(me, first, bytes)
     }
 
     /// Reads blocks of the local disk, 1 to 32 inside the device and inside one extent: `Device::read` of the mirror, with
-    /// its refusals. If reads of such a disk are always faithful, the disk of a primary that began as the session did held
-    /// these bytes there.
-    pub fn read(&self, first: u64, count: u64) -> Result<Vec<u8>, Refusal>
-        ensures held { IfOk result (λ bytes. ((store : S) → IsTrue (S.faithful store)) → HasHeld B.opening first count bytes.items) }
+    /// its refusals. The caller is told what the disk held there.
+    pub fn read(&self, me: &mut Caller<B>, first: u64, count: u64) -> Result<Vec<u8>, Refusal>
+        ensures told { IfOk result (λ bytes. Extends me.old.log (Held first count bytes.items) me.new.log) }
+        ensures mine { me.new.own ≡ me.old.own }
+        ensures untold { OnErr result (me.new ≡ me.old) }
         ensures length { IfOk result (λ bytes. vec_len bytes ≡ count * BLOCK_BYTES) }
         ensures refused { IfErr result (λ e. (e ≡ BadRange) ⊎ ((e ≡ NoMemory) ⊎ (e ≡ ReadFault))) }
     {
-        self.running.mirror().read(first, count)
+        self.running.mirror().read(me, first, count)
     }
 
     /// Closes both ends of the link: `Device::cut` of the mirror.
@@ -221,24 +251,26 @@ impl<R: Runtime, B: Beginning, S: Store + Drop, T: Store + Drop> StreamSession<R
     }
 
     /// Ends the session: closes both ends, lets the disks finish all pending work, stops the threads, and returns both
-    /// nodes. `NotDrained` (36) if a thread still shares a node.
+    /// nodes, and the log of what callers were told. `NotDrained` (36) if a thread still shares a node.
     ///
     /// Each node has a history that began as the session did, and whose connections all used its own ends. Whether what one took
     /// begins what the other pushed depends on the streams, and no contract can speak of them. No connection of the secondary has
     /// a number above the primary's last one; else 36 is returned, which no session brings about.
-    pub fn finish(self) -> Result<(StreamPrimary<R, S>, StreamSecondary<R, T>), Refusal>
+    pub fn finish(self) -> Result<(StreamPrimary<R, S>, StreamSecondary<R, T>, ToldLog<B>), Refusal>
+        ensures told { IfOk result (λ left. IsTold B.opening left.2.log left.0) }
         ensures had { IfOk result (λ nodes. PrimaryIsHad B.opening nodes.0 × SecondaryIsHad B.opening nodes.1) }
         ensures numbered { IfOk result (λ nodes. nodes.1.core.number ≤ nodes.0.core.connections) }
         ensures refused { IfErr result (λ e. e ≡ NotDrained) }
     {
-        let StreamSession { running } = self;
+        let StreamSession {
+            running,
+            callers: _,
+        } = self;
         let (locked_primary, locked_secondary) = running.finish()?;
-        let (primary, secondary) = (
-            locked_primary.into_parts().0,
-            locked_secondary.into_parts().0,
-        );
+        let (primary, _, log) = locked_primary.into_parts();
+        let secondary = locked_secondary.into_parts().0;
         match check_numbers(&primary, &secondary) {
-            Ok(()) => Ok((primary, secondary)),
+            Ok(()) => Ok((primary, secondary, log)),
             Err(refusal) => {
                 drop((primary.into_store(), secondary.into_store()));
                 Err(refusal)

@@ -1,5 +1,11 @@
 //! Tests of whole sessions, with bytes written out by hand from the protocol document.
-use nbd::{Connection, Errno, Export, NbdCommand, Reply, Request, RequestHeader};
+ghost use Rattle.std.specs.Prelude.{◌≤◌, length};
+ghost use Rattle.nbd.specs.Chunks.{rest_bytes};
+
+use device_parts::Part;
+use nbd::{
+    Body, Chunk, Connection, Errno, Export, NbdCommand, Pieces, Reply, Request, RequestHeader,
+};
 use std::alloc::{AllocError, Global};
 use std::process::Abort;
 
@@ -19,7 +25,7 @@ const GO: [u8; 28] = [
 const GO_ANSWER: [u8; 86] = [
     0x00, 0x03, 0xE8, 0x89, 0x04, 0x55, 0x65, 0xA9, 0, 0, 0, 7, 0, 0, 0, 3, 0, 0, 0, 12, 0, 0, 0,
     0, 0, 0, 0, 1, 0, 0, 0x09, 0x6D, 0x00, 0x03, 0xE8, 0x89, 0x04, 0x55, 0x65, 0xA9, 0, 0, 0, 7, 0,
-    0, 0, 3, 0, 0, 0, 14, 0, 3, 0, 0, 0x10, 0, 0, 0, 0x10, 0, 2, 0, 0, 0, 0x00, 0x03, 0xE8, 0x89,
+    0, 0, 3, 0, 0, 0, 14, 0, 3, 0, 0, 0, 1, 0, 0, 0x10, 0, 2, 0, 0, 0, 0x00, 0x03, 0xE8, 0x89,
     0x04, 0x55, 0x65, 0xA9, 0, 0, 0, 7, 0, 0, 0, 1, 0, 0, 0, 0,
 ];
 
@@ -60,6 +66,51 @@ const FAST_ZEROES: [u8; 28] = [
 
 const ZEROES: [u8; 28] = [
     0x25, 0x60, 0x95, 0x13, 0, 2, 0, 6, 0, 0, 0, 0, 0, 0, 0, 24, 0, 0, 0, 0, 0, 0, 0, 0, 0, 1, 0, 0,
+];
+
+/// A WRITE of the last byte of block 0 and the first two of block 1; its payload follows.
+const WRITE_OF_TWO_BLOCKS: [u8; 28] = [
+    0x25, 0x60, 0x95, 0x13, 0, 0, 0, 1, 0, 0, 0, 0, 0, 0, 0, 30, 0, 0, 0, 0, 0, 0, 0x0F, 0xFF, 0,
+    0, 0, 3,
+];
+
+/// A TRIM of block 1 and of half a block before and after it.
+const TRIM_OF_PARTS: [u8; 28] = [
+    0x25, 0x60, 0x95, 0x13, 0, 0, 0, 4, 0, 0, 0, 0, 0, 0, 0, 31, 0, 0, 0, 0, 0, 0, 0x08, 0, 0, 0,
+    0x20, 0,
+];
+
+/// STRUCTURED_REPLY, and its acknowledgement.
+const STRUCTURED: [u8; 16] = [
+    0x49, 0x48, 0x41, 0x56, 0x45, 0x4F, 0x50, 0x54, 0, 0, 0, 8, 0, 0, 0, 0,
+];
+
+const STRUCTURED_ANSWER: [u8; 20] = [
+    0x00, 0x03, 0xE8, 0x89, 0x04, 0x55, 0x65, 0xA9, 0, 0, 0, 8, 0, 0, 0, 1, 0, 0, 0, 0,
+];
+
+/// SET_META_CONTEXT for the export `disk` with the query `base:allocation`.
+const SET_CONTEXT: [u8; 47] = [
+    0x49, 0x48, 0x41, 0x56, 0x45, 0x4F, 0x50, 0x54, 0, 0, 0, 10, 0, 0, 0, 31, 0, 0, 0, 4, b'd',
+    b'i', b's', b'k', 0, 0, 0, 1, 0, 0, 0, 15, b'b', b'a', b's', b'e', b':', b'a', b'l', b'l',
+    b'o', b'c', b'a', b't', b'i', b'o', b'n',
+];
+
+/// The answer to it where replies are structured: the context 1, and an acknowledgement.
+const SET_ANSWER: [u8; 59] = [
+    0x00, 0x03, 0xE8, 0x89, 0x04, 0x55, 0x65, 0xA9, 0, 0, 0, 10, 0, 0, 0, 4, 0, 0, 0, 19, 0, 0, 0,
+    1, b'b', b'a', b's', b'e', b':', b'a', b'l', b'l', b'o', b'c', b'a', b't', b'i', b'o', b'n',
+    0x00, 0x03, 0xE8, 0x89, 0x04, 0x55, 0x65, 0xA9, 0, 0, 0, 10, 0, 0, 0, 1, 0, 0, 0, 0,
+];
+
+/// The answer to it where they are not: ERR_INVALID.
+const SET_REFUSED: [u8; 20] = [
+    0x00, 0x03, 0xE8, 0x89, 0x04, 0x55, 0x65, 0xA9, 0, 0, 0, 10, 0x80, 0, 0, 3, 0, 0, 0, 0,
+];
+
+/// A BLOCK_STATUS with REQ_ONE of the whole device.
+const STATUS: [u8; 28] = [
+    0x25, 0x60, 0x95, 0x13, 0, 8, 0, 7, 0, 0, 0, 0, 0, 0, 0, 32, 0, 0, 0, 0, 0, 0, 0, 0, 0, 1, 0, 0,
 ];
 
 /// A request to disconnect.
@@ -151,8 +202,8 @@ fn answers_go(rt: HostRuntime) {
 
 /// Checks that the request is the WRITE, with its payload, and is answered under its cookie.
 fn check_write(rt: &impl Abort, request: Request) {
-    assert!(rt; request.command() == NbdCommand::Write && request.fua());
-    assert_eq!(rt; (request.first_block(), request.block_count()), (1, 1));
+    assert!(rt; request.command() == NbdCommand::Write && request.has_fua());
+    assert_eq!(rt; (request.offset(), request.length()), (4096, 4096));
     assert_eq!(rt; request.payload().len(), 4096);
     assert_eq!(rt; request.payload().as_slice().last().copied(), Some(0x5A));
     assert_eq!(rt; request.of(), NUMBER);
@@ -174,7 +225,7 @@ fn gives_a_write(rt: HostRuntime) {
     check_write(&rt, session.requests.pop().expect(&rt, "a request"));
 }
 
-/// Checks that these bytes give this request and no reply: its cookie, its first block, how many it has, and whether it has FUA.
+/// Checks that these bytes give this request and no reply: its cookie, its first byte, how many it has, and whether it has FUA.
 fn gives(
     rt: &(impl Abort + AllocGlobal),
     bytes: &[u8],
@@ -186,13 +237,9 @@ fn gives(
     session.feed(rt, bytes);
     session.check_sent(rt, &[]);
     let request = session.requests.pop().expect(rt, "a request");
-    assert!(rt; request.command() == command && request.fua() == fua);
+    assert!(rt; request.command() == command && request.has_fua() == fua);
     assert_eq!(rt;
-        (
-            request.cookie(),
-            request.first_block(),
-            request.block_count()
-        ),
+        (request.cookie(), request.offset(), request.length()),
         range
     );
     assert!(rt; request.payload().is_empty());
@@ -200,8 +247,14 @@ fn gives(
 
 #[test]
 fn gives_requests_without_data(rt: HostRuntime) {
-    gives(&rt, &TRIM, NbdCommand::Trim, (20, 4, 12), true);
-    gives(&rt, &ZEROES, NbdCommand::WriteZeroes, (24, 0, 16), false);
+    gives(&rt, &TRIM, NbdCommand::Trim, (20, 16_384, 49_152), true);
+    gives(
+        &rt,
+        &ZEROES,
+        NbdCommand::WriteZeroes,
+        (24, 0, 65_536),
+        false,
+    );
 }
 
 /// Checks that these bytes are answered with this error, under their cookie.
@@ -222,6 +275,121 @@ fn refuses_requests_without_data(rt: HostRuntime) {
     refuses(&rt, &TRIM_PAST_END, 21, 22);
     refuses(&rt, &TRIM_WITHOUT_HOLES, 22, 22);
     refuses(&rt, &FAST_ZEROES, 23, 95);
+}
+
+/// Checks the next piece: its block, the byte of it with which it begins, and its bytes.
+fn check_piece(rt: &impl Abort, pieces: &mut Pieces, block: u64, from: u32, bytes: &[u8]) {
+    let piece = pieces.next().expect(rt, "memory").expect(rt, "a piece");
+    assert_eq!(rt; (piece.block(), piece.from()), (block, from));
+    assert_eq!(rt; piece.into_bytes().as_slice(), bytes);
+}
+
+#[test]
+fn divides_a_write(rt: HostRuntime) {
+    let mut session = Session::transmitting(&rt, rt.alloc());
+    session.feed(&rt, &WRITE_OF_TWO_BLOCKS);
+    session.feed(&rt, &[1, 2, 3]);
+    let mut request = session.requests.pop().expect(&rt, "a request");
+    assert!(&rt; !request.is_divided());
+    let mut pieces = request.pieces(rt.alloc()).expect(&rt, "memory");
+    check_piece(&rt, &mut pieces, 0, 4095, &[1]);
+    check_piece(&rt, &mut pieces, 1, 0, &[2, 3]);
+    assert!(rt; pieces.next().expect(&rt, "memory").is_none());
+}
+
+#[test]
+fn trims_whole_blocks_alone(rt: HostRuntime) {
+    let mut session = Session::transmitting(&rt, rt.alloc());
+    session.feed(&rt, &TRIM_OF_PARTS);
+    let mut request = session.requests.pop().expect(&rt, "a request");
+    assert!(&rt; !request.is_divided());
+    let mut pieces = request.pieces(rt.alloc()).expect(&rt, "memory");
+    check_piece(&rt, &mut pieces, 1, 0, &[0; 4096]);
+    assert!(rt; pieces.next().expect(&rt, "memory").is_none());
+}
+
+/// Makes a connection whose client has structured replies and the context, and has sent nothing since GO.
+fn structured(rt: &impl Abort, alloc: Global) -> Session {
+    let mut session = Session::connected(rt, alloc);
+    session.feed(rt, &FLAGS);
+    session.feed(rt, &STRUCTURED);
+    session.check_sent(rt, &STRUCTURED_ANSWER);
+    session.sent.clear();
+    session.feed(rt, &SET_CONTEXT);
+    session.check_sent(rt, &SET_ANSWER);
+    session.sent.clear();
+    session.feed(rt, &GO);
+    // SEND_DF is told, too.
+    let sent = session.sent.as_slice();
+    assert!(rt; sent.len() >= 32);
+    assert_eq!(rt; &sent[30..32], [0x09, 0xED].as_slice());
+    session.sent.clear();
+    session
+}
+
+#[test]
+fn gives_a_block_status(rt: HostRuntime) {
+    let mut session = structured(&rt, rt.alloc());
+    session.feed(&rt, &STATUS);
+    session.check_sent(&rt, &[]);
+    let request = session.requests.pop().expect(&rt, "a request");
+    assert!(rt; request.command() == NbdCommand::BlockStatus && request.wants_one());
+    assert!(rt; request.terms().allocation && request.terms().structured);
+}
+
+#[test]
+fn a_context_wants_structured_replies(rt: HostRuntime) {
+    let mut session = Session::connected(&rt, rt.alloc());
+    session.feed(&rt, &FLAGS);
+    session.feed(&rt, &SET_CONTEXT);
+    session.check_sent(&rt, &SET_REFUSED);
+    let mut plain = Session::transmitting(&rt, rt.alloc());
+    plain.feed(&rt, &STATUS);
+    check_answered(&rt, &plain, 32, Errno::Invalid);
+}
+
+#[test]
+fn a_refused_read_is_told_in_a_chunk(rt: HostRuntime) {
+    let mut session = structured(&rt, rt.alloc());
+    session.feed(&rt, &READ_PAST_END);
+    session.check_sent(
+        &rt,
+        &[
+            0x66, 0x8E, 0x33, 0xEF, 0, 1, 0x80, 0x01, 0, 0, 0, 0, 0, 0, 0, 9, 0, 0, 0, 6, 0, 0, 0,
+            22, 0, 0,
+        ],
+    );
+}
+
+/// Checks the bytes that spell a chunk of the reply to the request 9.
+fn spells(rt: &impl Abort, alloc: Global, is_last: bool, body: Body, bytes: &[u8])
+    requires { length (rest_bytes body) ≤ 33554432 }
+{
+    let chunk = Chunk {
+        cookie: 9,
+        is_last,
+        body,
+    };
+    let mut out = Vec::new(alloc);
+    chunk.put(&mut out).expect(rt, "memory");
+    assert_eq!(rt; out.as_slice(), bytes);
+}
+
+#[test]
+#[tactic(auto, unfolding(nbd::specs::Chunks::rest_bytes))]
+fn spells_chunks(rt: HostRuntime) {
+    let hole = [
+        0x66, 0x8E, 0x33, 0xEF, 0, 0, 0, 2, 0, 0, 0, 0, 0, 0, 0, 9, 0, 0, 0, 12, 0, 0, 0, 0, 0, 0,
+        0x10, 0, 0, 0, 0x20, 0,
+    ];
+    spells(&rt, rt.alloc(), false, Body::Hole(4096, 8192), &hole);
+    let mut data = Vec::new(rt.alloc());
+    data.extend_from_slice(&[7, 8]).expect(&rt, "memory");
+    let two = [
+        0x66, 0x8E, 0x33, 0xEF, 0, 1, 0, 1, 0, 0, 0, 0, 0, 0, 0, 9, 0, 0, 0, 10, 0, 0, 0, 0, 0, 0,
+        0, 5, 7, 8,
+    ];
+    spells(&rt, rt.alloc(), true, Body::Data(5, data), &two);
 }
 
 /// Makes a whole session: a write, a read that is refused, and the end.

@@ -11,6 +11,12 @@ pub(crate) const WRITE: [u8; 32] = [
     0, 0, 0, 0, 0,
 ];
 
+/// The same of three blocks.
+pub(crate) const WRITE_OF_THREE: [u8; 32] = [
+    0x83, 0x5A, 0, 0, 0, 0, 0x30, 0x18, 0, 0, 0, 0, 0, 0, 0, 0x10, 0, 0, 0, 0, 0, 0, 0, 1, 0, 0, 0,
+    0, 0, 0, 0, 0,
+];
+
 /// The same of 32 blocks.
 pub(crate) const LARGEST_WRITE: [u8; 32] = [
     0x83, 0x5A, 0, 0, 0, 2, 0, 0x18, 0, 0, 0, 0, 0, 0, 0, 0x10, 0, 0, 0, 0, 0, 0, 0, 1, 0, 0, 0, 0,

@@ -35,8 +35,8 @@ pub(crate) const GO: [u8; 24] = *b"IHAVEOPT\0\0\0\x07\0\0\0\x08\0\0\0\0\0\x01\0\
 pub(crate) const GO_ANSWER: [u8; 86] = [
     0x00, 0x03, 0xE8, 0x89, 0x04, 0x55, 0x65, 0xA9, 0, 0, 0, 7, 0, 0, 0, 3, 0, 0, 0, 12, 0, 0, 0,
     0, 0, 0, 0, 0, 0x80, 0, 0x09, 0x6D, 0x00, 0x03, 0xE8, 0x89, 0x04, 0x55, 0x65, 0xA9, 0, 0, 0, 7,
-    0, 0, 0, 3, 0, 0, 0, 14, 0, 3, 0, 0, 0x10, 0, 0, 0, 0x10, 0, 2, 0, 0, 0, 0x00, 0x03, 0xE8,
-    0x89, 0x04, 0x55, 0x65, 0xA9, 0, 0, 0, 7, 0, 0, 0, 1, 0, 0, 0, 0,
+    0, 0, 0, 3, 0, 0, 0, 14, 0, 3, 0, 0, 0, 1, 0, 0, 0x10, 0, 2, 0, 0, 0, 0x00, 0x03, 0xE8, 0x89,
+    0x04, 0x55, 0x65, 0xA9, 0, 0, 0, 7, 0, 0, 0, 1, 0, 0, 0, 0,
 ];
 
 pub(crate) const AB_BLOCK: [u8; 4096] = [0xAB; 4096];
@@ -132,9 +132,24 @@ pub(crate) fn talk<S: Read + Write>(alloc: Global, stream: &mut S) -> io::Result
         &[&reply(0, 4), &AB_BLOCK, &ZERO_BLOCK],
     )?;
     let is_done_at_once = burst(alloc, stream)?;
+    let is_beside = change_parts(alloc, stream)?;
     let is_refused = overstep(alloc, stream)?;
     exchange(alloc, stream, &[&ask(2, 7, [0, 0], [0, 0])], &[])?;
-    Ok(is_open && is_changed && is_read && is_done_at_once && is_refused)
+    Ok(is_open && is_changed && is_read && is_done_at_once && is_beside && is_refused)
+}
+
+// Writes the last byte of block 3 and the first of block 4, reads them with those beside them, and zeroes them again. Reads the end of
+// block 1, too. Returns whether each answer is right.
+fn change_parts<S: Read + Write>(alloc: Global, stream: &mut S) -> io::Result<bool> {
+    let write = ask(1, 11, [0x3F, 0xFF], [0, 2]);
+    let read = ask(0, 12, [0x3F, 0xFE], [0, 4]);
+    let zero = ask(6, 13, [0x3F, 0xFF], [0, 2]);
+    let end = ask(0, 14, [0x1F, 0xFF], [0, 2]);
+    let is_written = exchange(alloc, stream, &[&write, &[7, 8]], &[&reply(0, 11)])?;
+    let is_read = exchange(alloc, stream, &[&read], &[&reply(0, 12), &[0, 7, 8, 0]])?;
+    let is_zeroed = exchange(alloc, stream, &[&zero], &[&reply(0, 13)])?;
+    let is_end_read = exchange(alloc, stream, &[&end], &[&reply(0, 14), &[0xAB, 0]])?;
+    Ok(is_written && is_read && is_zeroed && is_end_read)
 }
 
 // Writes, zeroes and flushes. Returns whether each answer is right.
@@ -153,13 +168,13 @@ fn change<S: Read + Write>(alloc: Global, stream: &mut S) -> io::Result<bool> {
     Ok(is_written && is_zeroed && is_flushed)
 }
 
-// Asks for what is refused: a part of a block with EINVAL, a write past the end with ENOSPC.
+// Asks for what is refused: a read past the end with EINVAL, a write past the end with ENOSPC.
 fn overstep<S: Read + Write>(alloc: Global, stream: &mut S) -> io::Result<bool> {
-    let part = ask(0, 5, [0, 1], [0x10, 0]);
+    let read = ask(0, 5, [0x7F, 0xFF], [0, 2]);
     let past = ask(1, 6, [0x80, 0], [0x10, 0]);
-    let is_part_refused = exchange(alloc, stream, &[&part], &[&reply(22, 5)])?;
+    let is_read_refused = exchange(alloc, stream, &[&read], &[&reply(22, 5)])?;
     let is_end_refused = exchange(alloc, stream, &[&past, &AB_BLOCK], &[&reply(28, 6)])?;
-    Ok(is_part_refused && is_end_refused)
+    Ok(is_read_refused && is_end_refused)
 }
 
 // Asks for two writes of the same block and a read of another before any reply has come. Returns whether each is
@@ -372,7 +387,7 @@ fn a_client_reads_what_it_wrote(rt: HostRuntime) {
         let (status, is_right) = serve_one(rt, protocol, &mut out);
         assert!(rt; is_right, "{protocol:?}");
         assert_eq!(rt; status, 0, "{protocol:?}");
-        let lines = "completed 4\nsettled 4\nunmarked 0\n";
+        let lines = "completed 8\nsettled 8\nunmarked 0\n";
         assert_eq!(rt; out.as_slice(), lines.as_bytes(), "{protocol:?}");
         for file in ["serving_local", "serving_peer"] {
             check_written(&rt, protocol, file);

@@ -1,7 +1,12 @@
 //! Tests of what a FLUSH and a request with FUA wait for, over a device whose writes are released late.
+ghost use Rattle.std.specs.Prelude.{◌≡◌, ◌+◌, ◌≤◌, length, vec_len, IfErr, IfOk};
+ghost use Rattle.blocks.specs.declared.refusal.Refusal.TheVariants.{NoMemory};
+ghost use Rattle.device_parts.specs.Places.{laid_over};
+
 use crate::page::resync_progress;
 use blocks::{BLOCK_BYTES, ConnectionWords, MemStore, Protocol, Refusal, Settings, Tuple};
 use bytes::Bytes;
+use ghost_log::{Blank, LogName};
 use image_store::{PerDisk, open_image};
 use link::{PlainIn, PlainOut};
 use nbd::{Connection, Export, NbdCommand, Request, RequestHeader};
@@ -11,10 +16,12 @@ use serving::AnyContents;
 use session_api::{Begun, Device, PrimaryProgress, Progress};
 use std::alloc::Global;
 use std::fs::{self, File, Files, OpenFile};
+use std::marker::Brand;
 use std::process::Abort;
 use std::sync::atomic::{AtomicU64, Ordering};
 use std::sync::{Mutex, Wait};
 use std::time::Clock;
+use told::{Caller, Callers, ToldLog, open_log};
 
 /// How many writes a device has accepted before it is asked for the first time.
 const ACCEPTED: u64 = 3;
@@ -40,9 +47,11 @@ const EXPORT_NAME: [u8; 16] = [
 /// after each two questions more. When it is asked for the first time `ACCEPTED` are accepted, and another one right after it. Its
 /// blocks are zeros. It takes writes of its first block, which end in their order, and counts none of them as accepted.
 #[derive(Drop)]
-pub(crate) struct LateDevice<R> {
+pub(crate) struct LateDevice<R, J: LogName> {
     rt: R,
     alloc: Global,
+    // All that its callers were told.
+    log: Mutex<ToldLog<J>>,
     released_at: AtomicU64,
     questions: AtomicU64,
     // Writes that were begun.
@@ -75,21 +84,39 @@ fn receipts_of_writes(rt: &impl Abort, alloc: Global) -> Vec<Receipt> {
     receipts
 }
 
-impl<R: Abort + Wait + Copy + AllocGlobal> LateDevice<R> {
-    pub(crate) fn new(rt: R, released_at: u64) -> LateDevice<R> {
+// Lays bytes over a block, from its byte `from` on. `NoMemory` (7) if there is no memory for the count of its owners.
+fn lay_over(block: Vec<u8>, from: usize, bytes: &Bytes) -> Result<Bytes, Refusal>
+    requires { from + length bytes.now ≤ vec_len block }
+    ensures laid { IfOk result (λ contents. contents ≡ laid_over from bytes.now block.items) }
+    ensures length { IfOk result (λ contents. length contents ≡ vec_len block) }
+    ensures refused { IfErr result (λ e. e ≡ NoMemory) }
+{
+    let mut block = block;
+    block[from..from + bytes.len()].copy_from_slice(bytes.as_slice());
+    Ok(Bytes::from_vec(block)?)
+}
+
+impl<R: Abort + Wait + Copy + AllocGlobal, J: LogName> LateDevice<R, J> {
+    /// Creates a device whose callers are told what goes into this log, which has the name `J`. Returns it with the right to make callers.
+    pub(crate) fn new(rt: R, released_at: u64, blank: Blank) -> (LateDevice<R, J>, Callers<J>)
+        requires { blank.name ≡ J.name }
+    {
         let alloc = rt.alloc();
-        LateDevice {
+        let (log, callers) = open_log::<J>(blank);
+        let device = LateDevice {
             rt,
             alloc,
+            log: Mutex::new(log),
             released_at: AtomicU64::new(released_at),
             questions: AtomicU64::new(0),
             begun: AtomicU64::new(0),
             receipts: Mutex::new(receipts_of_writes(&rt, alloc)),
-        }
+        };
+        (device, callers)
     }
 }
 
-impl<R> LateDevice<R> {
+impl<R, J: LogName> LateDevice<R, J> {
     /// Releases its writes from now on.
     pub(crate) fn release(&self) {
         self.released_at.store(0, Ordering::SeqCst);
@@ -114,46 +141,64 @@ impl<R> LateDevice<R> {
     }
 }
 
-impl<R: Wait> Device for LateDevice<R> {
-    // It has no history.
-    ghost accepts = { λ number first bytes. Unit {0} };
-
-    // It has no disk.
-    ghost holds = { λ first count bytes. Unit {0} };
+impl<R: Wait, J: LogName> Device for LateDevice<R, J> {
+    type Name = J;
 
     // It has no nodes.
     ghost primary_shows = { λ progress. Unit {0} };
 
     ghost secondary_shows = { λ progress. Unit {0} };
 
-    fn write(&self, _first: u64, _bytes: &Bytes) -> Result<Receipt, Refusal> {
+    fn write(&self, _me: &mut Caller<J>, _first: u64, _bytes: &Bytes) -> Result<Receipt, Refusal> {
         Err(Refusal::NotConnected)
     }
 
-    fn begin(&self, first: u64, bytes: Bytes) -> Result<Begun, Refusal> {
+    fn begin(&self, me: &mut Caller<J>, first: u64, bytes: Bytes) -> Result<Begun, Refusal> {
         if bytes.len() % BLOCK_BYTES != 0 {
             return Err(Refusal::BadRange);
         }
         let before = self.begun.fetch_add(1, Ordering::SeqCst);
-        Ok(Begun::new(before.saturating_add(1), first, bytes))
+        let number = before.saturating_add(1);
+        me.accepted(&mut self.log.lock(&self.rt), &(number, first), &bytes);
+        Ok(Begun::new(number, first, bytes))
     }
 
-    fn complete(&self, begun: Begun) -> Result<Receipt, Refusal> {
+    fn begin_within(
+        &self,
+        me: &mut Caller<J>,
+        block: u64,
+        from: u32,
+        bytes: &Bytes,
+    ) -> Result<Begun, Refusal> {
+        let zeros = Vec::from_elem(self.alloc, 0u8, BLOCK_BYTES)?;
+        let contents = lay_over(zeros, from as usize, bytes)?;
+        let before = self.begun.fetch_add(1, Ordering::SeqCst);
+        let number = before.saturating_add(1);
+        me.patched(&mut self.log.lock(&self.rt), &(number, block, from), bytes);
+        Ok(Begun::new(number, block, contents))
+    }
+
+    fn complete(&self, me: &mut Caller<J>, begun: Begun) -> Result<Receipt, Refusal> {
         let Some(receipt) = self.receipts.lock(&self.rt).pop() else {
             return Err(Refusal::UnknownJob);
         };
         if receipt.number() != begun.number() {
             return Err(Refusal::UnknownJob);
         }
-        begun.end(receipt)
+        let ended = begun.end(receipt)?;
+        me.given(&mut self.log.lock(&self.rt), &ended);
+        Ok(ended)
     }
 
-    fn read(&self, _first: u64, count: u64) -> Result<Vec<u8>, Refusal> {
+    fn read(&self, me: &mut Caller<J>, first: u64, count: u64) -> Result<Vec<u8>, Refusal> {
         let Some(length) = (count as usize).checked_mul(BLOCK_BYTES) else {
             return Err(Refusal::NoMemory);
         };
         match Vec::from_elem(self.alloc, 0u8, length) {
-            Ok(zeros) => Ok(zeros),
+            Ok(zeros) => {
+                me.held(&mut self.log.lock(&self.rt), &(first, count), &zeros);
+                Ok(zeros)
+            }
             Err(_) => Err(Refusal::NoMemory),
         }
     }
@@ -228,22 +273,23 @@ fn request(rt: &(impl Abort + AllocGlobal), command: NbdCommand, fua: bool) -> R
 }
 
 // Begins a request `count` times over a device, ends one after another, and then finishes one after another.
-fn finish_together<R: Abort + Wait + Clock + AllocGlobal>(
+fn finish_together<R: Abort + Wait + Clock + AllocGlobal, J: LogName>(
     rt: &R,
     requests: &Requests,
-    device: &LateDevice<R>,
+    device: &LateDevice<R, J>,
+    me: &mut Caller<J>,
     (command, fua): (NbdCommand, bool),
     count: u32,
 ) {
     let mut begun = Vec::new(rt.alloc());
     for _ in 0..count {
-        let under_way = requests.begin(device, request(rt, command, fua));
+        let under_way = requests.begin(device, me, request(rt, command, fua));
         begun.push(under_way).expect(rt, "memory");
     }
     let mut receipts = Vec::new(rt.alloc());
     let mut unsynced = Vec::new(rt.alloc());
     for under_way in begun {
-        let ended = requests.end(device, under_way, &mut receipts);
+        let ended = requests.end(device, me, under_way, &mut receipts);
         unsynced.push(ended).expect(rt, "memory");
     }
     for ended in unsynced {
@@ -253,15 +299,35 @@ fn finish_together<R: Abort + Wait + Clock + AllocGlobal>(
 }
 
 // Ends a request over a late device under this protocol. Returns what the device was asked.
-fn asked_for(
-    rt: &(impl Abort + Wait + Clock + Copy + Files<File = File> + AllocGlobal),
+fn asked_for<R: Abort + Wait + Clock + Copy + Files<File = File> + AllocGlobal>(
+    rt: &R,
     protocol: Protocol,
     command: NbdCommand,
     fua: bool,
 ) -> u64 {
-    let device = LateDevice::new(*rt, RELEASED_AT);
+    asked_for_under::<Brand, R>(rt, protocol, command, fua, Blank::new())
+}
+
+// Does so over a device whose log has this name.
+fn asked_for_under<J: LogName, R: Abort + Wait + Clock + Copy + Files<File = File> + AllocGlobal>(
+    rt: &R,
+    protocol: Protocol,
+    command: NbdCommand,
+    fua: bool,
+    blank: Blank,
+) -> u64
+    requires { blank.name ≡ J.name }
+{
+    let (device, callers) = LateDevice::<R, J>::new(*rt, RELEASED_AT, blank);
     let requests = requests_under(rt, protocol, "flushed_late");
-    finish_together(rt, &requests, &device, (command, fua), 1);
+    finish_together(
+        rt,
+        &requests,
+        &device,
+        &mut callers.caller(),
+        (command, fua),
+        1,
+    );
     device.asked()
 }
 
@@ -299,12 +365,12 @@ fn a_flush_under_c_waits_for_no_write(rt: HostRuntime) {
 #[test]
 fn flushes_share_a_round(rt: HostRuntime) {
     for protocol in [Protocol::A, Protocol::B] {
-        let device = LateDevice::new(rt, RELEASED_AT);
-        let requests = requests_under(&rt, protocol, "flushed_late");
-        finish_together(&rt, &requests, &device, (NbdCommand::Flush, false), 3);
-        assert_eq!(rt; device.asked(), RELEASED_AT);
-        finish_together(&rt, &requests, &device, (NbdCommand::Flush, false), 1);
-        assert_eq!(rt; device.asked(), RELEASED_AT + QUESTIONS_A_WRITE);
+        round_is_shared::<Brand, HostRuntime>(
+            &rt,
+            protocol,
+            (NbdCommand::Flush, false),
+            Blank::new(),
+        );
     }
 }
 
@@ -312,25 +378,58 @@ fn flushes_share_a_round(rt: HostRuntime) {
 // round, since its writes are completed only as it ends: it waits for the write that was accepted meanwhile.
 #[test]
 fn requests_with_fua_share_a_round(rt: HostRuntime) {
-    let device = LateDevice::new(rt, RELEASED_AT);
-    let requests = requests_under(&rt, Protocol::A, "flushed_late");
-    finish_together(&rt, &requests, &device, (NbdCommand::WriteZeroes, true), 3);
+    let zeroes = (NbdCommand::WriteZeroes, true);
+    round_is_shared::<Brand, HostRuntime>(&rt, Protocol::A, zeroes, Blank::new());
+}
+
+// Does three such requests together, which share a round, and then another, over a device whose log has this name.
+fn round_is_shared<J: LogName, R: Abort + Wait + Clock + Copy + Files<File = File> + AllocGlobal>(
+    rt: &R,
+    protocol: Protocol,
+    what: (NbdCommand, bool),
+    blank: Blank,
+)
+    requires { blank.name ≡ J.name }
+{
+    let (device, callers) = LateDevice::<R, J>::new(*rt, RELEASED_AT, blank);
+    let mut me = callers.caller();
+    let requests = requests_under(rt, protocol, "flushed_late");
+    finish_together(rt, &requests, &device, &mut me, what, 3);
     assert_eq!(rt; device.asked(), RELEASED_AT);
-    finish_together(&rt, &requests, &device, (NbdCommand::WriteZeroes, true), 1);
+    finish_together(rt, &requests, &device, &mut me, what, 1);
     assert_eq!(rt; device.asked(), RELEASED_AT + QUESTIONS_A_WRITE);
 }
 
 // A request that begins before a round and ends after it takes a later one.
 #[test]
 fn a_request_with_fua_takes_no_earlier_round(rt: HostRuntime) {
-    let device = LateDevice::new(rt, RELEASED_AT);
-    let requests = requests_under(&rt, Protocol::A, "flushed_late");
-    let under_way = requests.begin(&device, request(&rt, NbdCommand::WriteZeroes, true));
-    finish_together(&rt, &requests, &device, (NbdCommand::Flush, false), 1);
+    later_round_is_taken::<Brand, HostRuntime>(&rt, Blank::new());
+}
+
+// Begins such a request, has a round, and ends the request, over a device whose log has this name.
+fn later_round_is_taken<
+    J: LogName,
+    R: Abort + Wait + Clock + Copy + Files<File = File> + AllocGlobal,
+>(rt: &R, blank: Blank)
+    requires { blank.name ≡ J.name }
+{
+    let (device, callers) = LateDevice::<R, J>::new(*rt, RELEASED_AT, blank);
+    let mut me = callers.caller();
+    let requests = requests_under(rt, Protocol::A, "flushed_late");
+    let zeroes = request(rt, NbdCommand::WriteZeroes, true);
+    let under_way = requests.begin(&device, &mut me, zeroes);
+    finish_together(
+        rt,
+        &requests,
+        &device,
+        &mut me,
+        (NbdCommand::Flush, false),
+        1,
+    );
     assert_eq!(rt; device.asked(), RELEASED_AT);
     let mut receipts = Vec::new(rt.alloc());
-    let ended = requests.end(&device, under_way, &mut receipts);
-    let answer = requests.finish(&rt, &device, ended);
+    let ended = requests.end(&device, &mut me, under_way, &mut receipts);
+    let answer = requests.finish(rt, &device, ended);
     assert!(rt; answer.error().is_none());
     assert_eq!(rt; device.asked(), RELEASED_AT + QUESTIONS_A_WRITE);
 }

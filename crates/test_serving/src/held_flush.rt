@@ -1,17 +1,21 @@
 //! Test of flushes that wait for the peer's disk, beside a client that reads.
+ghost use Rattle.std.specs.Prelude.{◌≡◌};
+
 use crate::clients::{Order, ZERO_BLOCK, ask, free_addresses, reply};
 use crate::flushes::{LateDevice, requests_under};
 use crate::slow_reader::{gets, open};
 use blocks::{Protocol, Refusal};
-use primary::Receipt;
+use ghost_log::{Blank, LogName};
 use serve_clients::{Listeners, Service, Shown, start_threads, work};
 use serve_page::StartedAfter;
+use serve_requests::Answered;
 use server_log::Style;
 use serving::{Host, ListenAt};
 use std::alloc::Global;
 use std::env::Env;
 use std::fs::File;
 use std::io::{Read, Write};
+use std::marker::Brand;
 use std::net::{Net, SocketAddr, TcpListener, TcpStream};
 use std::process::Abort;
 use std::random::RandomSource;
@@ -35,11 +39,11 @@ const LIMIT_S: u64 = 60;
 
 // Sends FLUSHes, one after another, and has a second client read a block: it gets it before the writes are released that
 // the FLUSHes wait for. Then each FLUSH is answered.
-fn read_beside_flushes<R: Abort + Net<Stream = TcpStream> + Clock>(
+fn read_beside_flushes<R: Abort + Net<Stream = TcpStream> + Clock, J: LogName>(
     rt: &R,
     alloc: Global,
     address: SocketAddr,
-    device: &LateDevice<R>,
+    device: &LateDevice<R, J>,
 ) {
     let mut flusher = open(rt, alloc, address);
     for cookie in 0..FLUSHES {
@@ -80,13 +84,16 @@ fn check_each_answered(rt: &impl Abort, flusher: &mut TcpStream) {
 
 // Serves the device under A until the clients have done their work.
 fn serve_device<
+    J: LogName + Send + Sync + 'static,
     H: Abort
         + Host
         + Files<File = File>
         + Net<Listener = TcpListener, Stream = TcpStream>
         + RandomSource
         + Env,
->(rt: H) {
+>(rt: H, blank: Blank)
+    requires { blank.name ≡ J.name }
+{
     let alloc = rt.alloc();
     let (address, _) = free_addresses(&rt);
     let (listeners, _) = Listeners::open(&rt, &[ListenAt::Ip(address)], &[], None)
@@ -115,21 +122,23 @@ fn serve_device<
     start_threads(&rt, &service, listeners, order)
         .ok()
         .expect(&rt, "threads");
-    let device = LateDevice::new(rt, u64::MAX);
+    let (device, callers) = LateDevice::<H, J>::new(rt, u64::MAX, blank);
     let mut err = Vec::new(alloc);
-    let (_, receipts) = thread::join(
+    let (_, answered) = thread::join(
         &rt,
         || {
             read_beside_flushes(&rt, alloc, address, &device);
             is_done.store(true, Ordering::SeqCst);
         },
-        || -> Result<Vec<Receipt>, Refusal> { work(&rt, &service, &device, None, &mut err) },
+        || -> Result<Answered<J>, Refusal> {
+            work(&rt, &service, &device, &callers, None, &mut err)
+        },
     );
-    assert_eq!(rt; receipts.expect(&rt, "receipts").len(), 0);
+    assert!(rt; answered.expect(&rt, "receipts").receipts().is_empty());
 }
 
 // A FLUSH under A waits until the writes before it are released. However many wait, they hold no other request up.
 #[test]
 fn flushes_hold_no_other_request_up(rt: HostRuntime) {
-    serve_device(rt);
+    serve_device::<Brand, HostRuntime>(rt, Blank::new());
 }

@@ -4,6 +4,7 @@ use crate::outcome::Answers;
 use crate::refused_calls::{one_connection, refused};
 use blocks::{BLOCK_BYTES, ConnectionWords, Refusal};
 use bytes::Bytes;
+use ghost_log::LogName;
 use primary::{CompletionKind, Receipt};
 use std::alloc::Global;
 use std::process::Abort;
@@ -11,6 +12,7 @@ use std::sync::Wait;
 use std::sync::atomic::Ordering;
 use std::thread;
 use std::time::Clock;
+use told::{Caller, Callers};
 use volume::{Device, Runtime};
 
 /// How many writers a session has, and how many writes each makes.
@@ -54,24 +56,25 @@ pub(crate) enum Work {
 }
 
 /// Does the work. Returns what the callers have then.
-pub(crate) fn carry_out<R: Abort + Runtime>(
+pub(crate) fn carry_out<R: Abort + Runtime, N: LogName + Send + Sync, D: Device<Name = N> + Sync>(
     rt: &R,
     alloc: Global,
-    mirror: &(impl Device + Sync),
+    mirror: &D,
+    callers: &Callers<N>,
     signals: &Signals,
     work: Work,
 ) -> Answers {
     match work {
-        Work::Writers { cuts } => all_writers(rt, alloc, mirror, cuts, false),
-        Work::WideWriters => wide_writers(rt, alloc, mirror),
-        Work::SharedBlocks => all_writers(rt, alloc, mirror, 0, true),
-        Work::CutEveryTenth => cut_every_tenth(rt, alloc, mirror),
-        Work::Gate { receipt_opens } => gate(rt, alloc, mirror, signals, receipt_opens),
+        Work::Writers { cuts } => all_writers(rt, alloc, mirror, callers, cuts, false),
+        Work::WideWriters => wide_writers(rt, alloc, mirror, callers),
+        Work::SharedBlocks => all_writers(rt, alloc, mirror, callers, 0, true),
+        Work::CutEveryTenth => cut_every_tenth(rt, alloc, mirror, &mut callers.caller()),
+        Work::Gate { receipt_opens } => gate(rt, alloc, mirror, callers, signals, receipt_opens),
         Work::Resync { writes } => resync(alloc, signals, writes),
-        Work::TwoConnections => two_connections(rt, alloc, mirror),
-        Work::OneWrite => one_write(rt, alloc, mirror),
+        Work::TwoConnections => two_connections(rt, alloc, mirror, &mut callers.caller()),
+        Work::OneWrite => one_write(rt, alloc, mirror, &mut callers.caller()),
         Work::OneConnection => one_connection(alloc, mirror),
-        Work::Refused => refused(rt, alloc, mirror),
+        Work::Refused => refused(rt, alloc, mirror, &mut callers.caller()),
         // These are no calls of the mirror.
         Work::OwnCalls => nothing(alloc),
     }
@@ -107,21 +110,23 @@ fn add(rt: &impl Abort, all: &mut Answers, answers: &mut Answers) {
 }
 
 /// Writes a block filled with a byte.
-pub(crate) fn write(
+pub(crate) fn write<D: Device>(
     alloc: Global,
-    mirror: &impl Device,
+    mirror: &D,
+    me: &mut Caller<D::Name>,
     block: u64,
     byte: u8,
 ) -> Result<Receipt, Refusal> {
     let bytes = Bytes::copy_from_slice(alloc, &[byte; BLOCK_BYTES])?;
-    mirror.write(block, &bytes)
+    mirror.write(me, block, &bytes)
 }
 
 // Runs all writers, each in a thread of its own, and the one that cuts.
-fn all_writers<R: Abort + Runtime>(
+fn all_writers<R: Abort + Runtime, N: LogName + Send + Sync, D: Device<Name = N> + Sync>(
     rt: &R,
     alloc: Global,
-    mirror: &(impl Device + Sync),
+    mirror: &D,
+    callers: &Callers<N>,
     cuts: u32,
     shared: bool,
 ) -> Answers {
@@ -131,7 +136,14 @@ fn all_writers<R: Abort + Runtime>(
         WRITERS + 1,
         &|thread| {
             if thread < WRITERS {
-                write_some(rt, alloc, mirror, thread as u64, shared)
+                write_some(
+                    rt,
+                    alloc,
+                    mirror,
+                    &mut callers.caller(),
+                    thread as u64,
+                    shared,
+                )
             } else {
                 cut_some(rt, mirror, cuts);
                 nothing(alloc)
@@ -143,16 +155,17 @@ fn all_writers<R: Abort + Runtime>(
 }
 
 // Runs four writers of two blocks at a time, each in a thread of its own.
-fn wide_writers<R: Abort + Runtime>(
+fn wide_writers<R: Abort + Runtime, N: LogName + Send + Sync, D: Device<Name = N> + Sync>(
     rt: &R,
     alloc: Global,
-    mirror: &(impl Device + Sync),
+    mirror: &D,
+    callers: &Callers<N>,
 ) -> Answers {
     let each = thread::map_indices(
         rt,
         alloc,
         WRITERS,
-        &|writer| write_both(rt, alloc, mirror, writer as u64),
+        &|writer| write_both(rt, alloc, mirror, &mut callers.caller(), writer as u64),
     )
     .expect(rt, "memory");
     all_of(rt, alloc, each)
@@ -168,36 +181,44 @@ fn all_of(rt: &impl Abort, alloc: Global, each: Vec<Answers>) -> Answers {
 }
 
 // Makes the writes of one writer, each of both of its blocks, and reads back the last of them.
-fn write_both(rt: &impl Abort, alloc: Global, mirror: &impl Device, writer: u64) -> Answers {
+fn write_both<D: Device>(
+    rt: &impl Abort,
+    alloc: Global,
+    mirror: &D,
+    me: &mut Caller<D::Name>,
+    writer: u64,
+) -> Answers {
     let mut answers = nothing(alloc);
     let (first, base) = (writer % 4 * 2, writer % 4 * 50);
     for turn in 1..=WIDE_WRITES {
-        let answer = write_two(alloc, mirror, first, (base + turn) as u8);
+        let answer = write_two(alloc, mirror, me, first, (base + turn) as u8);
         note(rt, &mut answers, answer);
     }
     let last = (base + WIDE_WRITES) as u8;
-    if !holds(mirror, first, last) || !holds(mirror, first + 1, last) {
+    if !holds(mirror, me, first, last) || !holds(mirror, me, first + 1, last) {
         answers.complaints = answers.complaints.saturating_add(1);
     }
     answers
 }
 
 // Writes two blocks filled with a byte.
-fn write_two(
+fn write_two<D: Device>(
     alloc: Global,
-    mirror: &impl Device,
+    mirror: &D,
+    me: &mut Caller<D::Name>,
     first: u64,
     byte: u8,
 ) -> Result<Receipt, Refusal> {
     let bytes = Bytes::copy_from_slice(alloc, &[byte; 2 * BLOCK_BYTES])?;
-    mirror.write(first, &bytes)
+    mirror.write(me, first, &bytes)
 }
 
 // Makes the writes of one writer, and reads back the last of them if its blocks are its own.
-fn write_some(
+fn write_some<D: Device>(
     rt: &impl Abort,
     alloc: Global,
-    mirror: &impl Device,
+    mirror: &D,
+    me: &mut Caller<D::Name>,
     writer: u64,
     shared: bool,
 ) -> Answers {
@@ -205,19 +226,19 @@ fn write_some(
     let first = if shared { 0 } else { writer % 4 * 2 };
     for turn in 0..WRITES {
         let byte = (writer % 4 * 50 + turn) as u8;
-        let answer = write(alloc, mirror, first + turn % 2, byte);
+        let answer = write(alloc, mirror, me, first + turn % 2, byte);
         note(rt, &mut answers, answer);
     }
     let last = (writer % 4 * 50 + 49) as u8;
-    if !shared && !holds(mirror, first + 1, last) {
+    if !shared && !holds(mirror, me, first + 1, last) {
         answers.complaints = answers.complaints.saturating_add(1);
     }
     answers
 }
 
 // Returns whether a block is read that is filled with this byte.
-fn holds(mirror: &impl Device, block: u64, byte: u8) -> bool {
-    match mirror.read(block, 1) {
+fn holds<D: Device>(mirror: &D, me: &mut Caller<D::Name>, block: u64, byte: u8) -> bool {
+    match mirror.read(me, block, 1) {
         Ok(bytes) => bytes.as_slice() == [byte; BLOCK_BYTES].as_slice(),
         Err(_) => false,
     }
@@ -250,15 +271,16 @@ fn reconnect<R: Abort + Wait + Clock>(rt: &R, mirror: &impl Device, round: u32) 
 }
 
 // Makes a thousand writes of one caller, with a cut after every tenth.
-fn cut_every_tenth<R: Abort + Wait + Clock>(
+fn cut_every_tenth<R: Abort + Wait + Clock, D: Device>(
     rt: &R,
     alloc: Global,
-    mirror: &impl Device,
+    mirror: &D,
+    me: &mut Caller<D::Name>,
 ) -> Answers {
     let mut answers = nothing(alloc);
     for round in 1..=100u32 {
         for turn in 0..10u32 {
-            let answer = write(alloc, mirror, u64::from(turn % 8), (round + turn) as u8);
+            let answer = write(alloc, mirror, me, u64::from(turn % 8), (round + turn) as u8);
             note(rt, &mut answers, answer);
         }
         mirror.cut();
@@ -268,10 +290,11 @@ fn cut_every_tenth<R: Abort + Wait + Clock>(
 }
 
 // Runs two callers whose writes are under way at the same time.
-fn gate<R: Abort + Runtime>(
+fn gate<R: Abort + Runtime, N: LogName + Send + Sync, D: Device<Name = N> + Sync>(
     rt: &R,
     alloc: Global,
-    mirror: &(impl Device + Sync),
+    mirror: &D,
+    callers: &Callers<N>,
     signals: &Signals,
     receipt_opens: bool,
 ) -> Answers {
@@ -280,11 +303,12 @@ fn gate<R: Abort + Runtime>(
         alloc,
         2,
         &|caller| {
+            let mut me = callers.caller();
             if caller == 0 {
-                return write(alloc, mirror, 0, 0xAA);
+                return write(alloc, mirror, &mut me, 0, 0xAA);
             }
             wait_until_begun(signals);
-            let receipt = write(alloc, mirror, 1, 0xBB);
+            let receipt = write(alloc, mirror, &mut me, 1, 0xBB);
             if receipt_opens && receipt.is_ok() && !is_released_by_the_peer(mirror, signals) {
                 return Err(Refusal::NotCompleted);
             }
@@ -348,23 +372,29 @@ fn resync(alloc: Global, signals: &Signals, writes: u64) -> Answers {
 }
 
 // Writes until the link has answered one, on each of two connections.
-fn two_connections<R: Abort + Wait + Clock>(
+fn two_connections<R: Abort + Wait + Clock, D: Device>(
     rt: &R,
     alloc: Global,
-    mirror: &impl Device,
+    mirror: &D,
+    me: &mut Caller<D::Name>,
 ) -> Answers {
     let mut answers = nothing(alloc);
-    note(rt, &mut answers, linked(alloc, mirror, 1));
+    note(rt, &mut answers, linked(alloc, mirror, me, 1));
     mirror.cut();
     reconnect(rt, mirror, 1);
-    note(rt, &mut answers, linked(alloc, mirror, 2));
+    note(rt, &mut answers, linked(alloc, mirror, me, 2));
     answers
 }
 
 // Returns the first linked receipt of this connection.
-fn linked(alloc: Global, mirror: &impl Device, connection: u32) -> Result<Receipt, Refusal> {
+fn linked<D: Device>(
+    alloc: Global,
+    mirror: &D,
+    me: &mut Caller<D::Name>,
+    connection: u32,
+) -> Result<Receipt, Refusal> {
     for _ in 0..100_000u32 {
-        let receipt = write(alloc, mirror, 0, 0xAA)?;
+        let receipt = write(alloc, mirror, me, 0, 0xAA)?;
         if let (CompletionKind::Linked, Some(home)) = (receipt.kind(), receipt.home())
             && home.connection() == connection
         {
@@ -375,8 +405,13 @@ fn linked(alloc: Global, mirror: &impl Device, connection: u32) -> Result<Receip
 }
 
 // Writes block 2 once.
-fn one_write(rt: &impl Abort, alloc: Global, mirror: &impl Device) -> Answers {
+fn one_write<D: Device>(
+    rt: &impl Abort,
+    alloc: Global,
+    mirror: &D,
+    me: &mut Caller<D::Name>,
+) -> Answers {
     let mut answers = nothing(alloc);
-    note(rt, &mut answers, write(alloc, mirror, 2, 0xAA));
+    note(rt, &mut answers, write(alloc, mirror, me, 2, 0xAA));
     answers
 }

@@ -8,7 +8,8 @@ use bytes::Bytes;
 use std::alloc::Global;
 use std::process::Abort;
 use std::thread;
-use volume::{Linked, Runtime, Session};
+use told::Caller;
+use volume::{Began, Linked, Runtime, Session};
 
 /// Writes a block, cuts the link, writes the next block, opens the link again, and reads both blocks, all by the
 /// session's own calls. Complains if the new connection is not the second one, or if other bytes are read.
@@ -19,10 +20,11 @@ pub(crate) fn own_calls<R: Abort + Runtime, L: Linked, S: Store + Drop, T: Store
 ) -> Answers {
     let mut answers = nothing(alloc);
     let block = Bytes::copy_from_slice(alloc, &[0xAA; BLOCK_BYTES]).expect(rt, "memory");
-    note(rt, &mut answers, session.write(2, &block));
+    let mut me = session.caller();
+    note(rt, &mut answers, session.write(&mut me, 2, &block));
     session.cut();
-    note(rt, &mut answers, session.write(3, &block));
-    if reconnected(rt, session) != Ok(2) || !are_read(session) {
+    note(rt, &mut answers, session.write(&mut me, 3, &block));
+    if reconnected(rt, session) != Ok(2) || !are_read(session, &mut me) {
         answers.complaints = answers.complaints.saturating_add(1);
     }
     answers
@@ -45,8 +47,9 @@ fn reconnected<R: Abort + Runtime, L: Linked, S: Store + Drop, T: Store + Drop>(
 // Returns whether both blocks are read as they were written.
 fn are_read<R: Abort + Runtime, L: Linked, S: Store + Drop, T: Store + Drop>(
     session: &Session<R, L, S, T>,
+    me: &mut Caller<Began<L>>,
 ) -> bool {
-    match session.read(2, 2) {
+    match session.read(me, 2, 2) {
         Ok(bytes) => bytes.as_slice() == [0xAA; 2 * BLOCK_BYTES].as_slice(),
         Err(_) => false,
     }

@@ -5,6 +5,7 @@ use blocks::{ConnectionWords, Refusal};
 use bytes::Bytes;
 use std::alloc::Global;
 use std::process::Abort;
+use told::Caller;
 use volume::Device;
 
 /// Checks that a second connection is refused with 12, whatever the words, before and after a cut.
@@ -18,10 +19,15 @@ pub(crate) fn one_connection(alloc: Global, mirror: &impl Device) -> Answers {
 }
 
 /// Checks that a session refuses what it should.
-pub(crate) fn refused(rt: &impl Abort, alloc: Global, mirror: &impl Device) -> Answers {
+pub(crate) fn refused<D: Device>(
+    rt: &impl Abort,
+    alloc: Global,
+    mirror: &D,
+    me: &mut Caller<D::Name>,
+) -> Answers {
     let mut answers = nothing(alloc);
     let part = Bytes::copy_from_slice(alloc, &[0u8; 100]).expect(rt, "memory");
-    complain(&mut answers, &refused_while_open(alloc, mirror, &part));
+    complain(&mut answers, &refused_while_open(alloc, mirror, me, &part));
     mirror.cut();
     complain(&mut answers, &refused_after_a_cut(mirror));
     answers
@@ -29,12 +35,17 @@ pub(crate) fn refused(rt: &impl Abort, alloc: Global, mirror: &impl Device) -> A
 
 // Writes and reads past the device, writes part of a block, and reconnects over an open link. Returns the number of
 // each refusal, and the wanted one.
-fn refused_while_open(alloc: Global, mirror: &impl Device, part: &Bytes) -> [(u8, u8); 5] {
+fn refused_while_open<D: Device>(
+    alloc: Global,
+    mirror: &D,
+    me: &mut Caller<D::Name>,
+    part: &Bytes,
+) -> [(u8, u8); 5] {
     [
-        (number(write(alloc, mirror, 8, 0)), 1),
-        (number(mirror.write(0, part)), 1),
-        (number(mirror.read(8, 1)), 1),
-        (number(mirror.read(0, 0)), 1),
+        (number(write(alloc, mirror, me, 8, 0)), 1),
+        (number(mirror.write(me, 0, part)), 1),
+        (number(mirror.read(me, 8, 1)), 1),
+        (number(mirror.read(me, 0, 0)), 1),
         (reconnected(mirror, 90, 91), 36),
     ]
 }

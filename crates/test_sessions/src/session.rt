@@ -10,13 +10,15 @@ use crate::outcome::{Answers, Outcome, bring_together};
 use crate::own_calls::own_calls;
 use bitmap::Bitmap;
 use blocks::{ConnectionWords, Protocol, Refusal, Settings, Store, Tuple};
+use ghost_log::Blank;
 use metadata::StableFile;
 use std::alloc::Global;
 use std::marker::Brand;
 use std::process::Abort;
 use std::sync::Arc;
 use thread_link::{RuledIn, RuledOut, ruled};
-use volume::{Linked, Runtime, Session, SessionStart, SharedLinkSession};
+use told::Callers;
+use volume::{Began, Linked, Runtime, Session, SessionStart, SharedLinkSession};
 
 /// The identifiers of disks that are equal.
 pub(crate) const ALIKE: Tuple = Tuple {
@@ -113,7 +115,10 @@ pub(crate) fn run<
     let parts = case.parts(alloc).expect(&rt, "settings");
     let there = ruled(rt, alloc, parts.settings.link).expect(&rt, "a link");
     let back = ruled(rt, alloc, parts.settings.link).expect(&rt, "a link");
-    run_named::<Brand, _, _, _>(rt, alloc, case.work, there, back, disks, parts, signals)
+    let blank = Blank::new();
+    run_named::<Brand, _, _, _>(
+        rt, alloc, case.work, there, back, disks, parts, blank, signals,
+    )
 }
 
 // Runs it in one function over its name, which the caller picks.
@@ -130,22 +135,25 @@ fn run_named<
     back: (RuledOut<R>, RuledIn<R>),
     disks: (S, T),
     parts: SessionStart,
+    blank: Blank,
     signals: &Arc<Signals, Global>,
 ) -> Result<Outcome, Refusal>
     requires there { AreEndsOf L.link names.There there }
     requires back { AreEndsOf L.link names.Back back }
     requires opening { L.opening ≡ opening_of parts (slice_get (S.contents disks.0)) (slice_get (T.contents disks.1)) }
+    requires log { blank.name ≡ L.log }
 {
     let (local, peer) = disks;
-    match Session::<R, L, S, T>::start(rt, alloc, there, back, local, peer, parts) {
+    match Session::<R, L, S, T>::start(rt, alloc, there, back, local, peer, parts, blank) {
         Ok(session) => {
             let answers = if work == Work::OwnCalls {
                 own_calls(&rt, alloc, &session)
             } else {
-                carry_out_over(&rt, alloc, session.mirror(), signals, work)
+                let callers = session.callers();
+                carry_out_over(&rt, alloc, session.mirror(), callers, signals, work)
             };
-            let nodes = session.finish().expect(&rt, "both nodes");
-            Ok(bring_together(&rt, nodes, &answers))
+            let (primary, secondary, _) = session.finish().expect(&rt, "both nodes");
+            Ok(bring_together(&rt, (primary, secondary), &answers))
         }
         Err(refusal) => Err(refusal),
     }
@@ -163,8 +171,9 @@ fn carry_out_over<
     rt: &R,
     alloc: Global,
     mirror: &SharedLinkSession<R, L, S, T, F, G>,
+    callers: &Callers<Began<L>>,
     signals: &Signals,
     work: Work,
 ) -> Answers {
-    carry_out(rt, alloc, mirror, signals, work)
+    carry_out(rt, alloc, mirror, callers, signals, work)
 }

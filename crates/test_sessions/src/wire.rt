@@ -1,17 +1,22 @@
 //! Tests of sessions over streams.
+ghost use Rattle.std.specs.Prelude.{◌≡◌, None};
+
 use crate::callers::{Work, carry_out};
 use crate::disks::{Signals, memory};
 use crate::outcome::{Answers, Outcome, bring_together};
 use crate::pipes::{Foreign, PipeReader, PipeWriter, pipe};
 use crate::session::Case;
 use blocks::{MemStore, Protocol, Refusal};
+use ghost_log::Blank;
 use metadata::StableFile;
 use std::alloc::Global;
+use std::marker::Brand;
 use std::ops::Range;
 use std::process::Abort;
 use std::thread;
-use stream_session::{Sink, Source, StreamSession, Unknown, Way, Ways};
+use stream_session::{Beginning, Sink, Source, StreamSession, Way, Ways};
 use thread_link::{RuledIn, RuledOut};
+use told::Callers;
 use volume::{LockedPrimary, LockedSecondary, Runtime, SharedSession};
 
 /// The number of bytes after which a stream that never fails would fail.
@@ -80,35 +85,72 @@ fn over_ways<R: Abort + Runtime, W: Sink, D: Source, V: Sink, E: Source>(
     case: Case,
     ways: Ways<Way<W, D>, Way<V, E>>,
 ) -> Result<Outcome, Refusal> {
+    named_over_ways::<Brand, R, W, D, V, E>(rt, alloc, case, ways, Blank::new())
+}
+
+// Runs it in one function over its beginning, which the caller picks.
+fn named_over_ways<
+    B: Beginning + Send + Sync + 'static,
+    R: Abort + Runtime,
+    W: Sink,
+    D: Source,
+    V: Sink,
+    E: Source,
+>(
+    rt: R,
+    alloc: Global,
+    case: Case,
+    ways: Ways<Way<W, D>, Way<V, E>>,
+    blank: Blank,
+) -> Result<Outcome, Refusal>
+    requires opening { B.opening ≡ None }
+    requires log { blank.name ≡ B.name }
+{
     let parts = case.parts(alloc).expect(&rt, "settings");
     let (local, peer) = (memory(&rt, alloc, false), memory(&rt, alloc, false));
-    match StreamSession::<R, Unknown, MemStore, MemStore>::start_over(
-        rt, alloc, local, peer, parts, ways,
+    match StreamSession::<R, B, MemStore, MemStore>::start_over(
+        rt, alloc, local, peer, parts, ways, blank,
     ) {
         Ok(session) => {
             let signals = Signals::new();
-            let answers = carry_out_over(&rt, alloc, session.mirror(), &signals, case.work);
-            let nodes = session.finish().expect(&rt, "both nodes");
-            Ok(bring_together(&rt, nodes, &answers))
+            let callers = session.callers();
+            let answers = carry_out_over(
+                &rt,
+                alloc,
+                session.mirror(),
+                callers,
+                &signals,
+                case.work,
+            );
+            let (primary, secondary, _) = session.finish().expect(&rt, "both nodes");
+            Ok(bring_together(&rt, (primary, secondary), &answers))
         }
         Err(refusal) => Err(refusal),
     }
 }
 
 // The mirror of a session over streams with metadata files of these types.
-type FiledSession<R, F, G> = SharedSession<
+type FiledSession<R, B, F, G> = SharedSession<
     R,
-    LockedPrimary<R, Unknown, RuledOut<R>, RuledIn<R>, MemStore, F>,
-    LockedSecondary<R, Unknown, RuledOut<R>, RuledIn<R>, MemStore, G>,
+    LockedPrimary<R, B, RuledOut<R>, RuledIn<R>, MemStore, F>,
+    LockedSecondary<R, B, RuledOut<R>, RuledIn<R>, MemStore, G>,
 >;
 
 // Carries the work out over the mirror, whatever the type of its metadata's files.
 fn carry_out_over<
+    B: Beginning + Send + Sync + 'static,
     R: Abort + Runtime,
     F: StableFile + Send + 'static,
     G: StableFile + Send + 'static,
->(rt: &R, alloc: Global, mirror: &FiledSession<R, F, G>, signals: &Signals, work: Work) -> Answers {
-    carry_out(rt, alloc, mirror, signals, work)
+>(
+    rt: &R,
+    alloc: Global,
+    mirror: &FiledSession<R, B, F, G>,
+    callers: &Callers<B>,
+    signals: &Signals,
+    work: Work,
+) -> Answers {
+    carry_out(rt, alloc, mirror, callers, signals, work)
 }
 
 #[test]

@@ -8,4 +8,4 @@ use Rattle.thread_link.specs.Outward.{OutwardState, unused_out}
 pub record IsUnused (frames : ℕ) (ends : OutwardState × InwardState) : Type 0 where
   pub outward : ends.0 ≡ unused_out ends.0.row
   pub inward : ends.1 ≡ unused_in ends.0.row
-  pub room : ends.0.row.slots ≡ 94 * frames
+  pub room : ends.0.row.slots ≡ 31 * frames

@@ -12,7 +12,7 @@ use std::alloc::Global;
 use std::sync::Wait;
 
 /// Pieces of the longest frame.
-pub const FRAME_PIECES: usize = 94;
+pub const FRAME_PIECES: usize = 31;
 
 /// Creates one direction of a link, over a row for `link` of the longest frames; its ends are on a first connection.
 /// `NoMemory` (7) if there is no memory for it.

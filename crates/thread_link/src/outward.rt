@@ -11,7 +11,7 @@ use std::marker::Model;
 use std::sync::Wait;
 
 /// The sending end of one direction of a link whose two ends may be in two threads. It pushes a frame as pieces of
-/// 1,400 bytes; the last one may be shorter. A frame is sent once its last piece is pushed.
+/// 4,352 bytes; the last one may be shorter. A frame is sent once its last piece is pushed.
 #[derive(Drop)]
 pub struct RuledOut<R: Wait, M: RingInvariant = NoInvariant> {
     pub(crate) pieces: PieceOut<R, M>,

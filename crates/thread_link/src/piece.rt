@@ -3,10 +3,10 @@ ghost use Rattle.std.specs.Prelude.{◌≡◌, ◌<◌, ◌≤◌, length};
 
 use std::marker::Model;
 
-/// The most bytes of a piece, about what one packet of a network carries (this project's choice).
-pub const PIECE_BYTES: usize = 1400;
+/// The most bytes of a piece: a frame of one block is one piece (this project's choice).
+pub const PIECE_BYTES: usize = 4352;
 
-/// 1 to 1,400 bytes, and the number of the connection that they belong to. It is stored inline, and takes no memory.
+/// 1 to 4,352 bytes, and the number of the connection that they belong to. It is stored inline, and takes no memory.
 #[derive(Drop)]
 pub struct Piece {
     bytes: [u8; PIECE_BYTES],

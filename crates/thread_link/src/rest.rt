@@ -57,7 +57,7 @@ impl Rest {
         requires { count ≤ length self.old.bytes }
         ensures { self.new ≡ record self.old { bytes = drop count self.old.bytes } }
     {
-        // A piece has at most 1,400 bytes.
+        // A piece has at most 4,352 bytes.
         let _ = self.piece.bytes();
         self.used += count;
     }

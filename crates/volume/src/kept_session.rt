@@ -1,5 +1,5 @@
 //! A session over a link in this process, whose nodes have their metadata on stable storage.
-ghost use Rattle.std.specs.Prelude.{◌≡◌, ◌≤◌, ◌⊎◌, Bool, true, Some, is_some, slice_get, IfErr, IfOk};
+ghost use Rattle.std.specs.Prelude.{◌≡◌, ◌≤◌, ◌⊎◌, [], Bool, true, Some, is_some, slice_get, IfErr, IfOk};
 ghost use Rattle.blocks.specs.declared.refusal.Refusal.TheVariants.{LocalFault, NotDrained};
 ghost use Rattle.session_api.specs.Opening.{opening_of};
 ghost use Rattle.kept_nodes.specs.Kept.{PrimaryIsKept, SecondaryIsKept};
@@ -10,9 +10,11 @@ ghost use Rattle.model.specs.Secondary.{SecondaryHistory};
 ghost use Rattle.session_nodes.specs.Primaries.{PrimaryHas, PrimaryIsHad};
 ghost use Rattle.session_nodes.specs.Secondaries.{SecondaryHas, SecondaryIsHad};
 ghost use Rattle.thread_link.specs.Names as names;
+ghost use Rattle.told_nodes.specs.Told.{IsTold};
 ghost use Rattle.volume.specs.Links.{AreEndsOf};
 
 use blocks::{Refusal, Store};
+use ghost_log::Blank;
 use locked_halves::{LockedPrimary, LockedSecondary};
 use metadata::{Metadata, StableFile};
 use session_api::{Runtime, SessionStart};
@@ -24,6 +26,7 @@ use std::alloc::Global;
 use std::sync::Wait;
 use std::thread::Threads;
 use thread_link::{NamedIn, NamedOut, RuledIn, RuledOut};
+use told::{Caller, Callers, ToldLog, open_log};
 
 /// The primary's half over a session's link.
 pub type LockedLinkPrimary<R, L, S, F> = LockedPrimary<
@@ -61,7 +64,7 @@ pub struct PairMetadata<F: StableFile, G: StableFile> {
     pub is_peer_doubted: bool,
 }
 
-/// What a session leaves: both nodes, and the metadata of their disks.
+/// What a session leaves: both nodes, the metadata of their disks, and the log of what its callers were told.
 pub struct Finished<
     R: Wait + Drop,
     L: Linked,
@@ -73,6 +76,7 @@ pub struct Finished<
     pub primary: NamedPrimary<R, L, S>,
     pub secondary: NamedSecondary<R, L, T>,
     pub metadata: PairMetadata<F, G>,
+    pub log: ToldLog<Began<L>>,
 }
 
 /// A running session over a link, whose nodes have their metadata on stable storage. It cannot be dropped: whoever starts it has to
@@ -86,6 +90,7 @@ pub struct KeptSession<
     G: StableFile,
 > {
     running: Running<R, LockedLinkPrimary<R, L, S, F>, LockedLinkSecondary<R, L, T, G>>,
+    callers: Callers<Began<L>>,
 }
 
 impl<
@@ -110,13 +115,16 @@ impl<
         peer: T,
         parts: SessionStart,
         metadata: PairMetadata<F, G>,
+        blank: Blank,
     ) -> Result<KeptSession<R, L, S, T, F, G>, Refusal>
         requires there { AreEndsOf L.link names.There there }
         requires back { AreEndsOf L.link names.Back back }
         requires opening { L.opening ≡ opening_of parts (slice_get (S.contents local)) (slice_get (T.contents peer)) }
+        requires log { blank.name ≡ L.log }
         ensures refused { IfErr result (λ e. (start_refuses e ≡ true) ⊎ ((e ≡ LocalFault) × ((is_some metadata.primary ≡ true) ⊎ (is_some metadata.secondary ≡ true)))) }
     {
         let (primary_ends, secondary_ends) = named_ends::<R, L>(there, back);
+        let (log, callers) = open_log::<Began<L>>(blank);
         let primary = LockedPrimary::open(
             rt,
             alloc,
@@ -127,6 +135,7 @@ impl<
             primary_ends,
             parts.words,
             metadata.primary,
+            log,
         )?;
         match LockedSecondary::open(
             rt,
@@ -139,7 +148,7 @@ impl<
             metadata.is_peer_doubted,
         ) {
             Ok(secondary) => match Running::start(rt, alloc, primary, secondary, parts.is_cut) {
-                Ok(running) => Ok(KeptSession { running }),
+                Ok(running) => Ok(KeptSession { running, callers }),
                 Err(refusal) => Err(refusal),
             },
             Err(refusal) => {
@@ -163,6 +172,18 @@ impl<
         self.running.mirror()
     }
 
+    /// Returns a new caller of the session, which was told nothing yet.
+    pub fn caller(&self) -> Caller<Began<L>>
+        ensures { result ≡ record { log = []; own = [] } }
+    {
+        self.callers.caller()
+    }
+
+    /// Returns the right to make callers of the session, which any number of threads may share.
+    pub fn callers(&self) -> &Callers<Began<L>> {
+        &self.callers
+    }
+
     /// Ends the session: cuts the link, lets the disks finish all pending work, stops the threads, and returns both nodes with their
     /// metadata. `NotDrained` (36) if a thread still shares a node.
     ///
@@ -173,24 +194,30 @@ impl<
     /// nodes has to leave (`kept`, `kept_too`).
     pub fn finish(self) -> Result<Finished<R, L, S, T, F, G>, Refusal>
         ensures had { IfOk result (λ left. PrimaryIsHad (Some L.opening) left.primary × SecondaryIsHad (Some L.opening) left.secondary) }
+        ensures told { IfOk result (λ left. IsTold (Some L.opening) left.log.log left.primary) }
         ensures joined { IfOk result (λ left. (p : PrimaryHistory) (s : SecondaryHistory) → PrimaryHas left.primary p → SecondaryHas left.secondary s → IsJoined p s) }
         ensures numbered { IfOk result (λ left. left.secondary.core.number ≤ left.primary.core.connections) }
         ensures kept { IfOk result (λ left. (owes_all : Bool) × PrimaryIsKept F.seen F.may_leave F.faithful (Some L.opening) left.primary left.metadata.primary owes_all) }
         ensures kept_too { IfOk result (λ left. SecondaryIsKept (Some L.opening) left.secondary left.metadata.secondary left.metadata.is_peer_doubted) }
         ensures refused { IfErr result (λ e. e ≡ NotDrained) }
     {
-        let KeptSession { running } = self;
+        let KeptSession {
+            running,
+            callers: _,
+        } = self;
         let (locked_primary, locked_secondary) = running.finish()?;
         let Finished {
             primary,
             secondary,
             metadata,
+            log,
         } = into_nodes(locked_primary, locked_secondary);
         match check_numbers(&primary, &secondary) {
             Ok(()) => Ok(Finished {
                 primary,
                 secondary,
                 metadata,
+                log,
             }),
             Err(refusal) => {
                 drop((primary.into_store(), secondary.into_store()));
@@ -213,11 +240,12 @@ fn into_nodes<
     secondary: LockedLinkSecondary<R, L, T, G>,
 ) -> Finished<R, L, S, T, F, G>
     ensures had { PrimaryIsHad (Some L.opening) result.primary × SecondaryIsHad (Some L.opening) result.secondary }
+    ensures told { IsTold (Some L.opening) result.log.log result.primary }
     ensures joined { (p : PrimaryHistory) (s : SecondaryHistory) → PrimaryHas result.primary p → SecondaryHas result.secondary s → IsJoined p s }
     ensures kept { (owes_all : Bool) × PrimaryIsKept F.seen F.may_leave F.faithful (Some L.opening) result.primary result.metadata.primary owes_all }
     ensures kept_too { SecondaryIsKept (Some L.opening) result.secondary result.metadata.secondary result.metadata.is_peer_doubted }
 {
-    let (primary, primary_metadata) = primary.into_parts();
+    let (primary, primary_metadata, log) = primary.into_parts();
     let (secondary, secondary_metadata, is_peer_doubted) = secondary.into_parts();
     let (primary, secondary) = join_nodes(primary, secondary);
     Finished {
@@ -228,5 +256,6 @@ fn into_nodes<
             secondary: secondary_metadata,
             is_peer_doubted,
         },
+        log,
     }
 }

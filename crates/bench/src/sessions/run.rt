@@ -1,5 +1,5 @@
 //! A measured session, from its start to its end.
-ghost use Rattle.std.specs.Prelude.{◌≡◌, slice_get};
+ghost use Rattle.std.specs.Prelude.{◌≡◌, None, slice_get};
 ghost use Rattle.thread_link.specs.Names as names;
 ghost use Rattle.volume.specs.Links.{AreEndsOf};
 ghost use Rattle.volume.specs.Opening.{opening_of};
@@ -8,6 +8,7 @@ use crate::sessions::report::Report;
 use crate::sessions::writers::write_all;
 use bitmap::Bitmap;
 use blocks::{ConnectionWords, MemStore, Protocol, Refusal, Settings, Tuple};
+use ghost_log::{Blank, LogName};
 use link::{FrameIn, FrameOut};
 use metadata::StableFile;
 use primary::Primary;
@@ -18,10 +19,11 @@ use std::marker::Brand;
 use std::net::{Net, TcpListener, TcpStream};
 use std::time::{Duration, Instant};
 use std::{fmt, thread};
-use stream_session::{Socket, StreamSession, Unknown, Ways, loopback};
+use stream_session::{Beginning, Socket, StreamSession, Ways, loopback};
 use thread_link::{RuledIn, RuledOut, ruled};
+use told::{Callers, ToldLog};
 use volume::{
-    Device, Linked, LockedPrimary, LockedSecondary, Runtime, Session, SessionStart,
+    Began, Device, Linked, LockedPrimary, LockedSecondary, Runtime, Session, SessionStart,
     SharedLinkSession, SharedSession,
 };
 
@@ -99,7 +101,7 @@ fn run_linked<R: Runtime>(rt: R, alloc: Global, plan: Plan) -> Result<Report, Re
     let there = ruled(rt, alloc, Settings::STANDARD.link)?;
     let back = ruled(rt, alloc, Settings::STANDARD.link)?;
     let (parts, disks) = parts(alloc, plan)?;
-    run_named::<Brand, R>(rt, alloc, plan, there, back, disks, parts)
+    run_named::<Brand, R>(rt, alloc, plan, there, back, disks, parts, Blank::new())
 }
 
 // Runs it in one function over its name, which the caller picks.
@@ -111,16 +113,18 @@ fn run_named<L: Linked + Send + Sync + 'static, R: Runtime>(
     back: (RuledOut<R>, RuledIn<R>),
     disks: Disks,
     parts: SessionStart,
+    blank: Blank,
 ) -> Result<Report, Refusal>
     requires there { AreEndsOf L.link names.There there }
     requires back { AreEndsOf L.link names.Back back }
     requires opening { L.opening ≡ opening_of parts (slice_get disks.local) (slice_get disks.peer) }
+    requires log { blank.name ≡ L.log }
 {
     let Disks { local, peer } = disks;
     let session = Session::<R, L, MemStore, MemStore>::start(
-        rt, alloc, there, back, local, peer, parts,
+        rt, alloc, there, back, local, peer, parts, blank,
     )?;
-    let report = measured_linked(&rt, alloc, session.mirror(), plan);
+    let report = measured_linked(&rt, alloc, session.mirror(), session.callers(), plan);
     end(session.finish())?;
     report
 }
@@ -132,29 +136,50 @@ fn run_over<R: Runtime>(
     plan: Plan,
     ways: Ways<Socket, Socket>,
 ) -> Result<Report, Refusal> {
+    run_named_over::<Brand, R>(rt, alloc, plan, ways, Blank::new())
+}
+
+// Runs it in one function over its beginning, which the caller picks.
+fn run_named_over<B: Beginning + Send + Sync + 'static, R: Runtime>(
+    rt: R,
+    alloc: Global,
+    plan: Plan,
+    ways: Ways<Socket, Socket>,
+    blank: Blank,
+) -> Result<Report, Refusal>
+    requires opening { B.opening ≡ None }
+    requires log { blank.name ≡ B.name }
+{
     let (parts, Disks { local, peer }) = parts(alloc, plan)?;
-    let session = StreamSession::<R, Unknown, MemStore, MemStore>::start_over(
-        rt, alloc, local, peer, parts, ways,
+    let session = StreamSession::<R, B, MemStore, MemStore>::start_over(
+        rt, alloc, local, peer, parts, ways, blank,
     )?;
-    let report = measured_over(&rt, alloc, session.mirror(), plan);
+    let report = measured_over(&rt, alloc, session.mirror(), session.callers(), plan);
     end(session.finish())?;
     report
 }
 
 // Drops both nodes of an ended session.
-fn end<O: FrameOut + Drop, I: FrameIn + Drop, P: FrameOut + Drop, J: FrameIn + Drop>(
-    ended: Result<(Primary<O, I, MemStore>, Secondary<P, J, MemStore>), Refusal>,
+fn end<O: FrameOut + Drop, I: FrameIn + Drop, P: FrameOut + Drop, J: FrameIn + Drop, N: LogName>(
+    ended: Result<
+        (
+            Primary<O, I, MemStore>,
+            Secondary<P, J, MemStore>,
+            ToldLog<N>,
+        ),
+        Refusal,
+    >,
 ) -> Result<(), Refusal> {
-    let (primary, secondary) = ended?;
+    let (primary, secondary, _) = ended?;
     drop((primary.into_store(), secondary.into_store()));
     Ok(())
 }
 
 // The mirror of a session over sockets with metadata files of these types.
-type FiledSession<R, F, G> = SharedSession<
+type FiledSession<R, B, F, G> = SharedSession<
     R,
-    LockedPrimary<R, Unknown, RuledOut<R>, RuledIn<R>, MemStore, F>,
-    LockedSecondary<R, Unknown, RuledOut<R>, RuledIn<R>, MemStore, G>,
+    LockedPrimary<R, B, RuledOut<R>, RuledIn<R>, MemStore, F>,
+    LockedSecondary<R, B, RuledOut<R>, RuledIn<R>, MemStore, G>,
 >;
 
 // Measures a session over a link, whatever the type of its metadata's files.
@@ -167,30 +192,38 @@ fn measured_linked<
     rt: &R,
     alloc: Global,
     mirror: &SharedLinkSession<R, L, MemStore, MemStore, F, G>,
+    callers: &Callers<Began<L>>,
     plan: Plan,
 ) -> Result<Report, Refusal> {
-    measured(rt, alloc, mirror, plan)
+    measured(rt, alloc, mirror, callers, plan)
 }
 
 // Measures a session over sockets, whatever the type of its metadata's files.
-fn measured_over<R: Runtime, F: StableFile + Send + 'static, G: StableFile + Send + 'static>(
+fn measured_over<
+    B: Beginning + Send + Sync + 'static,
+    R: Runtime,
+    F: StableFile + Send + 'static,
+    G: StableFile + Send + 'static,
+>(
     rt: &R,
     alloc: Global,
-    mirror: &FiledSession<R, F, G>,
+    mirror: &FiledSession<R, B, F, G>,
+    callers: &Callers<B>,
     plan: Plan,
 ) -> Result<Report, Refusal> {
-    measured(rt, alloc, mirror, plan)
+    measured(rt, alloc, mirror, callers, plan)
 }
 
 // Makes all writes of a session that runs, and then leaves it alone.
-fn measured<R: Runtime>(
+fn measured<R: Runtime, N: LogName + Send + Sync, D: Device<Name = N> + Sync>(
     rt: &R,
     alloc: Global,
-    mirror: &(impl Device + Sync),
+    mirror: &D,
+    callers: &Callers<N>,
     plan: Plan,
 ) -> Result<Report, Refusal> {
     let start = Instant::now(rt);
-    let waits = write_all(rt, alloc, mirror, plan)?;
+    let waits = write_all(rt, alloc, mirror, callers, plan)?;
     let time = match start {
         Ok(start) => start.elapsed(rt),
         Err(error) => Err(error),

@@ -2,20 +2,23 @@
 use crate::sessions::run::Plan;
 use blocks::{BLOCK_BYTES, Refusal};
 use bytes::Bytes;
+use ghost_log::LogName;
 use std::alloc::Global;
 use std::sync::Wait;
 use std::thread;
 use std::time::{Clock, Instant};
+use told::{Caller, Callers};
 use volume::{Device, Runtime};
 
 /// Blocks that each writer writes in turn.
 const BLOCKS_OF_A_WRITER: u64 = 512;
 
 /// Lets each writer make its writes in a thread of its own. Returns how long each write waited, in nanoseconds.
-pub(crate) fn write_all<R: Runtime>(
+pub(crate) fn write_all<R: Runtime, N: LogName + Send + Sync, D: Device<Name = N> + Sync>(
     rt: &R,
     alloc: Global,
-    mirror: &(impl Device + Sync),
+    mirror: &D,
+    callers: &Callers<N>,
     plan: Plan,
 ) -> Result<Vec<u64>, Refusal> {
     let bytes = Bytes::copy_from_slice(alloc, &[0x5A; BLOCK_BYTES])?;
@@ -23,7 +26,18 @@ pub(crate) fn write_all<R: Runtime>(
         rt,
         alloc,
         plan.writers as usize,
-        &|writer| { write_some(rt, alloc, mirror, plan.writes, writer as u64, &bytes) },
+        &|writer| {
+            let mut me = callers.caller();
+            write_some(
+                rt,
+                alloc,
+                mirror,
+                &mut me,
+                plan.writes,
+                writer as u64,
+                &bytes,
+            )
+        },
     )?;
     let mut all = Vec::new(alloc);
     for waits in each {
@@ -33,10 +47,11 @@ pub(crate) fn write_all<R: Runtime>(
 }
 
 // Makes the writes of one writer. Returns how long each write waited, in nanoseconds.
-fn write_some<R: Wait + Clock>(
+fn write_some<R: Wait + Clock, D: Device>(
     rt: &R,
     alloc: Global,
-    mirror: &impl Device,
+    mirror: &D,
+    me: &mut Caller<D::Name>,
     writes: u32,
     writer: u64,
     bytes: &Bytes,
@@ -45,7 +60,7 @@ fn write_some<R: Wait + Clock>(
     for turn in 0..writes {
         let block = writer % 16 * BLOCKS_OF_A_WRITER + u64::from(turn) % BLOCKS_OF_A_WRITER;
         let start = Instant::now(rt);
-        mirror.write(block, bytes)?;
+        mirror.write(me, block, bytes)?;
         waits.push(nanos_since(rt, start))?;
     }
     Ok(waits)

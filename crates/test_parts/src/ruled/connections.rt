@@ -23,8 +23,8 @@ pub(crate) fn spelled(alloc: Global, packet: &Packet) -> Result<Frame, Refusal>
     encode(alloc, packet)
 }
 
-/// Makes the frame of a write of block 2.
-fn one_block_in(alloc: Global) -> Result<Frame, Refusal>
+/// Makes the frame of a write of blocks 2 to 4, which is three pieces.
+fn three_blocks_in(alloc: Global) -> Result<Frame, Refusal>
     ensures { IfOk result (λ frame. IsCut frame) }
 {
     spelled(
@@ -33,16 +33,16 @@ fn one_block_in(alloc: Global) -> Result<Frame, Refusal>
             first: Block(2),
             number: 1,
             place: 0,
-            contents: Bytes::copy_from_slice(alloc, &[0xAA; 4096])?,
+            contents: Bytes::copy_from_slice(alloc, &[0xAA; 12_288])?,
         },
     )
 }
 
 /// Makes the same frame, if there is memory for it.
-pub(crate) fn one_block(rt: &impl Abort, alloc: Global) -> Frame
+pub(crate) fn three_blocks(rt: &impl Abort, alloc: Global) -> Frame
     ensures { IsCut result }
 {
-    one_block_in(alloc).expect(rt, "a write has a frame")
+    three_blocks_in(alloc).expect(rt, "a write has a frame")
 }
 
 /// Makes the frame of a barrier.
@@ -67,7 +67,7 @@ fn ends<R: Wait + Abort + Copy>(rt: R, alloc: Global, pieces: usize) -> (RuledOu
 fn goes_on<O: FrameOut, I: FrameIn>(rt: &impl Abort, alloc: Global, outward: &mut O, inward: &mut I)
     requires { (O.state outward.old).partly ≡ None }
 {
-    let frame = hands_back(rt, outward, one_block(rt, alloc));
+    let frame = hands_back(rt, outward, three_blocks(rt, alloc));
     carries(rt, outward, inward, frame, &write(rt, alloc));
 }
 
@@ -88,7 +88,7 @@ fn begins_anew<O: FrameOut, I: FrameIn>(
     requires sending { (O.state outward.old).number ≡ 1 }
     requires taking { (I.state inward.old).number ≡ 1 }
 {
-    let _ = hands_back(rt, outward, one_block(rt, alloc));
+    let _ = hands_back(rt, outward, three_blocks(rt, alloc));
     gives_none(rt, inward);
     outward.restart(2);
     accepts(rt, outward, barrier(rt, alloc, 1));
@@ -117,7 +117,7 @@ fn drops_earlier<O: FrameOut, I: FrameIn>(
     requires sending { (O.state outward.old).number ≡ 1 }
     requires taking { (I.state inward.old).number ≡ 1 }
 {
-    accepts(rt, outward, one_block(rt, alloc));
+    accepts(rt, outward, three_blocks(rt, alloc));
     outward.restart(2);
     accepts(rt, outward, barrier(rt, alloc, 2));
     outward.restart(5);

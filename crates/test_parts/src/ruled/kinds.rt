@@ -1,7 +1,7 @@
 //! A frame of each kind, as bytes.
 use crate::vectors::{
     BARRIER, BARRIER_ACK, PROTOCOL_C, RESYNC, RS_WRITE_ACK, SIZES, SYNC_UUID, TWO_WRITES_ACK,
-    UUIDS, WRITE, WRITE_ACK, with_blocks,
+    UUIDS, WRITE, WRITE_ACK, WRITE_OF_THREE, with_blocks,
 };
 use std::alloc::Global;
 use std::process::Abort;
@@ -21,9 +21,9 @@ const KINDS: [(&[u8], u8); 11] = [
     (&RS_WRITE_ACK, 0),
 ];
 
-/// Makes the DATA frame of block 2.
+/// Makes the DATA frame of blocks 2 to 4.
 pub(crate) fn write(rt: &impl Abort, alloc: Global) -> Vec<u8> {
-    with_blocks(rt, alloc, &WRITE, 1, 0xAA)
+    with_blocks(rt, alloc, &WRITE_OF_THREE, 3, 0xAA)
 }
 
 /// Makes a frame of each kind.

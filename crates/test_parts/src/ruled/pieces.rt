@@ -1,7 +1,7 @@
 //! Tests of frames from pieces that are cut in any way, and of the pieces of a frame.
 ghost use Rattle.std.specs.Prelude.{◌<◌};
 
-use crate::ruled::connections::one_block;
+use crate::ruled::connections::three_blocks;
 use crate::ruled::ends::{accepts, gives, gives_none};
 use crate::ruled::kinds::{frames, write};
 use crate::vectors::{BARRIER, OTHER_MAGIC};
@@ -75,8 +75,8 @@ fn a_header_that_is_none_is_a_frame_of_eight_bytes(rt: HostRuntime) {
 
 /// Returns the end that pops the pieces of a write.
 fn popped_write<R: Wait + Abort + Copy>(rt: R, alloc: Global) -> PieceIn<R> {
-    let (outward, inward) = row(rt, alloc, 94).expect(&rt, "there is a row");
-    accepts(&rt, &mut RuledOut::new(outward), one_block(&rt, alloc));
+    let (outward, inward) = row(rt, alloc, 31).expect(&rt, "there is a row");
+    accepts(&rt, &mut RuledOut::new(outward), three_blocks(&rt, alloc));
     inward
 }
 
@@ -100,7 +100,7 @@ fn comes_with_the_last<R: Wait, I: FrameIn>(
     pushed: &mut PieceOut<R>,
     inward: &mut I,
 ) {
-    for len in [1400, 1400, 1328] {
+    for len in [4352, 4352, 3616] {
         gives_none(rt, inward);
         passes_on(rt, popped, pushed, len);
     }
@@ -111,6 +111,6 @@ fn comes_with_the_last<R: Wait, I: FrameIn>(
 #[test]
 fn a_write_goes_in_three_pieces(rt: HostRuntime) {
     let mut popped = popped_write(&rt, rt.alloc());
-    let (mut pushed, mut inward) = taker(&rt, rt.alloc(), 94);
+    let (mut pushed, mut inward) = taker(&rt, rt.alloc(), 31);
     comes_with_the_last(&rt, rt.alloc(), &mut popped, &mut pushed, &mut inward);
 }

@@ -1,7 +1,7 @@
 //! Tests of a row and of a link with an invariant.
 ghost use Rattle.std.specs.Prelude.{[]};
 
-use crate::ruled::connections::one_block;
+use crate::ruled::connections::three_blocks;
 use crate::ruled::ends::carries;
 use crate::ruled::kinds::write;
 use std::alloc::Global;
@@ -62,7 +62,7 @@ fn one_frame_goes_through<M: RingInvariant, R: Wait + Abort + Copy>(rt: R, alloc
         &rt,
         "there is a link",
     );
-    let (frame, bytes) = (one_block(&rt, alloc), write(&rt, alloc));
+    let (frame, bytes) = (three_blocks(&rt, alloc), write(&rt, alloc));
     carries(&rt, &mut outward, &mut inward, frame, &bytes);
 }
 

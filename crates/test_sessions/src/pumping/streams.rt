@@ -106,7 +106,7 @@ fn is_front(bytes: &[u8], part: &[u8], count: usize) -> bool {
     part.len() == count && bytes.starts_with(part)
 }
 
-/// A writer, and what a pump gives it of 70 pieces of 1,000 bytes. A buffer is full with 65 of them, and a stop leaves
+/// A writer, and what a pump gives it of 70 pieces of 1,000 bytes. A buffer is full with 62 of them, and a stop leaves
 /// the others in the row.
 #[derive(Clone, Copy)]
 struct Writer {
@@ -125,25 +125,25 @@ const WRITERS: [Writer; 6] = [
         step: 1,
         left: usize::MAX,
         end: PumpEnd::Stopped,
-        count: 65_000,
+        count: 62_000,
     },
     Writer {
         step: 7,
         left: usize::MAX,
         end: PumpEnd::Stopped,
-        count: 65_000,
+        count: 62_000,
     },
     Writer {
         step: 1_400,
         left: usize::MAX,
         end: PumpEnd::Stopped,
-        count: 65_000,
+        count: 62_000,
     },
     Writer {
         step: usize::MAX,
         left: usize::MAX,
         end: PumpEnd::Stopped,
-        count: 65_000,
+        count: 62_000,
     },
     Writer {
         step: 7,
@@ -192,7 +192,7 @@ fn written<R: Wait + Clock + Abort>(
     assert_eq!(rt; ended, writer.end, "a writer of {} bytes", writer.step);
     assert!(rt; is_front(bytes, &got, writer.count));
     let kept = drain(rt, alloc, inward);
-    assert!(rt; kept.len() == 5_000 && bytes.ends_with(&kept));
+    assert!(rt; kept.len() == 8_000 && bytes.ends_with(&kept));
     got
 }
 
@@ -228,7 +228,7 @@ fn a_writer_gets_the_pieces_in_order(rt: HostRuntime) {
     }
 }
 
-/// A reader of 3,000 bytes, and what a pump pushes of them into a row.
+/// A reader of 10,000 bytes, and what a pump pushes of them into a row.
 #[derive(Clone, Copy)]
 struct Reader {
     /// The bytes that a read gives at most.
@@ -250,17 +250,17 @@ const READERS: [Reader; 6] = [
         step: 1,
         left: usize::MAX,
         stops: false,
-        room: 3_000,
+        room: 10_000,
         end: PumpEnd::EndOfInput,
-        count: 3_000,
+        count: 10_000,
     },
     Reader {
         step: 7,
         left: usize::MAX,
         stops: false,
-        room: 3_000,
+        room: 10_000,
         end: PumpEnd::EndOfInput,
-        count: 3_000,
+        count: 10_000,
     },
     Reader {
         step: usize::MAX,
@@ -268,7 +268,7 @@ const READERS: [Reader; 6] = [
         stops: false,
         room: 3,
         end: PumpEnd::EndOfInput,
-        count: 3_000,
+        count: 10_000,
     },
     Reader {
         step: 7,
@@ -292,7 +292,7 @@ const READERS: [Reader; 6] = [
         stops: true,
         room: 2,
         end: PumpEnd::Stopped,
-        count: 2_800,
+        count: 8_704,
     },
 ];
 
@@ -318,7 +318,7 @@ fn pushed<R: Wait + Clock>(
 
 /// Checks that what a reader gives comes out of the row in order.
 fn takes<R: Wait + Clock + Copy + Drop + Abort>(rt: R, alloc: Global, reader: Reader) {
-    let bytes = counted(&rt, alloc, 3_000);
+    let bytes = counted(&rt, alloc, 10_000);
     let mut buffer = Buffer::new(alloc).expect(&rt, "memory");
     let room = reader.room;
     assert!(rt; room > 0);

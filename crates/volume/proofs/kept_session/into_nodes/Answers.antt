@@ -4,6 +4,7 @@ use Rattle.primary.specs.State.{PrimaryView}
 use Rattle.secondary.specs.State.{SecondaryView}
 use Rattle.session_nodes.specs.Primaries.{PrimaryHas, PrimaryIsHad}
 use Rattle.session_nodes.specs.Secondaries.{SecondaryHas, SecondaryIsHad}
+use Rattle.told_nodes.specs.Told.{IsTold}
 use Rattle.volume.proofs.kept_session.into_nodes.Goals as goal
 
 pub returns-clause-had : goal.returns-clause-had
@@ -11,6 +12,10 @@ returns-clause-had g c = record {
   0 = subst (λ (v : PrimaryView). PrimaryIsHad (Some g.L.Linked.opening) v) (sym c.join_nodes-primary.ensures.primary) c.into_parts-primary.ensures.had;
   1 = subst (λ (v : SecondaryView). SecondaryIsHad (Some g.L.Linked.opening) v) (sym c.join_nodes-primary.ensures.secondary) c.into_parts-secondary.ensures.had;
 }
+
+pub returns-clause-told : goal.returns-clause-told
+returns-clause-told g c = subst (λ (v : PrimaryView). IsTold (Some g.L.Linked.opening) c.into_parts-primary.result.2.log v) (sym c.join_nodes-primary.ensures.primary)
+    c.into_parts-primary.ensures.told
 
 pub returns-clause-joined : goal.returns-clause-joined
 returns-clause-joined g c = λ p s had held.

@@ -7,6 +7,7 @@ use Rattle.session_nodes.specs.Primaries.{PrimaryHas}
 use Rattle.kept_nodes.specs.Kept.{PrimaryIsKept}
 use Rattle.kept_nodes.proofs.Covering.{kept-event, kept-still}
 use Rattle.kept_nodes.proofs.Working.{LedBy, writes-led}
+use Rattle.session_nodes.proofs.Primaries.{goes-on-runs}
 use Rattle.kept_nodes.proofs.kept_primary.KeptPrimary.write_next.Goals as goal
 
 pub invariant_of-self : goal.invariant_of-self
@@ -27,3 +28,7 @@ invariant_of-self g c = go (next_local c.self.invariant.history) refl (c.write_n
         kept-event g.F.StableFile.seen g.F.StableFile.may_leave g.F.StableFile.faithful g.B.Beginning.opening led.event led.none c.self.inside.node
         c.write_next-written.new.self c.self.inside.metadata c.save_identifiers.new.metadata c.self.inside.owes_all c.self.invariant
         c.save_identifiers.ensures.keeps led.after c.save_identifiers.ensures.saved
+
+pub returns-clause-goes_on : goal.returns-clause-goes_on
+returns-clause-goes_on g c = rw (← c.self.view_is)
+    (goes-on-runs c.self.inside.node c.write_next-written.new.self c.write_next-written.ensures.runs c.write_next-written.ensures.falls)

@@ -8,6 +8,7 @@ use Rattle.primary_protocol.specs.Steps.{replied}
 use Rattle.session_nodes.specs.Primaries.{PrimaryTakes}
 use Rattle.session_nodes.proofs.Ends.{ends-took}
 use Rattle.session_nodes.proofs.Primaries.{runs-step, steps-over, had-over}
+use Rattle.session_nodes.proofs.Primaries.{falls-with}
 use Rattle.session_nodes.proofs.session_primary.SessionPrimary.ack_in.Goals as goal
 
 abbrev takes-over : (g : _) (c : goal.After-ack_in g) → PrimaryTakes c.ack_in.result c.self.inside.node c.ack_in.new.self
@@ -35,4 +36,5 @@ returns g c = rw (← c.self.view_is) (record {
   runs = let took = c.ack_in.ensures.step in runs-step (Takes took.frame (is_none took.frame && is_out_of_memory c.ack_in.result)) tt c.self.inside.node
       c.ack_in.new.self (replied reply.Ok c.ack_in.result) (λ h. refl) (takes-over g c).step;
   refused = c.ack_in.ensures.refused;
+  falls = falls-with c.self.inside.node c.ack_in.new.self (ap (λ (v : PrimaryView). v.faithful) c.ack_in.ensures.rest);
 })

@@ -12,6 +12,7 @@ use Rattle.std.specs.Prelude.{IfErr}
 use Rattle.blocks.specs.declared.refusal.Refusal.TheVariants.{NotConnected}
 use Rattle.laws.proofs.Pair.CallRefusals.{closes-so}
 use Rattle.session_nodes.proofs.Answers.{primary-refused}
+use Rattle.session_nodes.proofs.Primaries.{falls-with}
 use Rattle.session_nodes.proofs.session_primary.SessionPrimary.close.Goals as goal
 
 abbrev step-over : (g : _) (c : goal.After-close g) → PrimarySteps Closes c.self.inside.node (replied reply.Closed c.close.result) c.close.new.self
@@ -29,4 +30,8 @@ refused : (g : _) (c : goal.After-close g) → IfErr c.close.result (λ e. e ≡
 refused g c = primary-refused (λ e. e ≡ NotConnected) reply.Closed _ Closes _ c.close.new.self c.close.result c.self.invariant c.close.ensures.step closes-so
 
 pub returns : goal.returns
-returns g c = rw (← c.self.view_is) (record { step = step-over g c; refused = refused g c })
+returns g c = rw (← c.self.view_is) (record {
+  step = step-over g c;
+  refused = refused g c;
+  falls = falls-with c.self.inside.node c.close.new.self (ap (λ (v : PrimaryView). v.faithful) c.close.ensures.rest);
+})

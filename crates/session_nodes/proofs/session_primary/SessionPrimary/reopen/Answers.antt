@@ -9,6 +9,7 @@ use Rattle.std.proofs.Common.{◌≡◌, true}
 use Rattle.model.specs.CallRefusals.{reopen_refuses}
 use Rattle.laws.proofs.Pair.CallRefusals.{opens-so}
 use Rattle.session_nodes.proofs.Answers.{primary-refused}
+use Rattle.session_nodes.proofs.Primaries.{falls-reopened}
 use Rattle.session_nodes.proofs.session_primary.SessionPrimary.reopen.Goals as goal
 
 pub reopen-requires-clause-opened : goal.reopen-requires-clause-opened
@@ -35,3 +36,7 @@ pub returns-clause-refused : goal.returns-clause-refused
 returns-clause-refused g c = primary-refused (λ e. reopen_refuses e ≡ true) (λ number. plainly tt) _
     (Opens c.args.words.sync c.args.words.loss (is_out_of_memory c.reopen.result)) _ c.reopen.new.self c.reopen.result c.self.invariant c.reopen.ensures.step
     (λ h. opens-so c.args.words.sync c.args.words.loss (is_out_of_memory c.reopen.result) h)
+
+pub returns-clause-falls : goal.returns-clause-falls
+returns-clause-falls g c = rw (← c.self.view_is)
+    (falls-reopened c.self.inside.node c.reopen.new.self c.reopen.result c.reopen.ensures.link c.reopen.ensures.unchanged)

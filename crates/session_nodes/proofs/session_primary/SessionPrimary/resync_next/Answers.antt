@@ -39,4 +39,5 @@ returns g c = rw (← c.self.view_is) (record {
   outward = ap (λ (x : PrimaryView). x.outgoing) c.resync_next.ensures.rest;
   inward = ap (λ (x : PrimaryView). x.incoming) c.resync_next.ensures.rest;
   refused = copy-refused _ _ c.resync_next.new.self c.resync_next.result c.self.invariant c.resync_next.ensures.step;
+  falls = c.resync_next.ensures.falls;
 })

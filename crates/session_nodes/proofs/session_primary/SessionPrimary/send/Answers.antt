@@ -14,6 +14,7 @@ use Rattle.session_nodes.proofs.Primaries.{runs-step, steps-over, had-over}
 use Rattle.model.specs.CallRefusals.{send_refuses}
 use Rattle.laws.proofs.Pair.CallRefusals.{send-so}
 use Rattle.session_nodes.proofs.Answers.{primary-refused}
+use Rattle.session_nodes.proofs.Primaries.{falls-with}
 use Rattle.session_nodes.proofs.session_primary.SessionPrimary.send.Goals as goal
 
 abbrev step-over : (g : _) (c : goal.After-send g)
@@ -45,3 +46,6 @@ returns-clause-memory g c = subst (λ (v : PrimaryView). IfErr c.send.result (λ
 pub returns-clause-refused : goal.returns-clause-refused
 returns-clause-refused g c = primary-refused (λ e. send_refuses e ≡ true) reply.Ok _ (Sends (has_room c.send.result) (is_out_of_memory c.send.result)) _
     c.send.new.self c.send.result c.self.invariant c.send.ensures.step (λ h. send-so (has_room c.send.result) (is_out_of_memory c.send.result) h)
+
+pub returns-clause-falls : goal.returns-clause-falls
+returns-clause-falls g c = rw (← c.self.view_is) (falls-with c.self.inside.node c.send.new.self (ap (λ (v : PrimaryView). v.faithful) c.send.ensures.rest))

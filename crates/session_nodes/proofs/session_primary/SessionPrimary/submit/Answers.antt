@@ -13,6 +13,7 @@ use Rattle.std.proofs.Common.{◌≡◌, true}
 use Rattle.model.specs.CallRefusals.{submit_refuses}
 use Rattle.laws.proofs.Pair.CallRefusals.{submit-so}
 use Rattle.session_nodes.proofs.Answers.{primary-refused}
+use Rattle.session_nodes.proofs.Primaries.{falls-with}
 use Rattle.session_nodes.proofs.session_primary.SessionPrimary.submit.Goals as goal
 
 abbrev step-over : (g : _) (c : goal.After-submit g)
@@ -37,3 +38,6 @@ pub returns-clause-refused : goal.returns-clause-refused
 returns-clause-refused g c = primary-refused (λ e. submit_refuses e ≡ true) (λ returned. reply.Ok returned.1) _
     (Submits c.args.first (whole_blocks c.args.bytes.now) (is_out_of_memory c.submit.result)) _ c.submit.new.self c.submit.result c.self.invariant
     c.submit.ensures.step (λ h. submit-so c.args.first (whole_blocks c.args.bytes.now) (is_out_of_memory c.submit.result) h)
+
+pub returns-clause-falls : goal.returns-clause-falls
+returns-clause-falls g c = rw (← c.self.view_is) (falls-with c.self.inside.node c.submit.new.self (ap (λ (v : PrimaryView). v.faithful) c.submit.ensures.rest))

@@ -6,6 +6,7 @@ use Rattle.model.specs.LocalRuns.{Receipts}
 use Rattle.primary_protocol.specs.Node.{take_receipt}
 use Rattle.session_nodes.specs.Primaries.{IsPrimaryStep}
 use Rattle.session_nodes.proofs.Answers.{receipt-refused}
+use Rattle.session_nodes.proofs.Primaries.{falls-with}
 use Rattle.session_nodes.proofs.session_primary.SessionPrimary.take_completed.Goals as goal
 
 abbrev step-over : (g : _) (c : goal.After-take_completed g)
@@ -25,3 +26,6 @@ returns-clause-step g c = rw (← c.self.view_is) (step-over g c)
 
 pub returns-clause-refused : goal.returns-clause-refused
 returns-clause-refused g c = receipt-refused _ c.args.number _ c.take_completed.new.self c.take_completed.result c.self.invariant c.take_completed.ensures.step
+
+pub returns-clause-falls : goal.returns-clause-falls
+returns-clause-falls g c = rw (← c.self.view_is) (falls-with c.self.inside.node c.take_completed.new.self (ap (λ (v : PrimaryView). v.faithful) c.take_completed.ensures.rest))

@@ -7,6 +7,7 @@ use Rattle.primary_protocol.specs.Steps.{replied}
 use Rattle.session_nodes.specs.Primaries.{PrimaryRuns}
 use Rattle.session_nodes.proofs.Ends.{SameEnds, ends-of}
 use Rattle.session_nodes.proofs.Primaries.{steps-over, runs-step, had-runs}
+use Rattle.session_nodes.proofs.Primaries.{falls-with}
 use Rattle.session_nodes.proofs.session_primary.SessionPrimary.write_at.Goals as goal
 
 abbrev same : (g : _) (c : goal.After-local g)
@@ -35,3 +36,6 @@ returns-clause-outward g c = rw (← c.self.view_is) (ap (λ (x : PrimaryView). 
 
 pub returns-clause-inward : goal.returns-clause-inward
 returns-clause-inward g c = rw (← c.self.view_is) (ap (λ (x : PrimaryView). x.incoming) c.local.ensures.rest)
+
+pub returns-clause-falls : goal.returns-clause-falls
+returns-clause-falls g c = rw (← c.self.view_is) (falls-with c.self.inside.node c.local.new.self (ap (λ (v : PrimaryView). v.faithful) c.local.ensures.rest))

@@ -1,0 +1,2 @@
+-- Places of a device and the bytes for them.
+pub mod Places

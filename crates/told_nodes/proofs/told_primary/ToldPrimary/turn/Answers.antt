@@ -1,0 +1,5 @@
+use Rattle.told_nodes.proofs.Going.{goes-on}
+use Rattle.told_nodes.proofs.told_primary.ToldPrimary.turn.Goals as goal
+
+pub invariant_of-self : goal.invariant_of-self
+invariant_of-self g c = goes-on c.self.inside.log.log c.self.inside.kept.node c.turn.new.self.node c.self.invariant c.turn.ensures.goes_on
