@@ -9,7 +9,7 @@ use crate::KeptPrimary;
 use blocks::{Refusal, Store};
 use link::{FrameIn, FrameOut};
 use metadata::StableFile;
-use session_api::{PrimaryRole, STEPS, Turn};
+use session_api::{PrimaryRole, STEPS, TURN_WRITES, Turn};
 use session_nodes::Beginning;
 
 impl<
@@ -19,7 +19,8 @@ impl<
     S: Store + Drop,
     F: StableFile,
 > KeptPrimary<B, O, I, S, F> {
-    /// Does up to `STEPS` steps of the node: each is of the role or, if the role has none, of any other role.
+    /// Does up to `STEPS` steps of the node, of which up to `TURN_WRITES` write to its disk: each is of the role or, if the role has none,
+    /// of any other role.
     pub fn turn(&mut self, role: PrimaryRole) -> Turn
         ensures runs { is_broken self.new.metadata ≡ false → PrimaryRuns self.old.node self.new.node }
         ensures stays { is_broken self.old.metadata ≡ true → is_broken self.new.metadata ≡ true }
@@ -111,10 +112,14 @@ impl<
                 turn.wakes_writers |= taken.is_ok();
                 taken.is_ok()
             }
+            PrimaryRole::Disk if turn.writes >= TURN_WRITES => false,
             PrimaryRole::Disk => {
-                let written = self.write_next();
-                turn.wakes_writers |= written.is_ok();
-                written.is_ok()
+                let is_written = self.write_next().is_ok();
+                turn.wakes_writers |= is_written;
+                if is_written {
+                    turn.writes += 1;
+                }
+                is_written
             }
             PrimaryRole::Resync => self.resync_next().is_ok(),
         }

@@ -9,7 +9,7 @@ use crate::KeptSecondary;
 use blocks::{Refusal, Store};
 use link::{FrameIn, FrameOut};
 use metadata::StableFile;
-use session_api::{STEPS, SecondaryRole, Turn};
+use session_api::{STEPS, SecondaryRole, TURN_WRITES, Turn};
 use session_nodes::Beginning;
 
 impl<
@@ -19,7 +19,8 @@ impl<
     S: Store + Drop,
     F: StableFile,
 > KeptSecondary<B, O, I, S, F> {
-    /// Does up to `STEPS` steps of the node: each is of the role or, if the role has none, of any other role.
+    /// Does up to `STEPS` steps of the node, of which up to `TURN_WRITES` write to its disk: each is of the role or, if the role has none,
+    /// of any other role.
     pub fn turn(&mut self, role: SecondaryRole) -> Turn
         ensures runs { is_broken self.new.metadata ≡ false → SecondaryRuns self.old.node self.new.node }
         ensures stays { is_broken self.old.metadata ≡ true → is_broken self.new.metadata ≡ true }
@@ -93,7 +94,14 @@ impl<
                 turn.pushed |= sent.is_ok();
                 sent.is_ok()
             }
-            SecondaryRole::Disk => self.apply_next().is_ok(),
+            SecondaryRole::Disk if turn.writes >= TURN_WRITES => false,
+            SecondaryRole::Disk => {
+                let is_applied = self.apply_next().is_ok();
+                if is_applied {
+                    turn.writes += 1;
+                }
+                is_applied
+            }
         }
     }
 }

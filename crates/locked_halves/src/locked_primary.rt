@@ -18,9 +18,13 @@ use primary::{Primary, Receipt};
 use session_api::{Bell, CalledHalf, PrimaryHalf, PrimaryProgress, PrimaryRole, Turn};
 use session_nodes::Beginning;
 use std::alloc::Global;
-use std::sync::{Mutex, Wait};
+use std::sync::{Mutex, MutexGuard, Wait};
+use std::thread;
 use told::{Caller, ToldLog};
 use told_nodes::ToldPrimary;
+
+/// How often a thread lets others go on before it sleeps until the lock is free.
+const YIELDS: u32 = 20;
 
 /// The primary under its lock, with the metadata of its disk and the log of what its callers were told.
 #[derive(Drop)]
@@ -92,6 +96,25 @@ impl<
     {
         self.node.into_inner().into_parts()
     }
+
+    // Locks the node. Who has the lock most often needs it for less time than a thread takes to fall asleep and to be woken, so others go on
+    // for a while before this one sleeps.
+    fn locked(&self) -> MutexGuard<'_, ToldPrimary<B, O, I, S, F>> {
+        for _ in 0..YIELDS {
+            if let Some(node) = self.node.try_lock() {
+                return node;
+            }
+            thread::yield_now();
+        }
+        self.node.lock(&self.rt)
+    }
+
+    // Wakes the writers after a turn, if it concerns them.
+    fn wake_writers(&self, turn: Turn) {
+        if turn.wakes_writers {
+            self.writers_bell.ring_all(&self.rt);
+        }
+    }
 }
 
 impl<
@@ -107,19 +130,25 @@ impl<
     ghost shows = { PrimaryHasShown B.opening };
 
     fn send(&self) -> Result<Done, Refusal> {
-        self.node.lock(&self.rt).send()
+        self.locked().send()
     }
 
     fn ack_in(&self) -> Result<Done, Refusal> {
-        self.node.lock(&self.rt).ack_in()
+        self.locked().ack_in()
     }
 
     fn turn(&self, role: PrimaryRole) -> Turn {
-        let turn = self.node.lock(&self.rt).turn(role);
-        if turn.wakes_writers {
-            self.writers_bell.ring_all(&self.rt);
-        }
+        let turn = self.locked().turn(role);
+        self.wake_writers(turn);
         turn
+    }
+
+    fn try_turn(&self, role: PrimaryRole) -> Option<Turn> {
+        let mut node = self.node.try_lock()?;
+        let turn = node.turn(role);
+        drop(node);
+        self.wake_writers(turn);
+        Some(turn)
     }
 
     fn close(&self) {
@@ -172,7 +201,7 @@ impl<
     type Name = B;
 
     fn submit(&self, me: &mut Caller<B>, first: u64, bytes: &Bytes) -> Result<u64, Refusal> {
-        self.node.lock(&self.rt).submit(me, first, bytes)
+        self.locked().submit(me, first, bytes)
     }
 
     fn submit_within(
@@ -182,16 +211,14 @@ impl<
         from: u32,
         bytes: &Bytes,
     ) -> Result<(u64, Bytes), Refusal> {
-        self.node
-            .lock(&self.rt)
-            .submit_within(me, block, from, bytes)
+        self.locked().submit_within(me, block, from, bytes)
     }
 
     fn take_completed(&self, me: &mut Caller<B>, number: u64) -> Result<Receipt, Refusal> {
-        self.node.lock(&self.rt).take_completed(me, number)
+        self.locked().take_completed(me, number)
     }
 
     fn read(&self, me: &mut Caller<B>, first: u64, count: u64) -> Result<Vec<u8>, Refusal> {
-        self.node.lock(&self.rt).read(me, first, count)
+        self.locked().read(me, first, count)
     }
 }

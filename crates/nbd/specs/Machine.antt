@@ -38,6 +38,16 @@ is_negotiating (phase.Gather p) = is_of_handshake p
 is_negotiating (phase.Skip left r) = is_option r
 is_negotiating phase.Closed = false
 
+-- how many bytes the payload has that a part is
+abbrev pub payload_of : Part → ℕ
+payload_of (part.Payload header) = header.length
+payload_of _ = 0
+
+-- how many bytes the payload has that a connection gathers
+abbrev pub payload_bytes : Phase → ℕ
+payload_bytes (phase.Gather p) = payload_of p
+payload_bytes _ = 0
+
 -- the result of bytes: the connection after them, the bytes that go back, and the requests that are given out
 pub record Fed : Type 0 where
   pub machine : Machine

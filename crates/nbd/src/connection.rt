@@ -6,7 +6,7 @@ ghost use Rattle.nbd.specs.declared.phase.Part.TheVariants as part;
 ghost use Rattle.std.specs.List.{AllByRecursion};
 ghost use Rattle.nbd.specs.Exports.{export_now};
 ghost use Rattle.nbd.specs.Inside.{IsInside};
-ghost use Rattle.nbd.specs.Machine.{Adds, Begins, IsPortion, Waits, fed, after_step, is_negotiating};
+ghost use Rattle.nbd.specs.Machine.{Adds, Begins, IsPortion, Waits, fed, after_step, is_negotiating, payload_bytes};
 ghost use Rattle.nbd.specs.Options.{greeting};
 ghost use Rattle.nbd.specs.Requested.{IsOf};
 ghost use Rattle.nbd.specs.Steps.{view};
@@ -87,6 +87,21 @@ impl Connection {
         ensures { result ≡ self.now.export.terms }
     {
         self.export.terms()
+    }
+
+    /// Returns how many bytes the payload has that the connection gathers: those of a WRITE, and 0 while it gathers none. It holds no
+    /// more of it than has come.
+    pub fn payload_bytes(&self) -> u32
+        ensures { result ≡ payload_bytes self.now.phase }
+    {
+        match self.phase {
+            Phase::Gather(Part::Payload(header)) => header.length,
+            Phase::Gather(
+                Part::ClientFlags | Part::Option { .. } | Part::OptionData { .. } | Part::Request,
+            )
+            | Phase::Skip { .. }
+            | Phase::Closed => 0,
+        }
     }
 
     /// Returns whether the client is still in its handshake: it has chosen no export. A server limits the time for that, or

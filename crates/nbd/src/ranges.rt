@@ -1,8 +1,9 @@
 //! Block ranges of a request.
 ghost use Rattle.std.specs.Prelude.{◌≡◌, ◌+◌, ◌<◌, ◌^◌};
 ghost use Rattle.nbd.specs.Pieces.{pieces};
+ghost use Rattle.nbd.specs.Spans.{covering};
 
-use blocks::{Block, EXTENT_BLOCKS, MAX_RANGE, Range};
+use blocks::{BLOCK_BYTES, Block, EXTENT_BLOCKS, MAX_RANGE, Range};
 use std::marker::Model;
 
 /// The blocks of a request in ranges that the device takes at once: each has at most 32 blocks, lies in one
@@ -25,6 +26,16 @@ impl Model for Ranges {
 }
 
 impl Ranges {
+    /// Returns the ranges of the blocks that have any of `length` bytes from the byte `offset` on, in their order.
+    pub fn covering(offset: u64, length: u32) -> Ranges
+        requires inside { offset + length < 2 ^ 64 }
+        ensures { result ≡ covering offset length }
+    {
+        let first = offset / BLOCK_BYTES as u64;
+        let end = (offset + u64::from(length)).div_ceil(BLOCK_BYTES as u64);
+        Ranges::over(first, end - first)
+    }
+
     /// Returns the ranges of `block_count` blocks from `first_block` on.
     pub(crate) fn over(first_block: u64, block_count: u64) -> Ranges
         requires { first_block + block_count < 2 ^ 64 }

@@ -8,7 +8,6 @@ ghost use Rattle.nbd.specs.Steps.{request_with};
 
 use crate::command::{FLAG_DF, FLAG_NO_HOLE, FLAG_REQ_ONE};
 use crate::{Errno, NbdCommand, Pieces, Ranges, Reply, RequestHeader, Terms};
-use blocks::BLOCK_BYTES;
 use bytes::Bytes;
 use std::alloc::Global;
 use std::marker::Model;
@@ -191,9 +190,7 @@ impl Request {
         requires inside { self.now.offset + self.now.length < 2 ^ 64 }
         ensures { result ≡ covering self.now.offset self.now.length }
     {
-        let first = self.offset / BLOCK_BYTES as u64;
-        let end = (self.offset + u64::from(self.count)).div_ceil(BLOCK_BYTES as u64);
-        Ranges::over(first, end - first)
+        Ranges::covering(self.offset, self.count)
     }
 
     /// Returns the header of its reply. If a READ succeeded, its data follow.

@@ -45,7 +45,7 @@ struct Batch<J: LogName> {
 
 /// Does the next requests of a client: begins as many as are done together, then ends one after another, and sends their replies in one
 /// piece. Those that wait for stable storage come last, and are left to the thread that syncs for all clients. Keeps the receipts of
-/// their writes. Does none if the next request has to wait; the caller then calls again.
+/// their writes. Does none if the next request has to wait, or is a READ that is told in portions; the caller then calls again.
 pub(crate) fn answer_some<R: Wait + Clock, D: Device>(
     rt: &R,
     service: &Service,
@@ -65,6 +65,9 @@ pub(crate) fn answer_some<R: Wait + Clock, D: Device>(
             batch,
             answered,
         );
+    }
+    if conversation.begin_long_read(rt)? {
+        return Ok(());
     }
     // Few long requests are done at a time, so that they leave the device to the short ones of other clients. How long a client takes to
     // read its reply is another matter.

@@ -72,11 +72,14 @@ impl Client {
         self.stream.limit_reads(Duration::from_millis(LOOK_MS))
     }
 
-    /// Holds an answer until the next `send_held`; its request has `places` places. If there is no memory to hold it, or it is for
-    /// another client, closes the connection: no clause can say whose answer comes here, over the locks between the threads, so the
-    /// queue compares the numbers.
+    /// Holds an answer until the next `send_held`; its request has `places` places. Closes the connection if its reply lacks bytes, if there
+    /// is no memory to hold it, or if it is for another client: no clause can say whose answer comes here, over the locks between the
+    /// threads, so the queue compares the numbers. It closes under the lock, so that no thread writes what stands behind missing bytes.
     pub(crate) fn reply<R: Wait>(&self, rt: &R, answer: Answer, places: u32) {
-        if self.waiting.lock(rt).put(answer, places).is_err() {
+        let is_broken = answer.is_broken();
+        let mut waiting = self.waiting.lock(rt);
+        let is_put = waiting.put(answer, places).is_ok();
+        if is_broken || !is_put {
             self.close();
         }
     }
@@ -206,6 +209,16 @@ impl Client {
             }
             thread::sleep(rt, Duration::from_millis(WRITER_LOOK_MS));
         }
+    }
+
+    /// Sends what is held. Returns whether all replies are written then: if another thread still writes some, waits a moment for it.
+    pub(crate) fn has_sent_all<R: Wait + Clock>(&self, rt: &R) -> bool {
+        self.send_held(rt);
+        let is_at_rest = self.is_at_rest(rt);
+        if !is_at_rest {
+            thread::sleep(rt, Duration::from_millis(WRITER_LOOK_MS));
+        }
+        is_at_rest
     }
 
     // Returns whether nothing waits to be written, and no thread writes.

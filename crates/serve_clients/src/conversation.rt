@@ -1,5 +1,7 @@
 //! A client, with its connection and the requests that wait for a session.
 use crate::client::Client;
+use crate::long_read::LongRead;
+use crate::payload_room::PayloadRoom;
 use crate::request_budget::blocks_of;
 use crate::service::Service;
 use blocks::Refusal;
@@ -20,6 +22,10 @@ pub(crate) struct Conversation {
     connection: Connection,
     // The last one first.
     requests: Vec<Request>,
+    // A READ whose reply is told in portions, between two of them.
+    long_read: Option<LongRead>,
+    // The room that it has for the payload of a long WRITE.
+    room: PayloadRoom,
     // Whether the server has greeted it, and when, if there is a clock: then its time for the handshake begins.
     is_greeted: bool,
     greeted: Option<Instant>,
@@ -35,6 +41,8 @@ impl Conversation {
             client,
             connection,
             requests: Vec::new(alloc),
+            long_read: None,
+            room: PayloadRoom::none(),
             is_greeted: false,
             greeted: None,
         }
@@ -50,8 +58,11 @@ impl Conversation {
         Ok(())
     }
 
-    /// Returns whether its time for the handshake is up.
+    /// Returns whether its time is up: for the handshake, or for the payload that it has room for.
     pub(crate) fn is_late<R: Clock>(&self, rt: &R) -> bool {
+        if self.room.is_overdue(rt) {
+            return true;
+        }
         let Some(Ok(elapsed)) = self.greeted.map(|greeted| greeted.elapsed(rt)) else {
             return false;
         };
@@ -60,6 +71,7 @@ impl Conversation {
 
     /// Takes bytes that it has sent, and writes to it what its connection says. There is no request left that came before.
     pub(crate) fn take<R: Wait + Clock>(&mut self, rt: &R, bytes: &[u8]) -> Result<(), Refusal> {
+        self.room.note_bytes(rt);
         let (sayings, requests) = self.connection.feed(bytes)?.into_parts();
         if !sayings.as_slice().is_empty() {
             self.client.say(rt, sayings);
@@ -72,6 +84,59 @@ impl Conversation {
     /// Returns the blocks of the next request that no thread has begun.
     pub(crate) fn next_blocks(&self) -> Option<u32> {
         self.requests.last().map(|request| blocks_of(request))
+    }
+
+    /// Returns whether there is no request to do: none that no thread has begun, and no READ that is told in part.
+    pub(crate) fn is_idle(&self) -> bool {
+        self.requests.is_empty() && self.long_read.is_none()
+    }
+
+    /// Returns whether there is a READ that is told in part.
+    pub(crate) fn is_telling(&self) -> bool {
+        self.long_read.is_some()
+    }
+
+    /// Begins to tell the next request in portions, if it is a READ that may be told so. Returns whether it did.
+    pub(crate) fn begin_long_read<R: Clock>(&mut self, rt: &R) -> Result<bool, Refusal> {
+        let Some(request) = self.requests.pop() else {
+            return Ok(false);
+        };
+        match LongRead::begin(rt, request) {
+            Ok(long_read) => {
+                self.long_read = Some(long_read);
+                Ok(true)
+            }
+            Err(request) => {
+                self.requests.push(request)?;
+                Ok(false)
+            }
+        }
+    }
+
+    /// Takes the READ that is told in portions, if there is one.
+    pub(crate) fn take_long_read(&mut self) -> Option<LongRead> {
+        self.long_read.take()
+    }
+
+    /// Keeps what is left of a READ that is told in portions.
+    pub(crate) fn keep_long_read(&mut self, rest: Option<LongRead>) {
+        self.long_read = rest;
+    }
+
+    /// Returns whether there is room for what the client sends next: it waits for room a moment if that is the payload of a long WRITE.
+    pub(crate) fn has_room<R: Wait + Clock>(&mut self, rt: &R, service: &Service) -> bool {
+        self.room
+            .take(rt, &service.payload_room, self.connection.payload_bytes())
+    }
+
+    /// Frees the room for a payload once its request is done.
+    pub(crate) fn free_room<R: Wait>(&mut self, rt: &R, service: &Service) {
+        self.room.free(rt, &service.payload_room);
+    }
+
+    /// Returns whether the client has room for a payload, and has sent nothing for so long that others may have it.
+    pub(crate) fn has_stalled<R: Clock>(&self, rt: &R) -> bool {
+        self.room.has_stalled(rt)
     }
 
     /// Returns the next request that no thread has begun.
@@ -89,8 +154,12 @@ impl Conversation {
         self.connection.is_closed() || self.client.is_closed()
     }
 
-    /// Refuses all requests that no thread has begun, since the server ends (ESHUTDOWN).
+    /// Refuses all requests that no thread has begun, and ends the reply to a READ that is told in part, since the server ends (ESHUTDOWN).
     pub(crate) fn refuse_all<R: Wait + Clock>(&mut self, rt: &R, service: &Service) {
+        if let Some(long_read) = self.long_read.take() {
+            let answer = long_read.break_off(service, Errno::Shutdown);
+            self.client.reply(rt, answer, 0);
+        }
         for _ in 0..self.requests.len() {
             let Some(request) = self.requests.pop() else {
                 break;

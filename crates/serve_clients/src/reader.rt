@@ -1,6 +1,7 @@
 //! A client's thread of one session, which takes its requests and does them.
 use crate::answer::answer_some;
 use crate::conversation::Conversation;
+use crate::long_read::tell_portion;
 use crate::service::Service;
 use blocks::Refusal;
 use client_socket::is_passing;
@@ -36,7 +37,11 @@ pub(crate) fn serve_client<R: Wait + Clock, D: Device>(
 ) {
     let mut me = caller;
     let mut conversation = conversation;
-    match converse(rt, service, device, &mut me, &mut conversation, gathered) {
+    let next = converse(rt, service, device, &mut me, &mut conversation, gathered);
+    if matches!(next, Ok(Next::End) | Err(_)) {
+        conversation.free_room(rt, service);
+    }
+    match next {
         Ok(Next::Serve) => service.conversations.put(rt, conversation, service),
         Ok(Next::Write) => service.conversations.write_late(rt, conversation, service),
         Ok(Next::End) => service.conversations.end(rt, conversation, service),
@@ -60,10 +65,18 @@ fn converse<R: Wait + Clock, D: Device>(
         if let Some(next) = next_of(rt, service, conversation) {
             return Ok(next);
         }
+        if !conversation.has_room(rt, service) {
+            continue;
+        }
         let count = match conversation.client.read(&mut buffer) {
             Ok(0) => return Ok(Next::End),
             Ok(count) => count,
-            Err(error) if is_passing(error.kind()) => continue,
+            Err(error) if is_passing(error.kind()) => {
+                if conversation.has_stalled(rt) {
+                    return Ok(Next::End);
+                }
+                continue;
+            }
             Err(_) => return Ok(Next::End),
         };
         conversation.take(rt, &buffer[..count])?;
@@ -80,7 +93,7 @@ fn next_of<R: Wait + Clock>(
     if conversation.client.is_left(rt) {
         return Some(Next::Write);
     }
-    if conversation.next().is_some() {
+    if !conversation.is_idle() {
         return Some(Next::Serve);
     }
     if service.is_over() || conversation.has_ended() || conversation.is_late(rt) {
@@ -99,9 +112,14 @@ fn do_requests<R: Wait + Clock, D: Device>(
     conversation: &mut Conversation,
     gathered: &Mutex<Answered<D::Name>>,
 ) -> Result<(), Refusal> {
+    if conversation.is_idle() {
+        // It keeps its room: the payload that this is for has not come whole.
+        return Ok(());
+    }
     let mut own = Answered::new(service.alloc, me);
     for _ in rt.forever() {
-        if conversation.next().is_none() {
+        if conversation.is_idle() {
+            conversation.free_room(rt, service);
             break;
         }
         if service.is_over() || conversation.client.is_closed() {
@@ -110,6 +128,10 @@ fn do_requests<R: Wait + Clock, D: Device>(
         }
         if service.is_session_over() || conversation.client.is_left(rt) {
             break;
+        }
+        if conversation.is_telling() {
+            tell_portion(rt, service, device, me, conversation);
+            continue;
         }
         let answered = answer_some(rt, service, device, me, conversation, &mut own);
         service.counts.note_receipts(own.receipts());

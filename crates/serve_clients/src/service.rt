@@ -4,6 +4,7 @@ ghost use Rattle.std.specs.Prelude.{◌≡◌, IfOk};
 use crate::conversation::Conversation;
 use crate::conversations::Conversations;
 use crate::counts::Counts;
+use crate::payload_room::PAYLOAD_PLACES;
 use crate::reports::Reports;
 use crate::request_budget::RequestBudget;
 use crate::senders::Senders;
@@ -41,6 +42,8 @@ pub struct Service {
     pub(crate) conversations: Conversations,
     // One place for each long request that may be done now.
     pub(crate) long_requests: RequestBudget,
+    // Places for the payloads of long WRITEs.
+    pub(crate) payload_room: RequestBudget,
     pub(crate) senders: Senders,
     pub(crate) reports: Reports,
     pub(crate) counts: Counts,
@@ -87,6 +90,7 @@ impl Service {
             protocol,
             conversations: Conversations::new(alloc, MAX_CLIENTS as usize)?,
             long_requests: RequestBudget::new(LONG_REQUESTS),
+            payload_room: RequestBudget::new(PAYLOAD_PLACES),
             senders: Senders::new(alloc)?,
             reports: Reports::new(),
             counts: Counts::new(),

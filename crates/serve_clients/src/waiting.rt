@@ -32,8 +32,13 @@ pub(crate) enum Writer {
 /// What waits to be written to a client, and whose turn it is to write it.
 #[derive(Drop)]
 pub(crate) struct Waiting {
-    // Whole replies. What was left of one that is written in part stands at the front.
+    // Whole replies, and at the end portions of one that is not told to its end. What was left of one that is written in part stands at
+    // the front.
     outbox: ReplyQueue,
+    // Replies and sayings that came since such a reply began: they go behind it.
+    behind: ReplyQueue,
+    // Whether there is such a reply.
+    is_within: bool,
     writer: Writer,
     // Whether another thread asked the one that writes to send what came since its last look.
     is_asked: bool,
@@ -44,19 +49,34 @@ impl Waiting {
     pub(crate) fn new(alloc: Global, of: u64) -> Waiting {
         Waiting {
             outbox: ReplyQueue::new(alloc, of),
+            behind: ReplyQueue::new(alloc, of),
+            is_within: false,
             writer: Writer::Anyone,
             is_asked: false,
         }
     }
 
-    /// Appends an answer, as `ReplyQueue::put` does.
+    /// Appends an answer, as `ReplyQueue::put` does. One that begins a reply goes behind the one that is told in portions, if there is one.
     pub(crate) fn put(&mut self, answer: Answer, places: u32) -> Result<(), QueueFault> {
-        self.outbox.put(answer, places)
+        if self.is_within && answer.begins() {
+            return self.behind.put(answer, places);
+        }
+        self.is_within = !answer.ends();
+        self.outbox.put(answer, places)?;
+        if self.is_within || self.behind.is_empty() {
+            return Ok(());
+        }
+        let behind = self.behind.take();
+        self.outbox.append(behind)
     }
 
-    /// Appends what the connection says, as `ReplyQueue::say` does.
+    /// Appends what the connection says, as `ReplyQueue::say` does, behind a reply that is told in portions.
     pub(crate) fn say(&mut self, sayings: Sayings) -> Result<(), QueueFault> {
-        self.outbox.say(sayings)
+        if self.is_within {
+            self.behind.say(sayings)
+        } else {
+            self.outbox.say(sayings)
+        }
     }
 
     /// Returns whether so much waits that it is sent at once.
@@ -104,7 +124,8 @@ impl Waiting {
     /// Ends a turn, and drops all that waits. Returns the places of the requests.
     pub(crate) fn give_up(&mut self) -> u32 {
         self.writer = Writer::Anyone;
-        self.outbox.clear()
+        self.is_within = false;
+        self.outbox.clear().saturating_add(self.behind.clear())
     }
 
     /// Returns whether nothing waits, and no thread writes.

@@ -5,6 +5,8 @@ pub mod Appending
 pub mod Beginning
 pub mod Counting
 pub mod Fronts
+pub mod InPortions
+pub mod Portions
 pub mod Spelled
 pub mod Telling
 pub mod Zeros

@@ -11,4 +11,6 @@ pub mod Answered
 pub mod Rounds
 pub mod Stored
 pub mod Answer
+pub mod Reading
+pub mod Portions
 pub mod Pace

@@ -19,10 +19,9 @@ use std::alloc::Global;
 use told::Caller;
 
 /// The most bytes that a READ may ask for: 32 MiB.
-const MAX_READ_BYTES: u32 = 33_554_432;
+pub(crate) const MAX_READ_BYTES: u32 = 33_554_432;
 
-/// Reads the bytes of a request: all blocks that have any, and of these what it asks for. `Invalid` if its range ends past 2^64 or is
-/// longer than a READ may be, and `NoMemory` if there is no memory for all of them, before any is read.
+/// Reads the bytes of a request, as `read_at` does. `Invalid` also if it is longer than a READ may be.
 pub(crate) fn read<D: Device>(
     alloc: Global,
     device: &D,
@@ -35,12 +34,33 @@ pub(crate) fn read<D: Device>(
     ensures goes_on { IsPrefix me.old.log me.new.log }
     ensures mine { me.new.own ≡ me.old.own }
 {
-    let count = request.length();
-    if count > MAX_READ_BYTES || request.offset().checked_add(u64::from(count)).is_none() {
+    if request.length() > MAX_READ_BYTES {
         return Err(Errno::Invalid);
     }
-    let from = (request.offset() % BLOCK_BYTES as u64) as usize;
-    let data = read_blocks(alloc, device, me, request.ranges(), from + count as usize)?;
+    read_at(alloc, device, me, request.offset(), request.length())
+}
+
+/// Reads `count` bytes from the byte `offset` of the device on: all blocks that have any, and of these what is asked for. `Invalid` if they
+/// end past 2^64, and `NoMemory` if there is no memory for all of them, before any is read.
+pub(crate) fn read_at<D: Device>(
+    alloc: Global,
+    device: &D,
+    me: &mut Caller<D::Name>,
+    offset: u64,
+    count: u32,
+) -> Result<Vec<u8>, Errno>
+    requires few { count ≤ 33554432 }
+    ensures length { IfOk result (λ read. vec_len read ≡ count) }
+    ensures read { IfOk result (λ read. AreRead (SaysHeldSince me.old.log me.new.log) offset count read.items) }
+    ensures goes_on { IsPrefix me.old.log me.new.log }
+    ensures mine { me.new.own ≡ me.old.own }
+{
+    if offset.checked_add(u64::from(count)).is_none() {
+        return Err(Errno::Invalid);
+    }
+    let from = (offset % BLOCK_BYTES as u64) as usize;
+    let ranges = Ranges::covering(offset, count);
+    let data = read_blocks(alloc, device, me, ranges, from + count as usize)?;
     cut(alloc, data, from, count as usize)
 }
 

@@ -1,11 +1,13 @@
 //! The bytes of a reply.
-ghost use Rattle.std.specs.Prelude.{◌≡◌, ◌≤◌, ◌++◌, true, length, replicate, vec_len, IfErr, IfOk};
+ghost use Rattle.std.specs.Prelude.{◌≡◌, ◌≤◌, ◌++◌, [], if◌then◌else◌, true, length, replicate, vec_len, IfErr, IfOk};
 ghost use Rattle.nbd.specs.Chunks.{chunk_spelling, rest_bytes};
 ghost use Rattle.nbd.specs.Replies.{reply_spelling};
 ghost use Rattle.nbd.specs.declared.errno.Errno.TheVariants as errno;
 ghost use Rattle.serve_requests.specs.Extents.{AreExtents};
+ghost use Rattle.serve_requests.specs.Reading.{IsPortionSpelled, begins_reply, portion};
 ghost use Rattle.serve_requests.specs.Told.{IsDataTold, IsStatusTold, failure_spelling, is_in_chunk, success_spelling};
 
+use crate::reading::Reading;
 use nbd::{Body, Chunk, Errno, Extent, FixedPart, NbdCommand, Reply, Request, spelled_failure};
 use std::alloc::Global;
 use std::marker::Model;
@@ -57,10 +59,47 @@ impl ReplyBytes {
         }
         if are_zeros(found.as_slice()) {
             let hole = Body::Hole(request.offset(), request.length());
-            return ReplyBytes::of_chunk(alloc, request.cookie(), hole);
+            return ReplyBytes::of_chunk(alloc, request.cookie(), true, hole);
         }
         let data = Body::Data(request.offset(), found);
-        ReplyBytes::of_chunk(alloc, request.cookie(), data)
+        ReplyBytes::of_chunk(alloc, request.cookie(), true, data)
+    }
+
+    /// Spells no bytes.
+    pub(crate) fn nothing(alloc: Global) -> ReplyBytes
+        ensures { result ≡ [] }
+    {
+        ReplyBytes {
+            head: FixedPart::new(),
+            data: Vec::new(alloc),
+        }
+    }
+
+    /// Spells the next portion of a READ, with these bytes of the device. `NoMemory` is the only error.
+    #[tactic(auto, unfolding(nbd::specs::Chunks::rest_bytes))]
+    pub(crate) fn of_portion(
+        alloc: Global,
+        reading: &Reading,
+        found: Vec<u8>,
+    ) -> Result<ReplyBytes, Errno>
+        requires whole { vec_len found ≡ portion reading.now }
+        ensures told { IfOk result (λ reply. IsPortionSpelled reading.now.request.terms.structured reading.now found.items reply) }
+        ensures refused { IfErr result (λ e. e ≡ errno.NoMemory) }
+    {
+        if !reading.is_in_chunks() {
+            return Ok(ReplyBytes {
+                head: head_of(reading),
+                data: found,
+            });
+        }
+        let cookie = reading.request().cookie();
+        let is_last = reading.is_last();
+        if are_zeros(found.as_slice()) {
+            let hole = Body::Hole(reading.at(), reading.portion());
+            return ReplyBytes::of_chunk(alloc, cookie, is_last, hole);
+        }
+        let data = Body::Data(reading.at(), found);
+        ReplyBytes::of_chunk(alloc, cookie, is_last, data)
     }
 
     /// Spells the reply to a BLOCK_STATUS that is done. `NoMemory` is the only error.
@@ -75,19 +114,19 @@ impl ReplyBytes {
         ensures told { IfOk result (IsStatusTold request.now) }
         ensures refused { IfErr result (λ e. e ≡ errno.NoMemory) }
     {
-        ReplyBytes::of_chunk(alloc, request.cookie(), Body::Extents(extents))
+        ReplyBytes::of_chunk(alloc, request.cookie(), true, Body::Extents(extents))
     }
 
-    // Spells the one chunk of a reply.
-    fn of_chunk(alloc: Global, cookie: u64, body: Body) -> Result<ReplyBytes, Errno>
+    // Spells a chunk of a reply.
+    fn of_chunk(alloc: Global, cookie: u64, is_last: bool, body: Body) -> Result<ReplyBytes, Errno>
         requires { length (rest_bytes body) ≤ 33554432 }
         ensures chunk { IfOk result (λ reply. reply
-            ≡ chunk_spelling (record { cookie = cookie; is_last = true; body = body })) }
+            ≡ chunk_spelling (record { cookie = cookie; is_last = is_last; body = body })) }
         ensures refused { IfErr result (λ e. e ≡ errno.NoMemory) }
     {
         let chunk = Chunk {
             cookie,
-            is_last: true,
+            is_last,
             body,
         };
         match chunk.into_parts(alloc) {
@@ -117,6 +156,17 @@ impl ReplyBytes {
     {
         let ReplyBytes { head, data } = self;
         (head, data)
+    }
+}
+
+// Returns what stands before the bytes of a portion that is in no chunk: the header of the reply, if the portion begins it.
+fn head_of(reading: &Reading) -> FixedPart
+    ensures { result ≡ (if begins_reply reading.now then success_spelling reading.now.request else []) }
+{
+    if reading.begins_reply() {
+        header(reading.request(), None)
+    } else {
+        FixedPart::new()
     }
 }
 

@@ -25,4 +25,4 @@ pub use progress::Progress;
 pub use roles::{PrimaryRole, SecondaryRole};
 pub use secondary_half::SecondaryHalf;
 pub use session_start::SessionStart;
-pub use turn::{STEPS, Turn};
+pub use turn::{STEPS, TURN_WRITES, Turn};

@@ -27,6 +27,9 @@ pub trait PrimaryHalf {
     /// Does a turn of a thread, and wakes the writers if it concerns them.
     fn turn(&self, role: PrimaryRole) -> Turn;
 
+    /// Does a turn of a thread as `turn` does, unless another thread has the lock now.
+    fn try_turn(&self, role: PrimaryRole) -> Option<Turn>;
+
     /// Closes the end, if it is open.
     fn close(&self);
 

@@ -31,6 +31,8 @@ pub(crate) struct Shared<R: Wait, A: PrimaryHalf, B: SecondaryHalf> {
     begun: AtomicU32,
     // Whether the primary pushed a frame for which no thread of the secondary was woken: the thread that waits for the write takes it.
     is_unrung: AtomicBool,
+    // Whether a writer left a frame for which nobody waits, such as a barrier: whoever is next at the secondary takes it.
+    is_left: AtomicBool,
     // Whether a thread of the primary does the peer's turns too, as for a copy: then no other thread needs to look unless it is rung for.
     is_driven: AtomicBool,
 }
@@ -47,6 +49,7 @@ impl<R: Wait, A: PrimaryHalf, B: SecondaryHalf> Shared<R, A, B> {
             stop: AtomicBool::new(false),
             begun: AtomicU32::new(0),
             is_unrung: AtomicBool::new(false),
+            is_left: AtomicBool::new(false),
             is_driven: AtomicBool::new(false),
         }
     }
@@ -102,6 +105,31 @@ impl<R: Wait, A: PrimaryHalf, B: SecondaryHalf> Shared<R, A, B> {
         }
     }
 
+    /// Does a turn at the primary for a thread that waits for a write, unless another thread has its lock. Returns whether it did something.
+    /// If no other write was begun, no thread is woken for what it pushed, as the barrier behind a write that is complete: that is left to
+    /// whoever is next at the secondary.
+    pub(crate) fn help_primary(&self, role: PrimaryRole) -> bool {
+        let Some(turn) = self.primary.try_turn(role) else {
+            return false;
+        };
+        if turn.pushed {
+            if self.transport == Transport::Link && self.begun.load(Ordering::SeqCst) == 0 {
+                self.is_left.store(true, Ordering::SeqCst);
+            } else {
+                self.ring_for_push();
+            }
+        }
+        self.close_secondary(turn);
+        turn.worked
+    }
+
+    /// Does what writers left: the peer takes it and answers, and the primary takes the answer.
+    pub(crate) fn do_left(&self) {
+        if self.is_left.load(Ordering::SeqCst) && self.help_secondary() {
+            self.help_primary(PrimaryRole::Receiver);
+        }
+    }
+
     /// Does a turn at the secondary for a thread that waits for a write, unless another thread does one. Returns whether it did something.
     /// Over streams it does nothing: the pumps carry the frames.
     pub(crate) fn help_secondary(&self) -> bool {
@@ -111,6 +139,7 @@ impl<R: Wait, A: PrimaryHalf, B: SecondaryHalf> Shared<R, A, B> {
         match self.secondary.try_turn(SecondaryRole::Receiver) {
             Some(turn) => {
                 self.is_unrung.store(false, Ordering::SeqCst);
+                self.is_left.store(false, Ordering::SeqCst);
                 // The frames that it pushed are taken by the caller's next turn at the primary.
                 self.close_primary(turn);
                 turn.worked
@@ -217,7 +246,9 @@ impl<R: Wait + Clock, A: PrimaryHalf, B: SecondaryHalf> Shared<R, A, B> {
                 Transport::Streams => self.turn_primary(role).worked,
             };
             if worked {
-                looks = 0;
+                if is_rung || drives {
+                    looks = 0;
+                }
             } else {
                 bell.wait(&self.rt, rings, looks);
                 looks = looks.saturating_add(1);
@@ -239,7 +270,9 @@ impl<R: Wait + Clock, A: PrimaryHalf, B: SecondaryHalf> Shared<R, A, B> {
             let is_rung = rings != mem::replace(&mut seen, rings);
             let needs_looking = looks == 0 || self.needs_looking(is_rung);
             if needs_looking && self.turn_secondary(role).worked {
-                looks = 0;
+                if is_rung {
+                    looks = 0;
+                }
             } else {
                 bell.wait(&self.rt, rings, looks);
                 looks = looks.saturating_add(1);

@@ -86,12 +86,14 @@ impl<R: Wait + Clock, A: CalledHalf, B: SecondaryHalf> Device for SharedSession<
     }
 
     fn progress(&self) -> Progress {
+        self.shared.do_left();
         let primary = self.shared.primary.progress();
         let secondary = self.shared.secondary.progress();
         Progress { primary, secondary }
     }
 
     fn primary_progress(&self) -> PrimaryProgress {
+        self.shared.do_left();
         self.shared.primary.progress()
     }
 
@@ -185,6 +187,7 @@ impl<R: Wait + Clock, A: CalledHalf, B: SecondaryHalf> SharedSession<R, A, B> {
     // the next one of these.
     fn make_room(&self, rings: u64, looks: u32) -> u32 {
         let shared = &self.shared;
+        shared.do_left();
         if shared.turn_primary(PrimaryRole::Receiver).worked {
             0
         } else {
@@ -212,7 +215,7 @@ impl<R: Wait + Clock, A: CalledHalf, B: SecondaryHalf> SharedSession<R, A, B> {
         let mut looks = 0u32;
         for _ in shared.rt.forever() {
             let rings = shared.primary.writers_bell().rings();
-            let worked = shared.turn_primary(PrimaryRole::Disk).worked;
+            let worked = shared.help_primary(PrimaryRole::Disk);
             match shared.primary.take_completed(me, number) {
                 Err(Refusal::NotCompleted) => {
                     if shared.help_secondary() || worked {

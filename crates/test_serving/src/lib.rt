@@ -17,6 +17,8 @@ mod images;
 #[cfg(test)]
 mod log_lines;
 #[cfg(test)]
+mod long_reads;
+#[cfg(test)]
 mod page;
 #[cfg(test)]
 mod silent_askers;
