@@ -19,8 +19,8 @@ impl<
     S: Store + Drop,
     F: StableFile,
 > KeptSecondary<B, O, I, S, F> {
-    /// Does up to `STEPS` steps of the node, of which up to `TURN_WRITES` write to its disk: each is of the role or, if the role has none,
-    /// of any other role.
+    /// Does up to `STEPS` steps of the node, and up to `TURN_WRITES` writes to its disk among them. Each step is of the role or, if the role
+    /// has none, of any other role.
     pub fn turn(&mut self, role: SecondaryRole) -> Turn
         ensures runs { is_broken self.new.metadata ≡ false → SecondaryRuns self.old.node self.new.node }
         ensures stays { is_broken self.old.metadata ≡ true → is_broken self.new.metadata ≡ true }

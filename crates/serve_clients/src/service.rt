@@ -120,7 +120,7 @@ impl Service {
         self.requests.writes() >= SESSION_WRITES
     }
 
-    /// Returns whether no client is served any more in this session.
+    /// Returns whether the session of the mirror serves no client any more.
     pub(crate) fn has_session_ended(&self) -> bool {
         self.is_session_over() || (self.is_over() && self.clients() == 0)
     }

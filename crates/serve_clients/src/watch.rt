@@ -31,7 +31,7 @@ struct ToldCopy {
 pub(crate) struct Watch {
     // The last word on the link was that it is up.
     is_up: bool,
-    // The last connection of this session that was seen, and for how many looks the first one may still be on its way.
+    // The last connection that was seen of the mirror's session, and for how many looks its first one may still be on its way.
     connection: Option<u32>,
     patience: u32,
     copy: Option<ToldCopy>,
@@ -108,7 +108,7 @@ impl Watch {
         if connection.is_none() || connection == self.connection {
             return (was_up && !self.is_up, self.is_up && !was_up);
         }
-        // Another one than at the last look is up. One of this session was lost meanwhile.
+        // Another one than at the last look is up, so one of the mirror's session was lost meanwhile.
         let is_lost = was_up && self.connection.is_some();
         self.connection = connection;
         (is_lost, is_lost || !was_up)
