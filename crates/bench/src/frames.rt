@@ -26,10 +26,12 @@ fn stream_of(alloc: Global, blocks: usize) -> anyhow::Result<Vec<u8>>
         place: 0,
         contents: Bytes::copy_from_slice(alloc, &contents)?,
     };
-    let frame = encode(alloc, &packet)?;
+    let frame = encode(&packet)?;
+    let (front, end) = frame.parts();
     let mut stream = Vec::new(alloc);
     for _ in 0..DATA_BYTES / (4096 * blocks) {
-        stream.extend_from_slice(frame.as_slice())?;
+        stream.extend_from_slice(front)?;
+        stream.extend_from_slice(end)?;
     }
     Ok(stream)
 }
@@ -105,18 +107,15 @@ fn frequency(count: u32, time: Duration) -> u128 {
 }
 
 /// Encodes this number of acknowledgements and decodes each frame. Returns how many were read as acknowledgements.
-fn acknowledge(alloc: Global, acknowledgements: u32) -> anyhow::Result<u32> {
+fn acknowledge(acknowledgements: u32) -> anyhow::Result<u32> {
     let mut count: u32 = 0;
     for place in 0..acknowledgements {
-        let frame = encode(
-            alloc,
-            &Packet::WriteAck(Acknowledgement {
-                first: Block(2),
-                number: 1,
-                count: 1,
-                place,
-            }),
-        )?;
+        let frame = encode(&Packet::WriteAck(Acknowledgement {
+            first: Block(2),
+            number: 1,
+            count: 1,
+            place,
+        }))?;
         if matches!(read(frame, None)?, Packet::WriteAck(_)) {
             count = count.saturating_add(1);
         }
@@ -126,7 +125,7 @@ fn acknowledge(alloc: Global, acknowledgements: u32) -> anyhow::Result<u32> {
 
 fn measure_acknowledgements(rt: &HostRuntime, acknowledgements: u32) -> anyhow::Result<()> {
     let start = Instant::now(rt)?;
-    let count = acknowledge(rt.alloc(), acknowledgements)?;
+    let count = acknowledge(acknowledgements)?;
     let time = start.elapsed(rt)?;
     println!(rt; "acknowledgements: {count}")?;
     eprintln!(rt;

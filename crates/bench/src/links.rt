@@ -19,10 +19,10 @@ pub(crate) fn measure_all(
     let ack = Sample::Acknowledgement;
     measure::copied(rt, alloc, count)?;
     measure::buffers(rt, alloc, count)?;
-    measure::encoded(rt, alloc, "encoded", &write, count)?;
+    measure::encoded(rt, "encoded", &write, count)?;
     measure::one_thread(threads, rt, alloc, "one thread", &write, count)?;
     measure::two_threads(threads, rt, alloc, "two threads", write, count)?;
-    measure::encoded(rt, alloc, "acknowledgement encoded", &ack, count)?;
+    measure::encoded(rt, "acknowledgement encoded", &ack, count)?;
     measure::one_thread(
         threads,
         rt,

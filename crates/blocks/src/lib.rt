@@ -15,6 +15,7 @@ mod refusal;
 mod settings;
 mod store;
 mod tuple;
+mod zeros;
 
 pub use block::{BLOCK_BYTES, Block, EXTENT_BLOCKS, Extent, MAX_BLOCKS, MAX_DEVICE_BLOCKS};
 pub use command::Command;
@@ -29,3 +30,4 @@ pub use refusal::Refusal;
 pub use settings::{Protocol, Settings};
 pub use store::{Store, StoreFault};
 pub use tuple::Tuple;
+pub use zeros::are_zeros;

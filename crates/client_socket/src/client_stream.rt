@@ -5,52 +5,85 @@ use std::io;
 use std::io::{Read, Write};
 use std::net::{Shutdown, TcpStream};
 use std::os::unix::net::UnixStream;
+use std::sync::atomic::{AtomicU64, Ordering};
 use std::time::Duration;
 
 /// The socket of a client that came by an IP address or by a Unix socket.
 #[derive(Drop)]
-pub enum ClientStream {
-    /// By an IP address.
+pub struct ClientStream {
+    socket: Socket,
+    // How long a write waits, in milliseconds, 0 as long as that was not said.
+    write_limit_ms: AtomicU64,
+}
+
+#[derive(Drop)]
+enum Socket {
     Tcp(TcpStream),
-    /// By a Unix socket.
     Unix(UnixStream),
 }
 
+impl From<TcpStream> for ClientStream {
+    fn from(stream: TcpStream) -> ClientStream {
+        ClientStream::of(Socket::Tcp(stream))
+    }
+}
+
+impl From<UnixStream> for ClientStream {
+    fn from(stream: UnixStream) -> ClientStream {
+        ClientStream::of(Socket::Unix(stream))
+    }
+}
+
 impl ClientStream {
+    fn of(socket: Socket) -> ClientStream {
+        ClientStream {
+            socket,
+            write_limit_ms: AtomicU64::new(0),
+        }
+    }
+
     /// Makes the socket send without delay. One of the same machine does anyway.
     pub fn send_without_delay(&self) -> io::Result<()> {
-        match self {
-            ClientStream::Tcp(stream) => stream.set_nodelay(true),
-            ClientStream::Unix(_) => Ok(()),
+        match &self.socket {
+            Socket::Tcp(stream) => stream.set_nodelay(true),
+            Socket::Unix(_) => Ok(()),
         }
     }
 
     /// Limits how long a read waits. The limit is not zero.
     pub fn limit_reads(&self, limit: Duration) -> io::Result<()> {
-        match self {
-            ClientStream::Tcp(stream) => stream.set_read_timeout(Some(limit)),
-            ClientStream::Unix(stream) => stream.set_read_timeout(Some(limit)),
+        match &self.socket {
+            Socket::Tcp(stream) => stream.set_read_timeout(Some(limit)),
+            Socket::Unix(stream) => stream.set_read_timeout(Some(limit)),
         }
     }
 
-    /// Limits how long a write waits. The limit is not zero.
+    /// Limits how long a write waits, to the whole milliseconds of this limit, and to one at least. The system is told only where that
+    /// changes something: most replies are written at once, and each begins with the same limit.
     pub fn limit_writes(&self, limit: Duration) -> io::Result<()> {
-        match self {
-            ClientStream::Tcp(stream) => stream.set_write_timeout(Some(limit)),
-            ClientStream::Unix(stream) => stream.set_write_timeout(Some(limit)),
+        let limit_ms = u64::try_from(limit.as_millis()).unwrap_or(u64::MAX).max(1);
+        if self.write_limit_ms.load(Ordering::Relaxed) == limit_ms {
+            return Ok(());
         }
+        let limit = Some(Duration::from_millis(limit_ms));
+        match &self.socket {
+            Socket::Tcp(stream) => stream.set_write_timeout(limit)?,
+            Socket::Unix(stream) => stream.set_write_timeout(limit)?,
+        }
+        self.write_limit_ms.store(limit_ms, Ordering::Relaxed);
+        Ok(())
     }
 
     /// Reads what the client has sent.
     pub fn read_some(&self, buffer: &mut [u8]) -> io::Result<usize>
         ensures bound { ReadsAtMost result buffer.new }
     {
-        match self {
-            ClientStream::Tcp(stream) => {
+        match &self.socket {
+            Socket::Tcp(stream) => {
                 let mut stream = stream;
                 stream.read(buffer)
             }
-            ClientStream::Unix(stream) => {
+            Socket::Unix(stream) => {
                 let mut stream = stream;
                 stream.read(buffer)
             }
@@ -61,12 +94,12 @@ impl ClientStream {
     pub fn write_some(&self, bytes: &[u8]) -> io::Result<usize>
         ensures bound { WritesAtMost result bytes.now }
     {
-        match self {
-            ClientStream::Tcp(stream) => {
+        match &self.socket {
+            Socket::Tcp(stream) => {
                 let mut stream = stream;
                 stream.write(bytes)
             }
-            ClientStream::Unix(stream) => {
+            Socket::Unix(stream) => {
                 let mut stream = stream;
                 stream.write(bytes)
             }
@@ -75,9 +108,9 @@ impl ClientStream {
 
     /// Ends the connection, one way or both.
     pub fn shutdown(&self, how: Shutdown) -> io::Result<()> {
-        match self {
-            ClientStream::Tcp(stream) => stream.shutdown(how),
-            ClientStream::Unix(stream) => stream.shutdown(how),
+        match &self.socket {
+            Socket::Tcp(stream) => stream.shutdown(how),
+            Socket::Unix(stream) => stream.shutdown(how),
         }
     }
 }

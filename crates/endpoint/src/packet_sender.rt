@@ -9,7 +9,6 @@ ghost use Rattle.blocks.specs.declared.refusal.Refusal.TheVariants.{NoMemory, Li
 use blocks::Refusal;
 use link::FrameOut;
 use packets::{Packet, encode};
-use std::alloc::Global;
 use std::marker::Model;
 
 /// Sends packets through an end of a link.
@@ -61,7 +60,7 @@ impl<O: FrameOut> PacketSender<O> {
     /// Sends a packet. `NoMemory` (7) if a packet with blocks finds no memory for its frame, else `LinkFull` (11)
     /// if the link is full. The part of it that was sent by then stays on its way, and the next push has to be of
     /// the same packet.
-    pub fn push(&mut self, alloc: Global, packet: Packet) -> Result<(), Refusal>
+    pub fn push(&mut self, packet: Packet) -> Result<(), Refusal>
         requires spellable { IsSpellable packet }
         requires again { IfSome self.old.partly (λ begun. begun ≡ meaning packet ∷ []) }
         ensures pushed { OnOk result (self.new ≡ with_pushed (meaning packet) (spelling packet) self.old) }
@@ -72,7 +71,7 @@ impl<O: FrameOut> PacketSender<O> {
         ensures unchanged { OnErr result (self.new ≡ record self.old { partly = self.new.partly }) }
         ensures in_part { OnErr result (IfSome self.new.partly (λ begun. begun ≡ meaning packet ∷ [])) }
     {
-        let frame = encode(alloc, &packet)?;
+        let frame = encode(&packet)?;
         if let Err(offered) = self.end.offer(frame) {
             return Err(offered.refusal());
         }

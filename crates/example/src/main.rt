@@ -21,7 +21,7 @@ use thread_link::{RuledIn, RuledLink, RuledOut};
 /// Protocol C over eight blocks: a write is completed once both disks have it.
 const SETTINGS: Settings = Settings::STANDARD;
 
-/// How many of the longest frames a direction of the link holds.
+/// How many frames a direction of the link holds.
 const FRAMES: u32 = 4;
 
 /// How many turns both nodes may take at most until they rest.

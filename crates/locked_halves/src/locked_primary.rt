@@ -86,9 +86,9 @@ impl<
         }
     }
 
-    /// Takes the node out of its lock, with its metadata and the log. It has a history that began as the half did, and whose connections
-    /// all used its ends, of which the metadata says what a stop has to leave, and one on the way of which its callers were told all of
-    /// the log.
+    /// Takes the node out of its lock, with its metadata and the log. The node has a history that began as the half did, in which each
+    /// connection used the half's ends; the metadata says what a stop has to leave of it. All of the log was told on the way of one history
+    /// of the node.
     pub fn into_parts(self) -> (Primary<O, I, S>, Option<Metadata<F>>, ToldLog<B>)
         ensures told { IsTold B.opening result.2.log result.0 }
         ensures had { PrimaryIsHad B.opening result.0 }

@@ -369,7 +369,7 @@ fn meta(alloc: Global, export: &Export, option: u32, bytes: &[u8]) -> Result<Opt
     })
 }
 
-/// Refuses LIST or SET_META_CONTEXT: a context that was set before is not, any more.
+/// Refuses LIST or SET_META_CONTEXT: a context that was set before is set no longer.
 fn refuse_meta(
     alloc: Global,
     export: &Export,

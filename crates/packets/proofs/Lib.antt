@@ -2,6 +2,7 @@ pub mod Again
 pub mod Cuts
 pub mod Digits
 pub mod Frames
+pub mod Fronts
 pub mod Hellos
 pub mod Lengths
 pub mod Named

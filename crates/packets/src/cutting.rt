@@ -1,8 +1,9 @@
 //! The end of a frame in a sequence of bytes.
-ghost use Rattle.std.specs.Prelude.{◌≡◌, ◌≤◌, length};
+ghost use Rattle.std.specs.Prelude.{◌≡◌, ◌≤◌, length, true};
 ghost use Rattle.packets.specs.Reading.{header_at};
-ghost use Rattle.packets.specs.Cutting.{cut_after};
+ghost use Rattle.packets.specs.Cutting.{IsCut, cut_after};
 
+use crate::Frame;
 use crate::header::{HEADER_BYTES, Header};
 
 /// Bytes of the longest frame, a write of 32 blocks.
@@ -21,4 +22,14 @@ pub fn cut_length(header: &[u8]) -> usize
         Ok(header) => HEADER_BYTES + header.len as usize,
         Err(_) => HEADER_BYTES,
     }
+}
+
+/// Returns whether a frame is what a reader cuts off: it has a header, and is as long as the header says, or is a faulty header
+/// alone.
+pub fn is_cut(frame: &Frame) -> bool
+    ensures cut { result ≡ true → IsCut frame.now }
+    ensures only { IsCut frame.now → result ≡ true }
+{
+    let (front, _) = frame.parts();
+    front.len() >= HEADER_BYTES && frame.has_length(cut_length(front))
 }

@@ -8,10 +8,9 @@ ghost use Rattle.blocks.specs.declared.refusal.Refusal.TheVariants.{NoMemory};
 
 use crate::header::{HEADER_BYTES, Header};
 use crate::reading::packet_of;
-use crate::writing::joined;
 use crate::{FIXED_BYTES, FixedPart, Frame, Packet};
 use blocks::Refusal;
-use bytes::BytesMut;
+use bytes::{Bytes, BytesMut};
 use std::alloc::Global;
 use std::marker::Model;
 
@@ -242,4 +241,15 @@ fn frame_of(alloc: Global, front: &[u8], end: &[u8]) -> Result<Frame, Refusal>
     part.put(front);
     part.put(end);
     Ok(Frame::of(part))
+}
+
+/// Returns the bytes of both, in a buffer of their own. `NoMemory` (7) if it cannot be allocated.
+fn joined(alloc: Global, front: &[u8], end: &[u8]) -> Result<Bytes, Refusal>
+    ensures joined { IfOk result (λ b. b ≡ front.now ++ end.now) }
+    ensures refused { IfErr result (λ e. e ≡ NoMemory) }
+{
+    let mut bytes = Vec::with_capacity(alloc, front.len().saturating_add(end.len()))?;
+    bytes.extend_from_slice(front)?;
+    bytes.extend_from_slice(end)?;
+    Ok(Bytes::from_vec(bytes)?)
 }

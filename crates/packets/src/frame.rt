@@ -1,15 +1,18 @@
 //! Frames, the units that go over a link.
-ghost use Rattle.std.specs.Prelude.{◌≡◌, ◌<◌, ◌≤◌, length};
+ghost use Rattle.std.specs.Prelude.{◌≡◌, ◌<◌, ◌≤◌, ◌↔◌, ◌++◌, drop, length, take, true};
 ghost use Rattle.packets.specs.declared.fixed_part.TheConstants.{FIXED_BYTES};
 
 use crate::FixedPart;
 use bytes::Bytes;
 use std::marker::Model;
 
+/// The bytes before the blocks of a frame that has some.
+pub(crate) const FRONT_BYTES: usize = 32;
+
 /// The bytes of one frame of a link. Any bytes are allowed here: who takes the frame checks them.
 ///
 /// A frame of at most 40 bytes, which is each one without blocks, is stored inline and takes no memory. A longer one
-/// shares its buffer.
+/// shares a buffer: that of its blocks, with an inline front before them, or one with all of its bytes.
 #[derive(Debug, Drop)]
 pub struct Frame {
     held: Held,
@@ -19,7 +22,9 @@ pub struct Frame {
 #[derive(Debug, Drop)]
 enum Held {
     Inline(FixedPart),
-    Shared(Bytes),
+    Whole(Bytes),
+    // The 32 bytes before the blocks, and the blocks.
+    Fronted(FixedPart, Bytes),
 }
 
 impl Model for Frame {
@@ -27,9 +32,11 @@ impl Model for Frame {
 
     ghost Value = { List ℕ };
 
-    ghost use Rattle.packets.specs.Held.{held_bytes};
+    ghost use Rattle.packets.specs.Held.{IsHeld, held_bytes};
 
     ghost view = { λ f. held_bytes f.held };
+
+    ghost invariant = { λ f. IsHeld f.held };
 }
 
 impl Frame {
@@ -38,7 +45,7 @@ impl Frame {
         ensures { result ≡ bytes }
     {
         Frame {
-            held: Held::Shared(bytes),
+            held: Held::Whole(bytes),
         }
     }
 
@@ -61,20 +68,43 @@ impl Frame {
         }
     }
 
-    /// Returns its bytes.
-    pub fn as_slice(&self) -> &[u8]
-        ensures { result.now ≡ self.now }
+    /// Returns a frame of a front of 32 bytes and of blocks, which it shares. It takes no memory.
+    pub(crate) fn fronted(front: FixedPart, blocks: Bytes) -> Frame
+        requires front { length front ≡ 32 }
+        requires blocks { 8 < length blocks }
+        ensures { result ≡ front ++ blocks }
     {
-        match &self.held {
-            Held::Inline(part) => part.as_slice(),
-            Held::Shared(bytes) => bytes.as_slice(),
+        Frame {
+            held: Held::Fronted(front, blocks),
         }
     }
 
-    /// Returns the bytes of a frame of more than 40, in the same buffer. It takes no memory.
-    pub fn into_bytes(self) -> Bytes
+    /// Returns its bytes in two parts. All are in the first part, unless its blocks have a buffer of their own; then
+    /// the 32 bytes before them are.
+    pub fn parts(&self) -> (&[u8], &[u8])
+        ensures bytes { result.0.now ++ result.1.now ≡ self.now }
+        ensures front { length self.now ≤ FIXED_BYTES → result.0.now ≡ self.now }
+        ensures numbers { take 32 result.0.now ≡ take 32 self.now }
+    {
+        match &self.held {
+            Held::Inline(part) => (part.as_slice(), &[]),
+            Held::Whole(bytes) => (bytes.as_slice(), &[]),
+            Held::Fronted(front, blocks) => (front.as_slice(), blocks.as_slice()),
+        }
+    }
+
+    /// Returns whether it has this many bytes.
+    pub(crate) fn has_length(&self, count: usize) -> bool
+        ensures { result ≡ true ↔ length self.now ≡ count }
+    {
+        let (front, blocks) = self.parts();
+        count.checked_sub(front.len()) == Some(blocks.len())
+    }
+
+    /// Returns the bytes of a frame of more than 40 behind its first 32, in the same buffer. It takes no memory.
+    pub fn into_blocks(self) -> Bytes
         requires { FIXED_BYTES < length self }
-        ensures { result ≡ self }
+        ensures { result ≡ drop 32 self }
     {
         match self.held {
             Held::Inline(part) => {
@@ -82,7 +112,12 @@ impl Frame {
                 let _ = part.as_slice();
                 unreachable!()
             }
-            Held::Shared(bytes) => bytes,
+            Held::Whole(bytes) => {
+                let mut bytes = bytes;
+                bytes.advance(FRONT_BYTES);
+                bytes
+            }
+            Held::Fronted(_, blocks) => blocks,
         }
     }
 }

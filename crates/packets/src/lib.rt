@@ -15,7 +15,7 @@ mod stream;
 mod writing;
 
 pub use blocks::{Command, Protocol, Tuple};
-pub use cutting::{MAX_FRAME_BYTES, cut_length};
+pub use cutting::{MAX_FRAME_BYTES, cut_length, is_cut};
 pub use decoder::Decoder;
 pub use fixed_part::{FIXED_BYTES, FixedPart};
 pub use frame::Frame;

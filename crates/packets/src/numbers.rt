@@ -1,5 +1,5 @@
 //! Numbers in bytes, the highest byte first. No call takes memory.
-ghost use Rattle.std.specs.Prelude.{◌≡◌, ◌+◌, ◌≤◌, ◌++◌, length};
+ghost use Rattle.std.specs.Prelude.{◌≡◌, ℕ, ◌+◌, ◌<◌, ◌≤◌, ◌++◌, length, slice_index};
 ghost use Rattle.packets.specs.Numbers.{number_in, number_bytes};
 ghost use Rattle.packets.specs.declared.fixed_part.TheConstants.{FIXED_BYTES};
 
@@ -67,4 +67,11 @@ pub fn put_u64(out: &mut FixedPart, number: u64)
     let mut bytes = [0; 8];
     BigEndian::write_u64(&mut bytes, number);
     out.put(&bytes);
+}
+
+/// Proof hint: tells that a slice of bytes holds numbers below 256.
+pub(crate) fn below_256(bytes: &[u8])
+    ensures { (i : ℕ) → slice_index bytes.now i < 256 }
+{
+    let _ = bytes;
 }

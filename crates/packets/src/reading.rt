@@ -1,20 +1,24 @@
 //! Decoding of frames into packets.
-ghost use Rattle.std.specs.Prelude.{◌≡◌, ◌≢◌, ◌+◌, ◌<◌, ◌≤◌, true, false, length, drop, Ok, Err, IfOk, IfErr};
+ghost use Rattle.std.specs.Prelude.{◌≡◌, ◌≢◌, ◌+◌, ◌-◌, ◌<◌, ◌≤◌, true, false, ℕ, length, drop, slice_index, Ok, Err, IfOk, IfErr};
 ghost use Rattle.packets.specs.Spelling.{IsSpellable, Spells};
 ghost use Rattle.packets.specs.Frames.{IsFrameFault, frame_read, in_hello, is_fault, fault_in_hello};
 ghost use Rattle.packets.specs.Table.{has_blocks, is_length};
 ghost use Rattle.packets.specs.Headed.{IsHeaded, is_awaited, named};
-ghost use Rattle.packets.specs.Reading.{payload_at, protocol_at, uuids_at, data_at, rs_data_at, barrier_at, acknowledgement_at, names_write, names_resync};
+ghost use Rattle.packets.specs.Reading.{header_at, payload_at, protocol_at, uuids_at, data_at, rs_data_at, barrier_at, acknowledgement_at, names_write, names_resync};
+ghost use Rattle.packets.specs.Numbers.{number_in};
 ghost use Rattle.packets.specs.declared.fixed_part.TheConstants.{FIXED_BYTES};
 ghost use Rattle.packets.specs.declared.packet.Packet.{Packet};
 ghost use Rattle.packets.specs.declared.packet.Packet.TheVariants as packet;
-ghost use Rattle.blocks.specs.declared.refusal.Refusal.TheVariants.{BadField, NoMemory};
+ghost use Rattle.blocks.specs.declared.refusal.Refusal.TheVariants.{BadField, BadLength, NoMemory};
 
-use crate::header::{DATA_NUMBERS, HEADER_BYTES, Header, command_number, is_whole_blocks};
-use crate::numbers::{u32_at, u64_at};
+use crate::frame::FRONT_BYTES;
+use crate::header::{HEADER_BYTES, Header, command_number, is_whole_blocks};
+use crate::numbers::{below_256, u32_at, u64_at};
 use crate::{Acknowledgement, Frame, Packet};
 use blocks::{BLOCK_BYTES, Block, Command, Protocol, Refusal, Tuple};
-use bytes::Bytes;
+
+/// The most bytes of a payload without blocks.
+const MAX_SHORT_PAYLOAD: u32 = 32;
 
 /// Sectors of 512 bytes in a block.
 pub(crate) const BLOCK_SECTORS: u64 = 8;
@@ -85,15 +89,26 @@ fn whole_header(frame: &Frame) -> Result<Header, Refusal>
     ensures is { IfErr result (λ e. frame_read frame.now ≡ Err e) }
     ensures before_fields { IfErr result (λ e. e ≢ BadField) }
 {
-    let bytes = frame.as_slice();
-    if bytes.len() < HEADER_BYTES {
-        return Err(Refusal::BadLength);
-    }
-    let header = Header::judge(bytes)?;
-    if bytes.len() - HEADER_BYTES != header.len as usize {
+    let header = header_of(frame)?;
+    if !frame.has_length(HEADER_BYTES + header.len as usize) {
         return Err(Refusal::BadLength);
     }
     Ok(header)
+}
+
+/// Returns the header of a frame. `BadLength` (22) if it has none, and else what [`Header::judge`] says.
+fn header_of(frame: &Frame) -> Result<Header, Refusal>
+    ensures judged { 8 ≤ length frame.now → result ≡ header_at frame.now }
+    ensures none { length frame.now < 8 → result ≡ Err BadLength }
+    ensures bytes { (i : ℕ) → slice_index frame.now i < 256 }
+{
+    let (front, blocks) = frame.parts();
+    below_256(front);
+    below_256(blocks);
+    if front.len() < HEADER_BYTES {
+        return Err(Refusal::BadLength);
+    }
+    Header::judge(front)
 }
 
 /// Decodes the payload of a frame that is as long as its header says.
@@ -103,15 +118,47 @@ pub(crate) fn packet_of(header: Header, frame: Frame) -> Result<Packet, Refusal>
     requires row { is_length header.command header.len ≡ true }
     ensures { result ≡ payload_at header.command (drop 8 frame) }
 {
-    let bytes = &frame.as_slice()[HEADER_BYTES..];
-    match header.command {
+    if header.len > MAX_SHORT_PAYLOAD {
+        return blocks_of(header.command, frame);
+    }
+    short_packet_of(header.command, &frame.parts().0[HEADER_BYTES..])
+}
+
+/// Decodes a frame with blocks.
+#[tactic(auto, unfolding(crate::specs::Reading::payload_at))]
+fn blocks_of(command: Command, frame: Frame) -> Result<Packet, Refusal>
+    requires long { FIXED_BYTES < length frame }
+    requires row { is_length command (length frame - 8) ≡ true }
+    ensures { result ≡ payload_at command (drop 8 frame) }
+{
+    match command {
+        Command::Data => data_of(frame),
+        Command::RsDataReply => rs_data_of(frame),
+        Command::Protocol
+        | Command::Sizes
+        | Command::Uuids
+        | Command::Barrier
+        | Command::SyncUuid
+        | Command::RecvAck
+        | Command::WriteAck
+        | Command::RsWriteAck
+        | Command::BarrierAck => unreachable!(),
+    }
+}
+
+/// Decodes the payload of a frame without blocks.
+#[tactic(auto, unfolding(crate::specs::Reading::payload_at))]
+fn short_packet_of(command: Command, bytes: &[u8]) -> Result<Packet, Refusal>
+    requires row { is_length command (length bytes.now) ≡ true }
+    requires short { length bytes.now ≤ 32 }
+    ensures { result ≡ payload_at command bytes.now }
+{
+    match command {
         Command::Protocol => protocol_of(u32_at(bytes, 0)),
         Command::Sizes => Ok(Packet::Sizes {
             blocks: u64_at(bytes, 0),
         }),
         Command::Uuids => Ok(Packet::Uuids(tuple_of(bytes))),
-        Command::Data => data_of(payload_of(frame)),
-        Command::RsDataReply => rs_data_of(payload_of(frame)),
         Command::Barrier => barrier_of(bytes),
         Command::SyncUuid => Ok(Packet::SyncUuid {
             word: u64_at(bytes, 0),
@@ -123,17 +170,8 @@ pub(crate) fn packet_of(header: Header, frame: Frame) -> Result<Packet, Refusal>
             number: u32_at(bytes, 0),
             size: u32_at(bytes, 4),
         }),
+        Command::Data | Command::RsDataReply => unreachable!(),
     }
-}
-
-/// Returns the payload of a frame with blocks, in the frame's buffer.
-fn payload_of(frame: Frame) -> Bytes
-    requires { FIXED_BYTES < length frame }
-    ensures { result ≡ drop 8 frame }
-{
-    let mut bytes = frame.into_bytes();
-    bytes.advance(HEADER_BYTES);
-    bytes
 }
 
 fn protocol_of(number: u32) -> Result<Packet, Refusal>
@@ -159,46 +197,74 @@ fn tuple_of(bytes: &[u8]) -> Tuple
     }
 }
 
+/// The numbers of a frame with blocks.
+struct DataNumbers {
+    sector: u64,
+    number: u64,
+    place: u32,
+    flags: u32,
+}
+
+impl DataNumbers {
+    /// Reads them.
+    fn of(frame: &Frame) -> DataNumbers
+        requires { FIXED_BYTES < length frame.now }
+        ensures sector { result.sector ≡ number_in 8 0 (drop 8 frame.now) }
+        ensures number { result.number ≡ number_in 8 8 (drop 8 frame.now) }
+        ensures place { result.place ≡ number_in 4 16 (drop 8 frame.now) }
+        ensures flags { result.flags ≡ number_in 4 20 (drop 8 frame.now) }
+    {
+        let (front, _) = frame.parts();
+        let bytes = &front[HEADER_BYTES..FRONT_BYTES];
+        DataNumbers {
+            sector: u64_at(bytes, 0),
+            number: u64_at(bytes, 8),
+            place: u32_at(bytes, 16),
+            flags: u32_at(bytes, 20),
+        }
+    }
+}
+
 #[tactic(auto, unfolding(crate::specs::Reading::data_at))]
-fn data_of(mut payload: Bytes) -> Result<Packet, Refusal>
-    requires { 24 ≤ length payload }
-    ensures { result ≡ data_at payload }
+fn data_of(frame: Frame) -> Result<Packet, Refusal>
+    requires { FIXED_BYTES < length frame }
+    ensures { result ≡ data_at (drop 8 frame) }
 {
-    let bytes = payload.as_slice();
-    let sector = u64_at(bytes, 0);
-    let number = u64_at(bytes, 8);
-    let place = u32_at(bytes, 16);
-    let flags = u32_at(bytes, 20);
+    let DataNumbers {
+        sector,
+        number,
+        place,
+        flags,
+    } = DataNumbers::of(&frame);
     if sector % BLOCK_SECTORS != 0 || number == 0 || flags != 0 {
         return Err(Refusal::BadField);
     }
-    payload.advance(DATA_NUMBERS as usize);
     Ok(Packet::Data {
         first: Block(sector / BLOCK_SECTORS),
         number,
         place,
-        contents: payload,
+        contents: frame.into_blocks(),
     })
 }
 
 #[tactic(auto, unfolding(crate::specs::Reading::rs_data_at))]
-fn rs_data_of(mut payload: Bytes) -> Result<Packet, Refusal>
-    requires { 24 ≤ length payload }
-    ensures { result ≡ rs_data_at payload }
+fn rs_data_of(frame: Frame) -> Result<Packet, Refusal>
+    requires { FIXED_BYTES < length frame }
+    ensures { result ≡ rs_data_at (drop 8 frame) }
 {
-    let bytes = payload.as_slice();
-    let sector = u64_at(bytes, 0);
-    let number = u64_at(bytes, 8);
-    let place = u32_at(bytes, 16);
-    let flags = u32_at(bytes, 20);
+    let DataNumbers {
+        sector,
+        number,
+        place,
+        flags,
+    } = DataNumbers::of(&frame);
     if sector % BLOCK_SECTORS != 0 || number != 0 || flags != 0 {
         return Err(Refusal::BadField);
     }
-    payload.advance(DATA_NUMBERS as usize);
     Ok(Packet::RsDataReply {
         first: Block(sector / BLOCK_SECTORS),
         place,
-        contents: payload,
+        contents: frame.into_blocks(),
     })
 }
 

@@ -17,7 +17,7 @@ use std::alloc::Global;
 
 /// Returns the frame that encodes a packet. `NoMemory` (7) if the buffer of a packet with blocks cannot be allocated;
 /// there is no other refusal, and none for a packet without blocks, whose frame takes no memory.
-pub fn encode(alloc: Global, packet: &Packet) -> Result<Frame, Refusal>
+pub fn encode(packet: &Packet) -> Result<Frame, Refusal>
     requires { IsSpellable packet.now }
     ensures spelled { IfOk result (λ frame. Spells packet.now frame) }
     ensures short { has_blocks packet.now ≡ false → IsOk result }
@@ -25,33 +25,20 @@ pub fn encode(alloc: Global, packet: &Packet) -> Result<Frame, Refusal>
 {
     let front = front_of(packet);
     match blocks_of(packet) {
-        Some(blocks) => Ok(Frame::new(joined(alloc, front.as_slice(), blocks)?)),
+        Some(blocks) => Ok(Frame::fronted(front, blocks.clone()?)),
         None => Ok(Frame::of(front)),
     }
 }
 
 /// Returns the blocks of a packet that carries some.
-fn blocks_of(packet: &Packet) -> Option<&[u8]>
+fn blocks_of(packet: &Packet) -> Option<&Bytes>
     ensures { MatchOption result (has_blocks packet.now ≡ false)
         (λ blocks. (has_blocks packet.now ≡ true) × (blocks.now ≡ blocks_in packet.now)) }
 {
     match packet {
-        Packet::Data { contents, .. } | Packet::RsDataReply { contents, .. } => {
-            Some(contents.as_slice())
-        }
+        Packet::Data { contents, .. } | Packet::RsDataReply { contents, .. } => Some(contents),
         _ => None,
     }
-}
-
-/// Returns the bytes of both, in a buffer of their own. `NoMemory` (7) if it cannot be allocated.
-pub(crate) fn joined(alloc: Global, front: &[u8], end: &[u8]) -> Result<Bytes, Refusal>
-    ensures joined { IfOk result (λ b. b ≡ front.now ++ end.now) }
-    ensures refused { IfErr result (λ e. e ≡ NoMemory) }
-{
-    let mut bytes = Vec::with_capacity(alloc, front.len().saturating_add(end.len()))?;
-    bytes.extend_from_slice(front)?;
-    bytes.extend_from_slice(end)?;
-    Ok(Bytes::from_vec(bytes)?)
 }
 
 /// Returns the front of a packet's frame: its header, and the numbers of its payload.

@@ -31,7 +31,7 @@ impl<O: FrameOut + Drop, I: FrameIn + Drop, S: Store + Drop> Primary<O, I, S> {
         let Some(outgoing) = &mut self.outgoing else {
             return Err(Refusal::NotConnected);
         };
-        outgoing.push(self.alloc, packet)?;
+        outgoing.push(packet)?;
         Ok(self.core.sent())
     }
 }

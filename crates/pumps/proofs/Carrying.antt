@@ -70,7 +70,7 @@ append_more a b c bytes m n first second = subst (Appends a c) (two_fronts bytes
 -- all that was popped is written, and then more is popped and its front written
 pub carried_out : (a b c : EndState) (u v w : Option (List ℕ)) (bytes written rest : List ℕ) → IsCarriedOut a b u v [] → PopsBytes b c bytes
     → Appends v w written
-    → written ++ rest ≡ bytes → length bytes ≤ 65536 → IsCarriedOut a c u w rest
+    → written ++ rest ≡ bytes → length bytes ≤ 196640 → IsCarriedOut a c u w rest
 carried_out a b c u v w bytes written rest before popped appended cut few = record {
   written = before.written ++ written;
   popped = subst (PopsBytes a c) (ap (λ (x : List ℕ). x ++ bytes) (append-nil before.written) ∙ ap (λ (x : List ℕ). before.written ++ x) (sym cut)
@@ -83,7 +83,7 @@ carried_out a b c u v w bytes written rest before popped appended cut few = reco
 -- all that was read is pushed, and then more is read and its front pushed
 pub carried_in : (a b c : EndState) (u v w : Option (List ℕ)) (bytes pushed rest : List ℕ) → IsCarriedIn a b u v [] → Consumes v w bytes
     → PushesBytes b c pushed
-    → pushed ++ rest ≡ bytes → length bytes ≤ 65536 → IsCarriedIn a c u w rest
+    → pushed ++ rest ≡ bytes → length bytes ≤ 196640 → IsCarriedIn a c u w rest
 carried_in a b c u v w bytes pushed rest before consumed pushes cut few = record {
   pushed_bytes = before.pushed_bytes ++ pushed;
   pushed = push_then a b c before.pushed_bytes pushed before.pushed pushes;

@@ -23,7 +23,7 @@ pub record IsCarriedOut (old new : EndState) (before after : Option (List ℕ)) 
   pub written : List ℕ
   pub popped : PopsBytes old new (written ++ rest)
   pub appended : Appends before after written
-  pub few : length rest ≤ 65536
+  pub few : length rest ≤ 196640
 
 -- The piece is of a first connection and has 1 to 4,352 bytes.
 pub record IsFirstPiece (piece : PieceState) : Type 0 where
@@ -43,4 +43,4 @@ pub record IsCarriedIn (old new : EndState) (before after : Option (List ℕ)) (
   pub pushed_bytes : List ℕ
   pub pushed : PushesBytes old new pushed_bytes
   pub consumed : Consumes before after (pushed_bytes ++ rest)
-  pub few : length rest ≤ 65536
+  pub few : length rest ≤ 196640

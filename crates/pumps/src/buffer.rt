@@ -9,10 +9,11 @@ use std::io;
 use std::io::Read;
 use std::marker::Model;
 
-/// The bytes of a pump's buffer: 64 KiB, so that one call of a socket carries about 46 pieces.
-pub const BUFFER_BYTES: usize = 65_536;
+/// The bytes of a pump's buffer: 64 KiB, so that one call of a socket carries many short frames, and then the longest
+/// frame.
+pub const BUFFER_BYTES: usize = 196_640;
 
-/// The bytes that a pump has in hand: 65,536 at most, in memory that is allocated once.
+/// The bytes that a pump has in hand: 196,640 at most, in memory that is allocated once.
 #[derive(Drop)]
 pub struct Buffer {
     memory: Vec<u8>,
@@ -26,7 +27,7 @@ impl Model for Buffer {
 
     ghost view = { λ b. take b.len b.memory.items };
 
-    ghost invariant = { λ b. (b.len ≤ 65536) × (vec_len b.memory ≡ 65536) };
+    ghost invariant = { λ b. (b.len ≤ 196640) × (vec_len b.memory ≡ 196640) };
 }
 
 impl Buffer {
@@ -44,14 +45,14 @@ impl Buffer {
     /// Returns its bytes.
     pub(crate) fn bytes(&self) -> &[u8]
         ensures value { result.now ≡ self.now }
-        ensures few { length self.now ≤ 65536 }
+        ensures few { length self.now ≤ 196640 }
     {
         &self.memory[..self.len]
     }
 
     /// Returns how many more bytes it has room for.
     pub(crate) fn room(&self) -> usize
-        ensures { result + length self.now ≡ 65536 }
+        ensures { result + length self.now ≡ 196640 }
     {
         BUFFER_BYTES - self.len
     }
@@ -65,7 +66,7 @@ impl Buffer {
 
     /// Appends bytes.
     pub(crate) fn append(&mut self, bytes: &[u8])
-        requires { length self.old + length bytes.now ≤ 65536 }
+        requires { length self.old + length bytes.now ≤ 196640 }
         ensures { self.new ≡ self.old ++ bytes.now }
     {
         let end = self.len + bytes.len();
@@ -73,7 +74,7 @@ impl Buffer {
         self.len = end;
     }
 
-    /// Reads once, up to 65,536 bytes, which replace its own. It is empty after a failure.
+    /// Reads once, up to 196,640 bytes, which replace its own. It is empty after a failure.
     pub(crate) fn read_from<D: Read>(&mut self, reader: &mut D) -> io::Result<usize>
         ensures count { IfOk result (λ count. length self.new ≡ count) }
         ensures read { MatchResult result

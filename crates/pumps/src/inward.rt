@@ -13,10 +13,10 @@ use std::time::Clock;
 use thread_link::{PIECE_BYTES, Piece, PieceOut, RingInvariant};
 
 /// Pushes the bytes that a reader gives into a row, in order, as pieces of at most 4,352 bytes of a first connection,
-/// until it is stopped, the input ends or a read fails. One read takes up to 64 KiB. It rings `work` once all bytes of a read
-/// are pushed, and before it waits for room: most frames have several pieces, and nobody can take a part of one. If the row is
-/// full it tries again; a stop then leaves the remaining bytes unpushed. It neither closes nor drops the reader: the caller
-/// does, and reports its end. Takes no memory.
+/// until it is stopped, the input ends or a read fails. One read takes up to 196,640 bytes. It rings `work` once all
+/// bytes of a read are pushed, and before it waits for room: most frames have several pieces, and nobody can take a part
+/// of one. If the row is full it tries again; a stop then leaves the remaining bytes unpushed. It neither closes nor drops
+/// the reader: the caller does, and reports its end. Takes no memory.
 pub fn pump_in<R: Wait + Clock, M: RingInvariant, D: Read>(
     rt: &R,
     row: &mut PieceOut<R, M>,

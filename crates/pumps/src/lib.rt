@@ -1,4 +1,4 @@
-//! The pumps of a link over a socket: one carries the pieces of a row to any writer, as bytes, and one carries
+//! The pumps of a link over a socket: one carries the frames of a row to any writer, as bytes, and one carries
 //! bytes from any reader into a row, as pieces.
 #![tactic(auto)]
 

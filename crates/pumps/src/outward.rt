@@ -5,17 +5,18 @@ ghost use Rattle.thread_link.specs.Moments.{WasEmpty};
 ghost use Rattle.pumps.specs.Carried.{IsCarriedOut, PopsBytes};
 
 use crate::{Buffer, PumpEnd};
+use packets::MAX_FRAME_BYTES;
 use session_api::Bell;
 use std::io::{ErrorKind, Write};
 use std::sync::Wait;
 use std::sync::atomic::{AtomicBool, Ordering};
 use std::time::Clock;
-use thread_link::{PIECE_BYTES, PieceIn, RingInvariant};
+use thread_link::{PieceIn, RingInvariant};
 
 /// Writes the bytes of a row's pieces to a writer, in order, until it is stopped or a write fails. One write carries as
-/// many pieces as the row has, up to 64 KiB. It looks at `stop` only when all that it popped is written, and waits on
-/// `work` while the row is empty. It neither closes nor drops the writer: the caller does, and reports its end. Takes
-/// no memory.
+/// many pieces as the row has, until they come to more than 64 KiB. It looks at `stop` only when all that it popped is
+/// written, and waits on `work` while the row is empty. It neither closes nor drops the writer: the caller does, and
+/// reports its end. Takes no memory.
 pub fn pump_out<R: Wait + Clock, M: RingInvariant, W: Write>(
     rt: &R,
     row: &mut PieceIn<R, M>,
@@ -49,17 +50,20 @@ pub fn pump_out<R: Wait + Clock, M: RingInvariant, W: Write>(
     unreachable!()
 }
 
-/// Fills the buffer with the bytes of the pieces that the row has, while there is room for a whole one.
+/// Fills the buffer with the bytes of the pieces that the row has, while there is room for the longest one.
 fn gather<R: Wait, M: RingInvariant>(row: &mut PieceIn<R, M>, buffer: &mut Buffer)
     ensures popped { PopsBytes row.old row.new buffer.new }
     ensures empty { buffer.new ≡ [] → WasEmpty M.holds row.new.pieces }
 {
     buffer.clear();
-    while buffer.room() >= PIECE_BYTES {
-        let Some(piece) = row.pop() else {
+    while buffer.room() >= MAX_FRAME_BYTES {
+        let Some(sheet) = row.pop() else {
             return;
         };
-        buffer.append(piece.bytes());
+        let (first, second) = sheet.parts();
+        buffer.append(first);
+        buffer.append(second);
+        row.give_back(sheet);
     }
 }
 

@@ -5,13 +5,10 @@ ghost use Rattle.recorded_file.specs.Calls.{given, written};
 use crate::OpenedFile;
 use crate::holes::Holes;
 use crate::record::Record;
-use blocks::{BLOCK_BYTES, Block};
+use blocks::{BLOCK_BYTES, Block, are_zeros};
 use std::io;
 use std::marker::Model;
 use std::os::unix::fs::FileExt;
-
-/// A block of zeros.
-const ZEROS: [u8; BLOCK_BYTES] = [0; BLOCK_BYTES];
 
 /// The kind of a note: the file took these bytes.
 const WRITTEN: u64 = 0;
@@ -104,22 +101,19 @@ impl<F: FileExt> RecordedFile<F> {
     // Returns whether these are zeros, which the file gives at this offset although it has no data there. That it gives them is seen
     // by reading: what a file system says of its holes only tells where that touches no disk.
     fn is_hole_for(&self, offset: u64, bytes: &[u8]) -> bool {
-        bytes
-            .chunks(BLOCK_BYTES)
-            .all(|block| block == ZEROS.as_slice())
-            && self.holes.has(offset)
-            && self.gives_zeros(offset, bytes.len())
+        // What costs least comes first: bytes that are no zeros mostly tell so at their front, and the file system is asked for none.
+        are_zeros(bytes) && self.holes.has(offset) && self.gives_zeros(offset, bytes.len())
     }
 
     // Returns whether the file gives `length` zeros from this offset on.
     fn gives_zeros(&self, offset: u64, length: usize) -> bool {
-        let mut found = ZEROS;
+        let mut found = [0; BLOCK_BYTES];
         for at in (0..length).step_by(BLOCK_BYTES) {
             if self
                 .file
                 .read_exact_at(&mut found, offset.saturating_add(at as u64))
                 .is_err()
-                || found != ZEROS
+                || !are_zeros(&found)
             {
                 return false;
             }

@@ -5,7 +5,7 @@ use crate::payload_room::PayloadRoom;
 use crate::request_budget::blocks_of;
 use crate::service::Service;
 use blocks::Refusal;
-use nbd::{Connection, Errno, Export, Request};
+use nbd::{Connection, Errno, Export, NbdCommand, Request};
 use std::alloc::Global;
 use std::sync::{Arc, Wait};
 use std::time::{Clock, Duration, Instant};
@@ -22,6 +22,8 @@ pub(crate) struct Conversation {
     connection: Connection,
     // The last one first.
     requests: Vec<Request>,
+    // The READs that the bytes that came last held.
+    reads: usize,
     // A READ whose reply is told in portions, between two of them.
     long_read: Option<LongRead>,
     // The room that it has for the payload of a long WRITE.
@@ -41,6 +43,7 @@ impl Conversation {
             client,
             connection,
             requests: Vec::new(alloc),
+            reads: 0,
             long_read: None,
             room: PayloadRoom::none(),
             is_greeted: false,
@@ -76,9 +79,18 @@ impl Conversation {
         if !sayings.as_slice().is_empty() {
             self.client.say(rt, sayings);
         }
+        self.reads = requests
+            .iter()
+            .filter(|request| request.command() == NbdCommand::Read)
+            .count();
         self.requests = requests;
         self.requests.reverse();
         Ok(())
+    }
+
+    /// Returns how many READs the bytes held that came last.
+    pub(crate) fn reads(&self) -> usize {
+        self.reads
     }
 
     /// Returns the blocks of the next request that no thread has begun.

@@ -19,8 +19,8 @@ impl Socket {
     /// Waits for a client, and returns its socket.
     pub(crate) fn accept(&self) -> io::Result<ClientStream> {
         match self {
-            Socket::Tcp(socket) => Ok(ClientStream::Tcp(socket.accept()?.0)),
-            Socket::Unix(socket) => Ok(ClientStream::Unix(socket.accept()?.0)),
+            Socket::Tcp(socket) => Ok(ClientStream::from(socket.accept()?.0)),
+            Socket::Unix(socket) => Ok(ClientStream::from(socket.accept()?.0)),
         }
     }
 }

@@ -8,11 +8,20 @@ use client_socket::is_passing;
 use serve_requests::Answered;
 use session_api::Device;
 use std::sync::{Mutex, Wait};
-use std::time::Clock;
+use std::thread;
+use std::time::{Clock, Duration, Instant};
 use told::Caller;
 
 /// The most bytes that are read at once: a request for the longest range and its payload.
 const BUFFER_BYTES: usize = 132 * 1024;
+
+/// How long a thread waits for more READs for each but the first of those that came together, in microseconds, and at most for how many.
+const WAIT_US: u64 = 5;
+
+const MOST_WAITED: usize = 4;
+
+/// How often it gives up its processor meanwhile at the most.
+const MOST_YIELDS: u32 = 200;
 
 /// What becomes of a client once its thread of a session leaves it.
 #[derive(Clone, Copy, Debug, PartialEq, Eq)]
@@ -68,6 +77,7 @@ fn converse<R: Wait + Clock, D: Device>(
         if !conversation.has_room(rt, service) {
             continue;
         }
+        let_more_come(rt, conversation.reads());
         let count = match conversation.client.read(&mut buffer) {
             Ok(0) => return Ok(Next::End),
             Ok(count) => count,
@@ -82,6 +92,25 @@ fn converse<R: Wait + Clock, D: Device>(
         conversation.take(rt, &buffer[..count])?;
     }
     unreachable!()
+}
+
+// Lets a client send more READs, if several came together: they are done together then, and their replies, which are long, are sent in one
+// piece, which the client takes in less time. It has as many replies to take meanwhile, so it does not wait.
+fn let_more_come<R: Clock>(rt: &R, reads: usize) {
+    let more = reads.saturating_sub(1).min(MOST_WAITED) as u64;
+    if more == 0 {
+        return;
+    }
+    let wait = Duration::from_micros(more * WAIT_US);
+    let Ok(start) = Instant::now(rt) else {
+        return;
+    };
+    for _ in 0..MOST_YIELDS {
+        match start.elapsed(rt) {
+            Ok(elapsed) if elapsed < wait => thread::yield_now(),
+            _ => break,
+        }
+    }
 }
 
 // Returns what becomes of a client, or `None` if its thread goes on.

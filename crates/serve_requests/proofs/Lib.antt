@@ -9,4 +9,3 @@ pub mod InPortions
 pub mod Portions
 pub mod Spelled
 pub mod Telling
-pub mod Zeros

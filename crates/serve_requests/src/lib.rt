@@ -11,6 +11,7 @@ mod ended;
 mod last_round;
 mod pace;
 mod perform;
+mod read_on;
 mod reading;
 mod reading_laws;
 mod release;

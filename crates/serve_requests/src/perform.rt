@@ -41,7 +41,7 @@ pub(crate) fn read<D: Device>(
 }
 
 /// Reads `count` bytes from the byte `offset` of the device on: all blocks that have any, and of these what is asked for. `Invalid` if they
-/// end past 2^64, and `NoMemory` if there is no memory for all of them, before any is read.
+/// end past 2^64, and `NoMemory` if there is no memory for all of them.
 pub(crate) fn read_at<D: Device>(
     alloc: Global,
     device: &D,
@@ -61,7 +61,7 @@ pub(crate) fn read_at<D: Device>(
     let from = (offset % BLOCK_BYTES as u64) as usize;
     let ranges = Ranges::covering(offset, count);
     let data = read_blocks(alloc, device, me, ranges, from + count as usize)?;
-    cut(alloc, data, from, count as usize)
+    Ok(cut(data, from, count as usize))
 }
 
 // Reads these ranges, which have at least `least` bytes together.
@@ -78,15 +78,10 @@ fn read_blocks<D: Device>(
     ensures goes_on { IsPrefix me.old.log me.new.log }
     ensures mine { me.new.own ≡ me.old.own }
 {
-    let room = least.next_multiple_of(BLOCK_BYTES);
-    let Ok(mut data) = Vec::with_capacity(alloc, room) else {
-        return Err(Errno::NoMemory);
-    };
+    let mut data = Vec::new(alloc);
     for range in ranges {
-        let mut bytes = read_range(device, me, range)?;
-        if data.append(&mut bytes).is_err() {
-            return Err(Errno::NoMemory);
-        }
+        let bytes = read_range(device, me, range)?;
+        append_range(&mut data, bytes, least)?;
     }
     // A reply with fewer bytes would spoil all that follow it.
     if data.len() < least {
@@ -111,21 +106,40 @@ fn read_range<D: Device>(
     }
 }
 
-// Cuts `count` bytes out of these, from the byte `from` on. Those at the front are not copied.
-fn cut(alloc: Global, found: Vec<u8>, from: usize, count: usize) -> Result<Vec<u8>, Errno>
-    requires { from + count ≤ vec_len found }
-    ensures cut { IfOk result (λ bytes. bytes.items ≡ take count (drop from found.items)) }
-    ensures length { IfOk result (λ bytes. vec_len bytes ≡ count) }
+// Appends the bytes of the next range to those of the ranges before, where all have `least` bytes together. If it has as many, it is the
+// only one, and its bytes are handed on as they are.
+fn append_range(data: &mut Vec<u8>, bytes: Vec<u8>, least: usize) -> Result<(), Errno>
+    requires { least < 2 ^ 32 }
+    ensures { OnOk result (data.new.items ≡ data.old.items ++ bytes.items) }
 {
-    if from == 0 {
-        let mut bytes = found;
-        bytes.truncate(count);
-        return Ok(bytes);
+    if data.is_empty() && bytes.len() >= least {
+        *data = bytes;
+        return Ok(());
     }
-    match Vec::from_slice(alloc, &found[from..from + count]) {
-        Ok(bytes) => Ok(bytes),
+    // The first of several makes room for all of them.
+    let room = least.next_multiple_of(BLOCK_BYTES);
+    if data.try_reserve(room.saturating_sub(data.len())).is_err() {
+        return Err(Errno::NoMemory);
+    }
+    let mut bytes = bytes;
+    match data.append(&mut bytes) {
+        Ok(()) => Ok(()),
         Err(_) => Err(Errno::NoMemory),
     }
+}
+
+// Cuts `count` bytes out of these, from the byte `from` on, where they lie.
+fn cut(found: Vec<u8>, from: usize, count: usize) -> Vec<u8>
+    requires { from + count ≤ vec_len found }
+    ensures cut { result.items ≡ take count (drop from found.items) }
+    ensures length { vec_len result ≡ count }
+{
+    let mut bytes = found;
+    if from > 0 {
+        bytes.copy_within(from..from + count, 0);
+    }
+    bytes.truncate(count);
+    bytes
 }
 
 /// Begins to write these pieces as this caller, one after another, until one is refused.

@@ -8,6 +8,7 @@ ghost use Rattle.serve_requests.specs.Reading.{IsPortionSpelled, begins_reply, p
 ghost use Rattle.serve_requests.specs.Told.{IsDataTold, IsStatusTold, failure_spelling, is_in_chunk, success_spelling};
 
 use crate::reading::Reading;
+use blocks::are_zeros;
 use nbd::{Body, Chunk, Errno, Extent, FixedPart, NbdCommand, Reply, Request, spelled_failure};
 use std::alloc::Global;
 use std::marker::Model;
@@ -194,15 +195,4 @@ fn is_in_chunk(request: &Request) -> bool
         | NbdCommand::Trim
         | NbdCommand::WriteZeroes => false,
     }
-}
-
-// Returns whether all of these bytes are zeros: the first one is, and each is as the one before.
-fn are_zeros(bytes: &[u8]) -> bool
-    ensures { result ≡ true → bytes.now ≡ replicate (length bytes.now) 0 }
-{
-    let Some(first) = bytes.first() else {
-        return true;
-    };
-    let rest = &bytes[1..];
-    *first == 0 && rest == &bytes[..rest.len()]
 }

@@ -1,6 +1,5 @@
 //! What a BLOCK_STATUS tells: where the images have data.
-ghost use Rattle.std.specs.Prelude.{◌≡◌, ◌⊎◌, ◌+◌, ◌-◌, ◌<◌, ◌≤◌, ◌^◌, vec_len, IfErr, IfOk};
-ghost use Rattle.nbd.specs.declared.errno.Errno.TheVariants as errno;
+ghost use Rattle.std.specs.Prelude.{◌+◌, ◌-◌, ◌<◌, ◌≤◌, ◌^◌, vec_len, IfOk};
 ghost use Rattle.serve_requests.specs.Extents.{AreExtents, IsExtent};
 
 use image_store::{PerDisk, SyncHandle};

@@ -44,7 +44,8 @@ counted a b = min (a + b) 18446744073709551615
 
 -- What a session of these two histories comes to, with the receipts that its work gave: they are all that the session gave, one for each
 -- completed write; its settlement says all that the theorem on joined nodes says of one, with honest identifiers and without; the totals
--- go on by the settlement's numbers; the parts are what both nodes leave; and if the resyncs copied what the local disk held, the opening of these parts over the disks as they are is sound.
+-- go on by the settlement's numbers; the parts are what both nodes leave; and if the resyncs copied what the local disk held, the opening
+-- of these parts over the disks as they are is sound.
 pub record ComesTo (p : PrimaryHistory) (s : SecondaryHistory) (receipts : List Receipt) (before after : Totals) (parts : SessionStart) : Type 0 where
   pub numbers : Settlement
   pub anyhow : SettlesAnyhow p s receipts numbers

@@ -19,7 +19,7 @@ use std::io::{Read, Write};
 use std::sync::{Arc, Wait};
 use std::thread;
 use std::time::Clock;
-use thread_link::{FRAME_PIECES, PieceIn, PieceOut, RuledIn, RuledOut, row};
+use thread_link::{FRAME_PIECES, PieceIn, PieceOut, RuledIn, RuledOut, frame_row, row};
 
 /// The pumps of a session.
 const PUMPS: usize = 4;
@@ -40,8 +40,9 @@ pub struct Rows<R: Wait + Drop> {
     pub secondary: PumpEnds<R>,
 }
 
-/// Creates the two rows of a half, and returns the node's ends and the pumps'. Each row has room for exactly `link` of the
-/// longest frames, of 31 pieces each (`room`). `NoMemory` (7) if there is no memory for them, and no other refusal.
+/// Creates the two rows of a half, and returns the node's ends and the pumps'. The row by which a node sends has room for
+/// exactly `link` frames, and the one by which it takes for as many of the longest ones, in 31 pieces each (`room`).
+/// `NoMemory` (7) if there is no memory for them, and no other refusal.
 pub fn half_rows<R: Wait + Copy + Drop>(
     rt: R,
     alloc: Global,
@@ -49,10 +50,10 @@ pub fn half_rows<R: Wait + Copy + Drop>(
 ) -> Result<((RuledOut<R>, RuledIn<R>), PumpEnds<R>), Refusal>
     requires { 0 < link }
     ensures unused { IfOk result (λ r. IsNewOut (sending r.0.0) × IsNewIn (taking r.0.1)) }
-    ensures room { IfOk result (λ r. (r.0.0.row.slots ≡ FRAME_PIECES * link) × (r.0.1.row.slots ≡ FRAME_PIECES * link)) }
+    ensures room { IfOk result (λ r. (r.0.0.row.slots ≡ link) × (r.0.1.row.slots ≡ FRAME_PIECES * link)) }
     ensures refused { IfErr result (λ e. e ≡ NoMemory) }
 {
-    let (pushed, leaving) = row(rt, alloc, FRAME_PIECES * link as usize)?;
+    let (pushed, leaving) = frame_row(rt, alloc, link as usize)?;
     let (coming, popped) = row(rt, alloc, FRAME_PIECES * link as usize)?;
     match RuledIn::new(alloc, popped) {
         Ok(incoming) => Ok((

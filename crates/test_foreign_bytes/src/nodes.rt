@@ -10,10 +10,10 @@ use bytes::Bytes;
 use session_nodes::{SessionPrimary, SessionSecondary, Unknown};
 use std::alloc::Global;
 use std::sync::Wait;
-use thread_link::{PieceIn, PieceOut, RuledIn, RuledOut, row};
+use thread_link::{PieceIn, PieceOut, RuledIn, RuledOut, frame_row, row};
 
-/// Pieces of a row: more than a recorded stream has.
-const PIECES: usize = 1_024;
+/// Frames or pieces of a row: more than a recorded stream has.
+const ROOM: usize = 1_024;
 
 /// Writes of the session.
 const WRITES: u64 = 24;
@@ -58,8 +58,8 @@ fn rows<R: Wait + Copy + Drop>(
 ) -> Result<((RuledOut<R>, RuledIn<R>), RowEnds<R>), Refusal>
     ensures { IfOk result (λ r. IsNewOut (sending r.0.0) × IsNewIn (taking r.0.1)) }
 {
-    let (pushed, sent) = row(rt, alloc, PIECES)?;
-    let (to_take, popped) = row(rt, alloc, PIECES)?;
+    let (pushed, sent) = frame_row(rt, alloc, ROOM)?;
+    let (to_take, popped) = row(rt, alloc, ROOM)?;
     match RuledIn::new(alloc, popped) {
         Ok(incoming) => Ok(((RuledOut::new(pushed), incoming), RowEnds { sent, to_take })),
         Err(refusal) => Err(refusal),

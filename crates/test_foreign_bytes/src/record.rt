@@ -6,7 +6,7 @@ use crate::nodes::{
 use blocks::Refusal;
 use std::alloc::Global;
 use std::sync::Wait;
-use thread_link::{Piece, PieceIn, PieceOut};
+use thread_link::{PIECE_BYTES, Piece, PieceIn, PieceOut, Sheet};
 
 /// More turns than both nodes need until they are idle.
 const TURNS: u32 = 400;
@@ -81,20 +81,33 @@ fn carry<R: Wait + Drop>(
 ) -> Result<(), Refusal> {
     for _ in 0..u32::MAX {
         match sent.pop() {
-            Some(piece) => pass_on(piece, to_take, went)?,
+            Some(sheet) => pass_on(&sheet, to_take, went)?,
             None => break,
         }
     }
     Ok(())
 }
 
+// Lays the bytes of a frame into a row as pieces, and adds them to `went`.
 fn pass_on<R: Wait + Drop>(
-    piece: Piece,
+    sheet: &Sheet,
     to_take: &mut PieceOut<R>,
     went: &mut Vec<u8>,
 ) -> Result<(), Refusal> {
-    went.extend_from_slice(piece.bytes())?;
-    match to_take.push(piece) {
+    let (front, blocks) = sheet.parts();
+    for piece in front.chunks(PIECE_BYTES).chain(blocks.chunks(PIECE_BYTES)) {
+        went.extend_from_slice(piece)?;
+        lay(piece, to_take)?;
+    }
+    Ok(())
+}
+
+// Lays a piece into a row.
+fn lay<R: Wait + Drop>(piece: &[u8], to_take: &mut PieceOut<R>) -> Result<(), Refusal> {
+    if piece.is_empty() || piece.len() > PIECE_BYTES {
+        return Err(Refusal::BadLength);
+    }
+    match to_take.push(Piece::new(piece)) {
         Ok(()) => Ok(()),
         Err(_) => Err(Refusal::LinkFull),
     }

@@ -3,3 +3,4 @@
 mod activity;
 mod device;
 mod pending;
+mod zeros;

@@ -2,6 +2,7 @@
 
 mod connections;
 mod ends;
+mod frames;
 mod kinds;
 mod names;
 mod pieces;

@@ -93,6 +93,12 @@ pub(crate) fn with_blocks(
     with_blocks_in(alloc, front, blocks, byte).expect(rt, "memory")
 }
 
+/// Returns whether a frame has these bytes: those of its second part follow those of its first.
+pub(crate) fn has_bytes(frame: &Frame, bytes: &[u8]) -> bool {
+    let (first, second) = frame.parts();
+    first.len() <= bytes.len() && bytes.split_at(first.len()) == (first, second)
+}
+
 pub(crate) fn frame_of(rt: &impl Abort, alloc: Global, bytes: &[u8]) -> Frame {
     Frame::new(Bytes::copy_from_slice(alloc, bytes).expect(rt, "memory"))
 }

@@ -5,7 +5,7 @@ use Rattle.std.specs.Prelude.{◌==◌, nat_lt}
 use Rattle.std.specs.List.{AllByRecursion}
 use Rattle.std.proofs.lemmas.Bool.Decides.{nat_tests}
 use Rattle.std.proofs.lemmas.Grind.{flat_map-append}
-use Rattle.std.proofs.lemmas.List.{append-nil, length-append, length-take, take-append-drop, take-take, drop-take}
+use Rattle.std.proofs.lemmas.List.{append-nil, length-append, take-append-drop, take-take, drop-take}
 use Rattle.std.proofs.lemmas.List.Concat.{flat_map-cons}
 use Rattle.packets.specs.Reading.{header_at}
 use Rattle.packets.specs.Cutting.{cut_after, IsCut}
@@ -83,11 +83,6 @@ pub bytes_above : (m n : ℕ) (ps : List PieceState) → m < n → AllByRecursio
 bytes_above m n ps lt h =
     bytes_none n ps (all_map (λ p. p.number ≤ m) (λ p. p.number ≢ n) ps (λ p le e. omega (arith, le, lt, e)) h)
 
--- pieces of one other connection
-pub bytes_apart : (m n : ℕ) (ps : List PieceState) → n ≢ m → AllByRecursion (λ p. p.number ≡ m) ps → bytes_on n ps ≡ []
-bytes_apart m n ps apart h =
-    bytes_none n ps (all_map (λ p. p.number ≡ m) (λ p. p.number ≢ n) ps (λ p is e. apart (sym e ∙ is)) h)
-
 -- ---- frames
 
 pub joined_first : (f : List ℕ) (fs : List (List ℕ)) → joined (f ∷ fs) ≡ f ++ joined fs
@@ -129,14 +124,15 @@ part_most bytes part = elim (cases_lt (length bytes) 8) [
   | inr long ↦ omega (arith, part long, most_of (header_at bytes) bytes refl)
 ]
 
--- less than a cut begins with none
-pub part_of_cut : (frame : List ℕ) (k : ℕ) → IsCut frame → k < length frame → BeginsNoCut (take k frame)
-part_of_cut frame k cut less long =
-    let len : length (take k frame) ≤ k = omega (arith, length-take k frame) in
-    let same : cut_after (header_at frame) ≡ cut_after (header_at (take k frame)) =
-    ap (λ (row : List ℕ). cut_after (header_at row)) (sym (take-append-drop k frame)) ∙ cut_front (take k frame) (drop k frame) long in
+-- a cut is no longer than the longest frame
+pub cut_most : (frame : List ℕ) → IsCut frame → length frame ≤ 131104
+cut_most frame cut =
     let whole = cut.whole in
-    omega (arith, len, less, same, whole)
+    omega (arith, whole, most_of (header_at frame) frame refl)
+
+-- no bytes begin with no cut
+pub nothing_begun : BeginsNoCut []
+nothing_begun long = absurd (omega (arith, long))
 
 -- what begins with a cut is no front of one
 no_part : (frame more front : List ℕ) → IsCut frame → BeginsNoCut front → frame ++ more ≡ front → ⊥

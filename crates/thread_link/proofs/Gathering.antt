@@ -1,10 +1,11 @@
 -- The bytes of a frame as they come.
-use Rattle.std.proofs.Common.{◌≡◌, ℕ, ◌+◌, ◌<◌, ◌≤◌, Bool, true, true≢false, List, [], ◌++◌, length, sym, ap, ◌∙◌, inl, inr, arith}
+use Rattle.std.proofs.Common.{◌≡◌, ℕ, ◌+◌, ◌<◌, ◌≤◌, Bool, true, true≢false, List, [], ◌++◌, length, take, sym, ap, ◌∙◌, inl, inr, append_assoc, arith}
 use Rattle.std.proofs.lemmas.Bool.{cases_lt}
-use Rattle.std.proofs.lemmas.List.{length-append}
+use Rattle.std.proofs.lemmas.List.{length-append, take_all}
+use Rattle.std.proofs.Math.Seq.{take-append-add}
 use Rattle.packets.specs.Cutting.{IsCut}
 use Rattle.thread_link.specs.Carried.{BeginsNoCut, whole_length}
-use Rattle.thread_link.specs.Inward.{IsGathered}
+use Rattle.thread_link.specs.Inward.{GatheredState, IsGathered}
 use Rattle.thread_link.proofs.Carrying.{whole_short, whole_long}
 
 empty_length : (items : List ℕ) → items ≡ [] → length items ≡ 0
@@ -61,3 +62,18 @@ gathered_cut items spare is_ready whole g full =
 pub gathered_part : (items : List ℕ) (spare : ℕ) (is_ready : Bool) (whole : ℕ) → IsGathered items spare is_ready whole → length items < whole
     → BeginsNoCut items
 gathered_part items spare is_ready whole g less long = omega (arith, g.noted, less, whole_long items long)
+
+-- ---- bytes in two parts
+
+-- all bytes of the first part were put, and then some of the second
+pub put_both : (old middle new : GatheredState) (first second : List ℕ) (m n : ℕ) → length first ≡ m
+    → middle ≡ record old { bytes = old.bytes ++ take m first } → new ≡ record middle { bytes = middle.bytes ++ take n second }
+    → new ≡ record old { bytes = old.bytes ++ take (m + n) (first ++ second) }
+put_both old middle new first second m n all a b =
+    let whole : take m first ≡ first = take_all m first (omega (arith, all)) in
+    let added : first ++ take n second ≡ take (m + n) (first ++ second) =
+    sym (take-append-add first second n) ∙ ap (λ (k : ℕ). take (k + n) (first ++ second)) all in
+    b ∙ ap (λ (s : GatheredState). record s { bytes = s.bytes ++ take n second }) a
+    ∙ ap (λ (x : List ℕ). record old { bytes = x })
+    (append_assoc old.bytes (take m first) (take n second) ∙ ap (λ (x : List ℕ). old.bytes ++ (x ++ take n second)) whole
+    ∙ ap (λ (x : List ℕ). old.bytes ++ x) added)

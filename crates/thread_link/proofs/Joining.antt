@@ -1,14 +1,13 @@
 -- On each connection the frames taken begin the frames sent.
-use Rattle.std.proofs.Common.{◌≡◌, ◌≢◌, ℕ, Bool, cond, List, ◌++◌, sym, ap, ◌∙◌, subst, append_assoc, inl, inr}
+use Rattle.std.proofs.Common.{◌≡◌, ◌≢◌, ℕ, Bool, cond, List, [], ◌++◌, sym, ap, ◌∙◌, subst, append_assoc, inl, inr}
 use Rattle.std.proofs.lemmas.Bool.{cases_eq}
 use Rattle.link.specs.Past.{Past}
 use Rattle.thread_link.specs.Pieces.{PieceState, bytes_on}
-use Rattle.thread_link.specs.Carried.{joined, BeginsNoCut, IsCarried, frames_on, past_on}
-use Rattle.thread_link.specs.Outward.{OutwardState, Sends, pushed_of}
+use Rattle.thread_link.specs.Carried.{joined, IsCarried, frames_on, past_on}
+use Rattle.thread_link.specs.Outward.{OutwardState, Sends}
 use Rattle.thread_link.specs.Inward.{InwardState, Takes, in_hand}
 use Rattle.thread_link.specs.Joined.{IsJoined, at_present, sent_on, taken_on}
-use Rattle.thread_link.proofs.Carrying.{bytes_append, frames_begin, same_number, other_number}
-use Rattle.thread_link.proofs.Sending.{front_part}
+use Rattle.thread_link.proofs.Carrying.{bytes_append, frames_begin, nothing_begun, same_number, other_number}
 
 present_is : (n number : ℕ) (frames : List (List ℕ)) (past : List Past) → n ≡ number → frames_on n (at_present number frames) past ≡ frames
 present_is n number frames past e = ap (λ (b : Bool). cond b frames (past_on n past)) (same_number number n (sym e))
@@ -17,20 +16,11 @@ past_is : (n number : ℕ) (frames : List (List ℕ)) (past : List Past) → n �
 past_is n number frames past e = ap (λ (b : Bool). cond b frames (past_on n past)) (other_number number n (λ same. e (sym same)))
 
 -- what was sent on any connection
-all_sent : (s : OutwardState) (pushed n : ℕ) → Sends s pushed → (front : List ℕ) × IsCarried (bytes_on n s.pieces) (sent_on n s) front × BeginsNoCut front
-all_sent s pushed n h = elim (cases_eq n s.number) [
-  | inl same ↦ (
-      let front = pushed_of s.partly pushed in (
-        front,
-        subst (λ (x : List (List ℕ)). IsCarried (bytes_on n s.pieces) x front) (sym (present_is n s.number s.sent s.past same))
-            (subst (λ (m : ℕ). IsCarried (bytes_on m s.pieces) s.sent front) (sym same) h.present),
-        front_part s.partly pushed h.partly,
-      )
-      )
-  | inr other ↦ (
-      let b = h.before n other in
-      (b.0, subst (λ (x : List (List ℕ)). IsCarried (bytes_on n s.pieces) x b.0) (sym (past_is n s.number s.sent s.past other)) b.1, b.2)
-      )
+all_sent : (s : OutwardState) (n : ℕ) → Sends s → IsCarried (bytes_on n s.pieces) (sent_on n s) []
+all_sent s n h = elim (cases_eq n s.number) [
+  | inl same ↦ subst (λ (x : List (List ℕ)). IsCarried (bytes_on n s.pieces) x []) (sym (present_is n s.number s.sent s.past same))
+      (subst (λ (m : ℕ). IsCarried (bytes_on m s.pieces) s.sent []) (sym same) h.present)
+  | inr other ↦ subst (λ (x : List (List ℕ)). IsCarried (bytes_on n s.pieces) x []) (sym (past_is n s.number s.sent s.past other)) (h.before n other)
 ]
 
 -- what was taken on any connection
@@ -47,13 +37,13 @@ all_taken s n h = elim (cases_eq n s.number) [
       )
 ]
 
-pub is_joined : (outward : OutwardState) (pushed : ℕ) (inward : InwardState) (more : List PieceState) → Sends outward pushed → Takes inward
+pub is_joined : (outward : OutwardState) (inward : InwardState) (more : List PieceState) → Sends outward → Takes inward
     → inward.pieces ++ more ≡ outward.pieces → IsJoined outward inward
-is_joined outward pushed inward more s t whole n =
-    let out = all_sent outward pushed n s in
+is_joined outward inward more s t whole n =
+    let out = all_sent outward n s in
     let in' = all_taken inward n t in
     let bytes : (bytes_on n inward.pieces) ++ bytes_on n more ≡ bytes_on n outward.pieces = sym (bytes_append n inward.pieces more) ∙ ap (bytes_on n) whole in
-    let row : joined (taken_on n inward) ++ (in'.0 ++ bytes_on n more) ≡ joined (sent_on n outward) ++ out.0 =
+    let row : joined (taken_on n inward) ++ (in'.0 ++ bytes_on n more) ≡ joined (sent_on n outward) ++ [] =
     sym (append_assoc (joined (taken_on n inward)) in'.0 (bytes_on n more)) ∙ ap (λ (x : List ℕ). x ++ bytes_on n more) (sym in'.1.bytes_are) ∙ bytes
-    ∙ out.1.bytes_are in
-    frames_begin (taken_on n inward) (sent_on n outward) (in'.0 ++ bytes_on n more) out.0 in'.1.cuts out.1.cuts out.2 row
+    ∙ out.bytes_are in
+    frames_begin (taken_on n inward) (sent_on n outward) (in'.0 ++ bytes_on n more) [] in'.1.cuts out.cuts nothing_begun row

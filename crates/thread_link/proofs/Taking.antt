@@ -1,6 +1,7 @@
 -- What was popped is the frames taken, and what is in hand.
 use Rattle.std.proofs.Common.{◌≡◌, ◌≢◌, ℕ, ◌<◌, ◌≤◌, Bool, true, false, cond, List, [], ◌∷◌, ◌++◌, length, Option, None, Some, refl, sym, ap, ◌∙◌, subst}
-use Rattle.std.proofs.Common.{append_assoc, inl, inr, arith}
+use Rattle.std.proofs.Common.{append_assoc, inl, inr, true≢false, arith}
+use Rattle.std.specs.Prelude.{nat_lt}
 use Rattle.std.specs.List.{AllByRecursion}
 use Rattle.std.proofs.lemmas.Bool.{cases_eq, cases_lt}
 use Rattle.std.proofs.lemmas.List.{append-nil}
@@ -10,10 +11,7 @@ use Rattle.thread_link.specs.Pieces.{EndState, PieceState, bytes_if, bytes_on}
 use Rattle.thread_link.specs.Carried.{joined, BeginsNoCut, IsCarried, past_on}
 use Rattle.thread_link.specs.Inward.{GatheredState, Takes, IsDropped, inward_state, is_later, later_of, not_before, rest_on}
 use Rattle.thread_link.proofs.Carrying.{all_append, all_map, below, not_below, bytes_append, bytes_one, bytes_none, bytes_above, no_bytes, other_bytes}
-use Rattle.thread_link.proofs.Carrying.{joined_more, joined_none, rising_more, past_same, past_other}
-
-nothing_begun : BeginsNoCut []
-nothing_begun long = absurd (omega (arith, long))
+use Rattle.thread_link.proofs.Carrying.{joined_more, joined_none, nothing_begun, own_bytes, rising_more, past_same, past_other}
 
 nothing_carried : (n : ℕ) → IsCarried (bytes_on n []) [] []
 nothing_carried n = record { bytes_are = no_bytes n ∙ sym (ap (λ (x : List ℕ). x ++ []) joined_none); cuts = tt }
@@ -80,6 +78,13 @@ later_is number p lt = ap (λ (b : Bool). cond b (p ∷ []) []) (below number p.
 
 pub not_later : (number : ℕ) (p : PieceState) → p.number ≤ number → later_of number (Some p) ≡ []
 not_later number p le = ap (λ (b : Bool). cond b (p ∷ []) []) (not_below number p.number le)
+
+-- where the test says so
+not_over : (number n : ℕ) → nat_lt number n ≡ false → n ≤ number
+not_over number n e = elim (cases_lt number n) [
+  | inl over ↦ absurd (true≢false (sym (below number n over) ∙ e))
+  | inr le ↦ le
+]
 
 -- where the piece in hand is not of a later connection
 pub none_later : (number : ℕ) (rest : Option PieceState) → is_later number rest ≡ false → later_of number rest ≡ []
@@ -188,6 +193,20 @@ takes_piece old new went number front rest p t none spent d =
       highest = split.2;
       rising = t.rising;
     }
+
+-- there was one, which is the next frame
+pub takes_lone : (old new : EndState) (went more : Went) (number : ℕ) (front : GatheredState) (rest : Option PieceState) (p : PieceState) (frame : List ℕ)
+    → Takes (inward_state old went number front rest)
+    → later_of number rest ≡ [] → rest_on number rest ≡ [] → IsDropped number old new (p ∷ []) → number ≤ p.number
+    → nat_lt number p.number ≡ false → front.bytes ≡ [] → IsCut frame → frame ≡ p.bytes → more ≡ and_then frame went → Takes (inward_state new more number front rest)
+takes_lone old new went more number front rest p frame t none spent d from not blank cut is added =
+    let now : p.number ≤ number = not_over number p.number not in
+    let held = takes_piece old new went number front rest p t none spent d in
+    let own : bytes_if number p ≡ p.bytes = own_bytes number p (omega (arith, from, now)) in
+    let all : GatheredState = record { bytes = p.bytes; is_ready = true } in
+    let same : p.bytes ++ rest_on number rest ≡ front.bytes ++ rest_on number (Some p) =
+    ap (λ (x : List ℕ). p.bytes ++ x) spent ∙ append-nil p.bytes ∙ sym own ∙ ap (λ (x : List ℕ). x ++ bytes_if number p) (sym blank) in
+    takes_frame new went more number front all front (Some p) rest frame held same (none ∙ sym (not_later number p now)) cut is blank added
 
 -- ---- beginning a connection
 

@@ -1,16 +1,27 @@
 -- The taking end of a link between threads.
-use Rattle.std.specs.Prelude.{ℕ, ◌≡◌, ◌≢◌, ◌+◌, ◌<◌, ◌≤◌, Bool, true, false, nat_lt, if◌then◌else◌, List, [], ◌∷◌, ◌++◌, length, Option, None, Some}
+use Rattle.std.specs.Prelude.{ℕ, ◌≡◌, ◌≢◌, ◌+◌, ◌<◌, ◌≤◌, Bool, true, false, nat_lt, if◌then◌else◌, List, [], ◌∷◌, ◌++◌, length, drop, Option, None, Some}
 use Rattle.std.specs.List.{AllByRecursion}
 use Rattle.atomic_table.specs.Seated.{TableId}
 use Rattle.link.specs.Ends.{InEnd}
 use Rattle.link.specs.Past.{Past, Went, ended}
 use Rattle.thread_link.specs.Carried.{BeginsNoCut, IsCarried, IsRising, past_on, whole_length}
+use Rattle.thread_link.specs.declared.rest.Kept.{Kept}
+use Rattle.thread_link.specs.declared.rest.Kept.TheVariants.{Copied, Whole}
 use Rattle.thread_link.specs.Pieces.{EndState, PieceState, bytes_if, bytes_on}
 
 -- the bytes of a frame that came so far, and whether there is room for the longest one
 pub record GatheredState : Type 0 where
   pub bytes : List ℕ
   pub is_ready : Bool
+
+-- what a rest was made from
+abbrev pub kept_piece : Kept → PieceState
+kept_piece (Copied piece) = piece
+kept_piece (Whole piece) = piece
+
+-- a piece without its first bytes
+abbrev pub behind : ℕ → PieceState → PieceState
+behind used piece = record piece { bytes = drop used piece.bytes }
 
 -- The bytes are no more than the frame has that begins with them, whose length is noted. A ready chunk has room for the
 -- longest frame, of 131,104 bytes; in one that is not ready there are no bytes.

@@ -1,11 +1,10 @@
 -- The sending end of a link between threads.
-use Rattle.std.specs.Prelude.{ℕ, ◌≡◌, ◌≢◌, ◌<◌, ◌≤◌, List, [], ◌∷◌, ◌++◌, length, take, Option, None, Some, MatchOption}
+use Rattle.std.specs.Prelude.{ℕ, ◌≢◌, ◌≤◌, List, [], ◌∷◌, ◌++◌, Option, None, Some}
 use Rattle.std.specs.List.{AllByRecursion}
 use Rattle.atomic_table.specs.Seated.{TableId}
-use Rattle.packets.specs.Cutting.{IsCut}
 use Rattle.link.specs.Ends.{OutEnd}
 use Rattle.link.specs.Past.{Past, Went, ended}
-use Rattle.thread_link.specs.Carried.{BeginsNoCut, IsCarried, IsRising, past_on}
+use Rattle.thread_link.specs.Carried.{IsCarried, IsRising, past_on}
 use Rattle.thread_link.specs.Pieces.{EndState, PieceState, bytes_on}
 
 -- The end's row, and the pieces that it has pushed. The frames sent on the present connection, that one's number, the
@@ -53,7 +52,7 @@ unused_out row = record { row = row; pieces = []; sent = []; number = 1; past = 
 abbrev pub with_sent : List ℕ → OutwardState → OutwardState → OutwardState
 with_sent frame now s = record s { pieces = now.pieces; sent = s.sent ++ frame ∷ []; partly = None }
 
--- an end that was offered this frame, and pushed at most a part of it
+-- an end that was offered this frame and did not push it; the pieces pushed are those of `now`
 abbrev pub with_part : List ℕ → OutwardState → OutwardState → OutwardState
 with_part frame now s = record s { pieces = now.pieces; partly = Some frame }
 
@@ -61,24 +60,10 @@ with_part frame now s = record s { pieces = now.pieces; partly = Some frame }
 abbrev pub sending_anew : ℕ → OutwardState → OutwardState
 sending_anew number s = record s { sent = []; number = number; past = ended s.number s.sent s.past; partly = None }
 
--- the bytes that were pushed of the frame that was offered in part
-abbrev pub pushed_of : Option (List ℕ) → ℕ → List ℕ
-pushed_of None pushed = []
-pushed_of (Some frame) pushed = take pushed frame
-
--- What was pushed: on the present connection the frames sent and then `pushed` bytes of the frame offered in part, on
--- each other one the frames sent and then less than a frame. No piece is of a later connection than the present one.
-pub record Sends (s : OutwardState) (pushed : ℕ) : Type 0 where
-  pub present : IsCarried (bytes_on s.number s.pieces) s.sent (pushed_of s.partly pushed)
-  pub before : (n : ℕ) → n ≢ s.number → (front : List ℕ) × IsCarried (bytes_on n s.pieces) (past_on n s.past) front × BeginsNoCut front
+-- What was pushed: the frames sent, on the present connection and on each other one. No piece is of a later connection than the
+-- present one.
+pub record Sends (s : OutwardState) : Type 0 where
+  pub present : IsCarried (bytes_on s.number s.pieces) s.sent []
+  pub before : (n : ℕ) → n ≢ s.number → IsCarried (bytes_on n s.pieces) (past_on n s.past) []
   pub highest : AllByRecursion (λ piece. piece.number ≤ s.number) s.pieces
   pub rising : IsRising s.past s.number
-  pub partly : MatchOption s.partly (pushed ≡ 0) (λ frame. IsCut frame × (pushed < length frame))
-
--- the bytes from one place to another of a frame were pushed in pieces of the connection of this number, and nothing
--- else
-pub record IsPushed (number : ℕ) (frame : List ℕ) (start end : ℕ) (old new : List PieceState) : Type 0 where
-  pub added : List PieceState
-  pub whole : new ≡ old ++ added
-  pub numbers : AllByRecursion (λ piece. piece.number ≡ number) added
-  pub bytes_are : take start frame ++ bytes_on number added ≡ take end frame

@@ -18,7 +18,7 @@ pub struct RuledLink<R: Wait> {
 }
 
 impl<R: Wait + Copy> RuledLink<R> {
-    /// Creates a link with room for `link` of the longest frames each way; all ends are on a first connection.
+    /// Creates a link with room for `link` frames each way; all ends are on a first connection.
     /// `NoMemory` (7) if there is no memory for the room.
     pub fn new(rt: R, alloc: Global, link: u32) -> Result<RuledLink<R>, Refusal>
         requires { 0 < link }

@@ -1,11 +1,11 @@
 //! The two ends of one direction of a link between nodes in threads of their own.
-ghost use Rattle.std.specs.Prelude.{◌≡◌, ◌<◌, ◌*◌, [], IfOk, IfErr};
+ghost use Rattle.std.specs.Prelude.{◌≡◌, ◌<◌, [], IfOk, IfErr};
 ghost use Rattle.blocks.specs.declared.refusal.Refusal.TheVariants.{NoMemory};
 ghost use Rattle.thread_link.specs.Inward.{unused_in};
 ghost use Rattle.thread_link.specs.Joined.{IsJoined};
 ghost use Rattle.thread_link.specs.Outward.{unused_out};
 
-use crate::pieces::{join_pieces, row_with_invariant};
+use crate::pieces::{frame_row, join_pieces};
 use crate::{NoInvariant, RingInvariant, RuledIn, RuledOut};
 use blocks::Refusal;
 use std::alloc::Global;
@@ -14,7 +14,7 @@ use std::sync::Wait;
 /// Pieces of the longest frame.
 pub const FRAME_PIECES: usize = 31;
 
-/// Creates one direction of a link, over a row for `link` of the longest frames; its ends are on a first connection.
+/// Creates one direction of a link, over a row for `link` frames; its ends are on a first connection.
 /// `NoMemory` (7) if there is no memory for it.
 pub fn ruled<R: Wait + Copy>(
     rt: R,
@@ -24,7 +24,7 @@ pub fn ruled<R: Wait + Copy>(
     requires { 0 < link }
     ensures outward { IfOk result (λ ends. ends.0 ≡ unused_out ends.0.row) }
     ensures inward { IfOk result (λ ends. ends.1 ≡ unused_in ends.0.row) }
-    ensures room { IfOk result (λ ends. ends.0.row.slots ≡ FRAME_PIECES * link) }
+    ensures room { IfOk result (λ ends. ends.0.row.slots ≡ link) }
     ensures refused { IfErr result (λ e. e ≡ NoMemory) }
 {
     with_invariant::<R, NoInvariant>(rt, alloc, link)
@@ -40,10 +40,10 @@ pub fn with_invariant<R: Wait + Copy, M: RingInvariant>(
     requires first { M.holds [] [] }
     ensures outward { IfOk result (λ ends. ends.0 ≡ unused_out ends.0.row) }
     ensures inward { IfOk result (λ ends. ends.1 ≡ unused_in ends.0.row) }
-    ensures room { IfOk result (λ ends. ends.0.row.slots ≡ FRAME_PIECES * link) }
+    ensures room { IfOk result (λ ends. ends.0.row.slots ≡ link) }
     ensures refused { IfErr result (λ e. e ≡ NoMemory) }
 {
-    let (outward, inward) = row_with_invariant::<R, M>(rt, alloc, FRAME_PIECES * link as usize)?;
+    let (outward, inward) = frame_row::<R, M>(rt, alloc, link as usize)?;
     Ok((RuledOut::new(outward), RuledIn::new(alloc, inward)?))
 }
 
@@ -62,7 +62,6 @@ pub fn join_ends<R: Wait, M: RingInvariant>(
         number: sending,
         sent,
         part,
-        pushed,
     } = outward;
     let RuledIn {
         pieces: popped_pieces,
@@ -78,7 +77,6 @@ pub fn join_ends<R: Wait, M: RingInvariant>(
             number: sending,
             sent,
             part,
-            pushed,
         },
         RuledIn {
             pieces: popped_pieces,

@@ -1,5 +1,5 @@
 //! The buffer that gathers the bytes of a frame.
-ghost use Rattle.std.specs.Prelude.{◌≡◌, ◌+◌, ◌<◌, ◌≤◌, ◌++◌, [], length, take, drop, true, IfOk, IfErr, OnOk, OnErr, MatchOption};
+ghost use Rattle.std.specs.Prelude.{◌≡◌, ◌+◌, ◌<◌, ◌≤◌, ◌++◌, ◌↔◌, [], length, take, drop, true, IfOk, IfErr, OnOk, OnErr, MatchOption};
 ghost use Rattle.packets.specs.Cutting.{IsCut};
 ghost use Rattle.packets.specs.declared.cutting.TheConstants.{MAX_FRAME_BYTES};
 ghost use Rattle.packets.specs.declared.fixed_part.TheConstants.{FIXED_BYTES};
@@ -76,6 +76,14 @@ impl Gathered {
         Ok(())
     }
 
+    /// Returns whether no bytes are in hand.
+    #[inline]
+    pub(crate) fn is_empty(&self) -> bool
+        ensures { result ≡ true ↔ self.now.bytes ≡ [] }
+    {
+        self.buffer.is_empty()
+    }
+
     /// Drops the bytes. Takes no memory.
     pub(crate) fn clear(&mut self)
         ensures { self.new ≡ record self.old { bytes = [] } }
@@ -97,6 +105,21 @@ impl Gathered {
             return head;
         }
         head + self.put_payload(&bytes[head..])
+    }
+
+    /// Appends as many of the bytes in two parts as the frame lacks, and returns how many. Takes no memory.
+    pub(crate) fn put_parts(&mut self, first: &[u8], second: &[u8]) -> usize
+        requires ready { self.old.is_ready ≡ true }
+        ensures within { result ≤ length (first.now ++ second.now) }
+        ensures put { self.new ≡ record self.old { bytes = self.old.bytes ++ take result (first.now ++ second.now) } }
+        // Some bytes remain only if the frame is whole.
+        ensures all { BeginsNoCut self.new.bytes → result ≡ length (first.now ++ second.now) }
+    {
+        let used = self.put(first);
+        if used < first.len() {
+            return used;
+        }
+        used + self.put(second)
     }
 
     /// Appends the bytes that the header lacks, and returns how many.

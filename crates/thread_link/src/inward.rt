@@ -5,21 +5,22 @@ ghost use Rattle.packets.specs.declared.fixed_part.TheConstants.{FIXED_BYTES};
 ghost use Rattle.thread_link.specs.Carried.{BeginsNoCut};
 ghost use Rattle.thread_link.specs.Moments.{WasEmpty};
 ghost use Rattle.thread_link.specs.Pieces.{bytes_if};
+ghost use Rattle.thread_link.specs.Row.{piece_of};
 ghost use Rattle.thread_link.specs.Inward.{in_hand, is_later, later_of, not_before, rest_on, taking, taking_anew, unused_in, with_popped, with_taken};
 ghost use Rattle.blocks.specs.declared.refusal.Refusal.TheVariants.{NoMemory, NothingThere};
 
 use crate::gathered::Gathered;
 use crate::rest::Rest;
-use crate::{NoInvariant, Piece, PieceIn, RingInvariant};
+use crate::{NoInvariant, Piece, PieceIn, RingInvariant, Sheet};
 use blocks::Refusal;
 use link::{FrameIn, GhostFrames};
-use packets::Frame;
+use packets::{Frame, is_cut};
 use std::alloc::Global;
 use std::marker::Model;
 use std::sync::Wait;
 
-/// The receiving end of one direction of a link whose two ends may be in two threads. It assembles frames from pieces
-/// that are cut in any way.
+/// The receiving end of one direction of a link whose two ends may be in two threads. It takes a frame that came as a whole as it
+/// is, and assembles frames from pieces that are cut in any way.
 #[derive(Drop)]
 pub struct RuledIn<R: Wait, M: RingInvariant = NoInvariant> {
     pub(crate) pieces: PieceIn<R, M>,
@@ -111,10 +112,17 @@ impl<R: Wait, M: RingInvariant> RuledIn<R, M> {
         let Some(sheet) = self.pieces.pop_from(self.number) else {
             return Err(Refusal::NothingThere);
         };
-        let piece = sheet.piece();
-        let is_later = piece.number() > self.number;
-        take_in_hand(&mut self.front, &mut self.rest, self.number, piece);
-        self.pieces.give_back(sheet);
+        let is_later = sheet.number() > self.number;
+        let sheet = match lone_frame(&self.front, is_later, sheet) {
+            Ok(frame) => {
+                self.taken = self.taken.and(&frame);
+                return Ok(Some(frame));
+            }
+            Err(sheet) => sheet,
+        };
+        if let Some(page) = take_in_hand(&mut self.front, &mut self.rest, self.number, sheet) {
+            self.pieces.give_back(Sheet::Written(page));
+        }
         if is_later {
             return Err(Refusal::NothingThere);
         }
@@ -195,44 +203,73 @@ fn gather(front: &mut Gathered, rest: &mut Option<Rest>, number: u32)
     if let Some(rest) = rest
         && rest.number() == number
     {
-        let used = front.put(rest.bytes());
+        let (first, second) = rest.parts();
+        let used = front.put_parts(first, second);
         rest.advance(used);
     }
 }
 
-/// Takes a popped piece in hand. If it is of connection `number`, appends as many of its bytes as the frame lacks.
-/// Keeps the remaining bytes in `rest`.
+/// Returns the frame of a sheet that is of the present connection and holds one whole frame, if no bytes are in hand. Gives back
+/// any other sheet.
 #[inline]
-fn take_in_hand(front: &mut Gathered, rest: &mut Option<Rest>, number: u32, piece: &Piece)
-    requires ready { front.old.is_ready ≡ true }
-    requires spent { rest_on number rest.old ≡ [] }
-    requires now { later_of number rest.old ≡ [] }
-    ensures bytes { front.new.bytes ++ rest_on number rest.new ≡ front.old.bytes ++ bytes_if number piece.now }
-    ensures ready { front.new.is_ready ≡ true }
-    ensures later { later_of number rest.new ≡ later_of number (Some piece.now) }
-    ensures none { bytes_if number piece.now ≡ [] → front.new ≡ front.old }
-    ensures some { 0 < length piece.now.bytes }
-    // Some bytes remain only if the frame is whole.
-    ensures all { BeginsNoCut front.new.bytes → rest_on number rest.new ≡ [] }
+fn lone_frame(front: &Gathered, is_later: bool, sheet: Sheet) -> Result<Frame, Sheet>
+    ensures frame { IfOk result (λ frame. IsCut frame × (frame ≡ (piece_of sheet).bytes) × (front.now.bytes ≡ []) × (is_later ≡ false)) }
+    ensures back { IfErr result (λ back. back ≡ sheet) }
 {
-    let used = put_own(front, number, piece);
-    if used < piece.bytes().len() {
-        *rest = Some(Rest::behind(piece, used));
+    match sheet {
+        Sheet::Whole(numbered) => {
+            if !is_later && front.is_empty() && is_cut(numbered.frame()) {
+                Ok(numbered.into_frame())
+            } else {
+                Err(Sheet::Whole(numbered))
+            }
+        }
+        Sheet::Written(_) => Err(sheet),
     }
 }
 
-/// Appends as many bytes of a piece as the frame lacks, if the piece is of connection `number`. Returns how many.
+/// Takes a popped sheet in hand. If it is of connection `number`, appends as many of its bytes as the frame lacks.
+/// Keeps the remaining bytes in `rest`. Returns the page that can go back to the row.
 #[inline]
-fn put_own(front: &mut Gathered, number: u32, piece: &Piece) -> usize
-    requires { front.old.is_ready ≡ true }
-    ensures within { result ≤ length (bytes_if number piece.now) }
-    ensures put { front.new ≡ record front.old { bytes = front.old.bytes ++ take result (bytes_if number piece.now) } }
-    ensures all { BeginsNoCut front.new.bytes → result ≡ length (bytes_if number piece.now) }
+fn take_in_hand(
+    front: &mut Gathered,
+    rest: &mut Option<Rest>,
+    number: u32,
+    sheet: Sheet,
+) -> Option<Box<Piece>>
+    requires ready { front.old.is_ready ≡ true }
+    requires spent { rest_on number rest.old ≡ [] }
+    requires now { later_of number rest.old ≡ [] }
+    ensures bytes { front.new.bytes ++ rest_on number rest.new ≡ front.old.bytes ++ bytes_if number (piece_of sheet) }
+    ensures ready { front.new.is_ready ≡ true }
+    ensures later { later_of number rest.new ≡ later_of number (Some (piece_of sheet)) }
+    ensures none { bytes_if number (piece_of sheet) ≡ [] → front.new ≡ front.old }
+    ensures some { 0 < length (piece_of sheet).bytes }
+    // Some bytes remain only if the frame is whole.
+    ensures all { BeginsNoCut front.new.bytes → rest_on number rest.new ≡ [] }
 {
-    if piece.number() != number {
+    let used = put_own(front, number, &sheet);
+    if used == sheet.len() {
+        return sheet.into_page();
+    }
+    let (left, page) = Rest::of(sheet, used);
+    *rest = Some(left);
+    page
+}
+
+/// Appends as many bytes of a sheet as the frame lacks, if the sheet is of connection `number`. Returns how many.
+#[inline]
+fn put_own(front: &mut Gathered, number: u32, sheet: &Sheet) -> usize
+    requires { front.old.is_ready ≡ true }
+    ensures within { result ≤ length (bytes_if number (piece_of sheet.now)) }
+    ensures put { front.new ≡ record front.old { bytes = front.old.bytes ++ take result (bytes_if number (piece_of sheet.now)) } }
+    ensures all { BeginsNoCut front.new.bytes → result ≡ length (bytes_if number (piece_of sheet.now)) }
+{
+    if sheet.number() != number {
         return 0;
     }
-    front.put(piece.bytes())
+    let (first, second) = sheet.parts();
+    front.put_parts(first, second)
 }
 
 /// Drops the piece in hand if it is of an earlier connection than `number`.

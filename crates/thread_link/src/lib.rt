@@ -1,5 +1,5 @@
-//! The link between two nodes in threads of their own. Frames go from one end of a direction to the other as
-//! pieces in a row, over one connection after another.
+//! The link between two nodes in threads of their own. Frames go from one end of a direction to the other
+//! through a row, as they are or in pieces, over one connection after another.
 #![tactic(auto)]
 
 mod both_ways;
@@ -9,6 +9,7 @@ mod inward;
 mod named_in;
 mod named_out;
 mod names;
+mod numbered;
 mod outward;
 mod piece;
 mod pieces;
@@ -25,5 +26,6 @@ pub use named_out::NamedOut;
 pub use names::Named;
 pub use outward::RuledOut;
 pub use piece::{PIECE_BYTES, Piece};
-pub use pieces::{PieceIn, PieceOut, join_pieces, row, row_with_invariant};
+pub use pieces::{PieceIn, PieceOut, RowOut, frame_row, join_pieces, row, row_with_invariant};
 pub use ring_invariant::{NoInvariant, RingInvariant};
+pub use sheet::Sheet;

@@ -2,24 +2,23 @@
 ghost use Rattle.std.specs.Prelude.{◌≡◌, ◌<◌, ◌≤◌, [], length, OnOk, OnErr, IfErr, IfSome};
 ghost use Rattle.packets.specs.Cutting.{IsCut};
 ghost use Rattle.thread_link.specs.Moments.{WasFull};
-ghost use Rattle.thread_link.specs.Outward.{IsPushed, sending, sending_anew, unused_out, with_part, with_sent};
+ghost use Rattle.thread_link.specs.Outward.{sending, sending_anew, unused_out, with_part, with_sent};
 
-use crate::{NoInvariant, PIECE_BYTES, PieceOut, RingInvariant};
+use crate::{NoInvariant, RingInvariant, RowOut};
 use link::{FrameOut, GhostFrames, Offered};
 use packets::Frame;
 use std::marker::Model;
 use std::sync::Wait;
 
-/// The sending end of one direction of a link whose two ends may be in two threads. It pushes a frame as pieces of
-/// 4,352 bytes; the last one may be shorter. A frame is sent once its last piece is pushed.
+/// The sending end of one direction of a link whose two ends may be in two threads. It pushes each frame as it is: none of its
+/// bytes is copied.
 #[derive(Drop)]
 pub struct RuledOut<R: Wait, M: RingInvariant = NoInvariant> {
-    pub(crate) pieces: PieceOut<R, M>,
+    pub(crate) pieces: RowOut<R, M>,
     pub(crate) number: u32,
     pub(crate) sent: GhostFrames,
-    // The frame that was offered in part, and how many of its bytes were pushed.
+    // The frame that was offered last, if it was not pushed.
     pub(crate) part: GhostFrames,
-    pub(crate) pushed: usize,
 }
 
 impl<R: Wait, M: RingInvariant> Model for RuledOut<R, M> {
@@ -29,12 +28,12 @@ impl<R: Wait, M: RingInvariant> Model for RuledOut<R, M> {
 
     ghost view = { λ e. outward_state e.pieces e.sent.went e.number e.part.went.frames };
 
-    ghost invariant = { λ e. Sends (outward_state e.pieces e.sent.went e.number e.part.went.frames) e.pushed };
+    ghost invariant = { λ e. Sends (outward_state e.pieces e.sent.went e.number e.part.went.frames) };
 }
 
 impl<R: Wait, M: RingInvariant> RuledOut<R, M> {
     /// Creates an end that pushes to `pieces`, on a first connection.
-    pub fn new(pieces: PieceOut<R, M>) -> RuledOut<R, M>
+    pub fn new(pieces: RowOut<R, M>) -> RuledOut<R, M>
         requires { pieces.pieces ≡ [] }
         ensures { result ≡ unused_out pieces.row }
     {
@@ -43,7 +42,6 @@ impl<R: Wait, M: RingInvariant> RuledOut<R, M> {
             number: 1,
             sent: GhostFrames::new(),
             part: GhostFrames::new(),
-            pushed: 0,
         }
     }
 }
@@ -59,17 +57,19 @@ impl<R: Wait, M: RingInvariant> FrameOut for RuledOut<R, M> {
         ensures in_part { OnErr result (self.new ≡ with_part frame self.new self.old) }
         ensures full { OnErr result (WasFull M.holds self.new.row self.new.pieces) }
     {
-        let whole = frame.as_slice();
-        let pushed = push_from(&mut self.pieces, self.number, whole, self.pushed);
-        if pushed < whole.len() {
-            self.part = GhostFrames::new().and(&frame);
-            self.pushed = pushed;
-            return Err(Offered { frame });
+        let sent = self.sent.and(&frame);
+        let part = GhostFrames::new().and(&frame);
+        match self.pieces.push_frame(self.number, frame) {
+            Ok(()) => {
+                self.sent = sent;
+                self.part = GhostFrames::new();
+                Ok(())
+            }
+            Err(frame) => {
+                self.part = part;
+                Err(Offered { frame })
+            }
         }
-        self.sent = self.sent.and(&frame);
-        self.part = GhostFrames::new();
-        self.pushed = 0;
-        Ok(())
     }
 
     fn restart(&mut self, number: u32)
@@ -79,31 +79,5 @@ impl<R: Wait, M: RingInvariant> FrameOut for RuledOut<R, M> {
         self.sent = self.sent.over(&self.number);
         self.number = number;
         self.part = GhostFrames::new();
-        self.pushed = 0;
     }
-}
-
-/// Pushes the bytes from index `from` on as pieces of connection `number`, until the row is full or all are pushed.
-/// Returns the index that it reached.
-fn push_from<R: Wait, M: RingInvariant>(
-    pieces: &mut PieceOut<R, M>,
-    number: u32,
-    bytes: &[u8],
-    from: usize,
-) -> usize
-    requires { from ≤ length bytes.now }
-    ensures row { pieces.new.row ≡ pieces.old.row }
-    ensures within { (from ≤ result) × (result ≤ length bytes.now) }
-    ensures pushed { IsPushed number bytes.now from result pieces.old.pieces pieces.new.pieces }
-    ensures full { result < length bytes.now → WasFull M.holds pieces.new.row pieces.new.pieces }
-{
-    let mut at = from;
-    while at < bytes.len() {
-        let end = bytes.len().min(at.saturating_add(PIECE_BYTES));
-        if !pieces.push_bytes(number, &bytes[at..end]) {
-            break;
-        }
-        at = end;
-    }
-    at
 }

@@ -1,9 +1,9 @@
-//! Pieces, the units that go over the link: part of a frame, or of several.
+//! Pieces of the bytes that come over a socket: part of a frame, or of several.
 ghost use Rattle.std.specs.Prelude.{◌≡◌, ◌<◌, ◌≤◌, length};
 
 use std::marker::Model;
 
-/// The most bytes of a piece: a frame of one block is one piece (this project's choice).
+/// The most bytes of a piece: a frame of one block fits in one (this project's choice).
 pub const PIECE_BYTES: usize = 4352;
 
 /// 1 to 4,352 bytes, and the number of the connection that they belong to. It is stored inline, and takes no memory.

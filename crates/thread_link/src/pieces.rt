@@ -3,14 +3,18 @@ ghost use Rattle.std.specs.Prelude.{◌≡◌, ◌<◌, ◌≤◌, List, [], ◌
 ghost use Rattle.std.specs.Bool.{OnTrue, OnFalse};
 ghost use Rattle.thread_link.specs.Moments.{WasEmpty, WasFull};
 ghost use Rattle.thread_link.specs.Pieces.{PieceState};
+ghost use Rattle.packets.specs.declared.cutting.TheConstants.{MAX_FRAME_BYTES};
 ghost use Rattle.thread_link.specs.declared.piece.TheConstants.{PIECE_BYTES};
 ghost use Rattle.thread_link.specs.Inward.{IsDropped};
+ghost use Rattle.thread_link.specs.Row.{piece_of};
 
+use crate::numbered::Numbered;
 use crate::sheet::Sheet;
 use crate::stock::{Returns, Stock};
 use crate::{NoInvariant, Piece, RingInvariant};
 use crossbeam_queue::protocol::{Join, Lesson, Outcome, Protocol, Split};
 use crossbeam_queue::{Pass, RuledArrayQueue};
+use packets::Frame;
 use std::alloc::{AllocError, Global};
 use std::collections::LinkedList;
 use std::marker::{Model, PhantomData};
@@ -34,7 +38,7 @@ impl<M: RingInvariant> Protocol<Sheet, Log> for InOrder<M> {
     ghost use Rattle.thread_link.specs.Row.{log};
     ghost use Rattle.thread_link.specs.Row as row;
 
-    ghost holds = { row.InOrder M.holds };
+    ghost holds = { row.SheetsInOrder M.holds };
 
     ghost first = { log true true [] [] };
 }
@@ -63,9 +67,10 @@ impl Join<Log> for Ends {
 struct Whole;
 
 impl Lesson<Sheet, Log> for Whole {
-    ghost use Rattle.std.specs.Prelude.{◌≡◌, ◌++◌};
+    ghost use Rattle.std.specs.Prelude.{◌≡◌, ◌++◌, map};
+    ghost use Rattle.thread_link.specs.Row.{piece_of};
 
-    ghost fact = { λ v pieces. v.pushed ≡ v.taken ++ pieces };
+    ghost fact = { λ v sheets. v.pushed ≡ v.taken ++ map piece_of sheets };
 }
 
 struct Pushed<M: RingInvariant> {
@@ -74,15 +79,16 @@ struct Pushed<M: RingInvariant> {
 
 impl<M: RingInvariant> Outcome<Sheet, Log> for Pushed<M> {
     ghost use Rattle.std.specs.Prelude.{◌≡◌, [], ◌∷◌, ◌++◌};
-    ghost use Rattle.thread_link.specs.Row.{log};
+    ghost use Rattle.thread_link.specs.Row.{log, piece_of};
 
-    ghost then = { λ v x w. w ≡ log v.pushes v.takes (v.pushed ++ x ∷ []) v.taken };
+    ghost then = { λ v x w. w ≡ log v.pushes v.takes (v.pushed ++ piece_of x ∷ []) v.taken };
 }
 
 impl<M: RingInvariant> Lesson<Sheet, Log> for Pushed<M> {
-    ghost use Rattle.thread_link.specs.Row.{PushedAt};
+    ghost use Rattle.std.specs.Prelude.{map};
+    ghost use Rattle.thread_link.specs.Row.{PushedAt, piece_of};
 
-    ghost fact = { λ v pieces. PushedAt M.holds v.pushed pieces };
+    ghost fact = { λ v sheets. PushedAt M.holds v.pushed (map piece_of sheets) };
 }
 
 struct Taken<M: RingInvariant> {
@@ -91,29 +97,29 @@ struct Taken<M: RingInvariant> {
 
 impl<M: RingInvariant> Outcome<Sheet, Log> for Taken<M> {
     ghost use Rattle.std.specs.Prelude.{◌≡◌, [], ◌∷◌, ◌++◌};
-    ghost use Rattle.thread_link.specs.Row.{log};
+    ghost use Rattle.thread_link.specs.Row.{log, piece_of};
 
-    ghost then = { λ v x w. w ≡ log v.pushes v.takes v.pushed (v.taken ++ x ∷ []) };
+    ghost then = { λ v x w. w ≡ log v.pushes v.takes v.pushed (v.taken ++ piece_of x ∷ []) };
 }
 
 impl<M: RingInvariant> Lesson<Sheet, Log> for Taken<M> {
-    ghost use Rattle.std.specs.Prelude.{◌++◌};
+    ghost use Rattle.std.specs.Prelude.{◌++◌, map};
+    ghost use Rattle.thread_link.specs.Row.{piece_of};
 
-    ghost fact = { λ v pieces. M.holds (v.taken ++ pieces) v.taken };
+    ghost fact = { λ v sheets. M.holds (v.taken ++ map piece_of sheets) v.taken };
 }
 
 type Row<M> = RuledArrayQueue<Sheet, Log, InOrder<M>>;
 
-/// The pushing end of a row.
+/// The pushing end of a row, for whole frames.
 #[derive(Drop)]
-pub struct PieceOut<R: Wait, M: RingInvariant = NoInvariant> {
+pub struct RowOut<R: Wait, M: RingInvariant = NoInvariant> {
     rt: R,
     row: Arc<Row<M>, Global>,
     pass: Pass<Sheet, Log>,
-    stock: Stock,
 }
 
-impl<R: Wait, M: RingInvariant> Model for PieceOut<R, M> {
+impl<R: Wait, M: RingInvariant> Model for RowOut<R, M> {
     ghost use Rattle.std.specs.Prelude.{◌≡◌, true, false, []};
     ghost use Rattle.crossbeam_queue.specs.Passes as passes;
     ghost use Rattle.thread_link.specs.Pieces.{EndState};
@@ -125,6 +131,21 @@ impl<R: Wait, M: RingInvariant> Model for PieceOut<R, M> {
     ghost view = { λ e. record { row = e.pass.table_id; pieces = (passes.view e.pass).pushed } };
 
     ghost invariant = { λ e. passes.IsPassOf e.row.value e.pass × (passes.view e.pass ≡ log true false (passes.view e.pass).pushed []) };
+}
+
+/// The pushing end of a row, for pieces of bytes. It has pages to write them on.
+#[derive(Drop)]
+pub struct PieceOut<R: Wait, M: RingInvariant = NoInvariant> {
+    end: RowOut<R, M>,
+    stock: Stock,
+}
+
+impl<R: Wait, M: RingInvariant> Model for PieceOut<R, M> {
+    ghost use Rattle.thread_link.specs.Pieces.{EndState};
+
+    ghost Value = { EndState };
+
+    ghost view = { λ e. e.end };
 }
 
 /// The taking end of a row.
@@ -174,18 +195,43 @@ pub fn row_with_invariant<R: Wait + Copy, M: RingInvariant>(
     ensures ends { IfOk result (λ ends. (ends.0.pieces ≡ []) × (ends.1.pieces ≡ []) × (ends.0.row ≡ ends.1.row)) }
     ensures room { IfOk result (λ ends. ends.0.row.slots ≡ capacity) }
 {
+    let (stock, returns) = Stock::new(alloc, capacity)?;
+    let (end, inward) = ends_of(rt, alloc, capacity, returns)?;
+    Ok((PieceOut { end, stock }, inward))
+}
+
+/// Creates a row for `capacity` whole frames, and returns its two ends. The invariant `M` is kept.
+pub fn frame_row<R: Wait + Copy, M: RingInvariant>(
+    rt: R,
+    alloc: Global,
+    capacity: usize,
+) -> Result<(RowOut<R, M>, PieceIn<R, M>), AllocError>
+    requires some { 0 < capacity }
+    requires first { M.holds [] [] }
+    ensures ends { IfOk result (λ ends. (ends.0.pieces ≡ []) × (ends.1.pieces ≡ []) × (ends.0.row ≡ ends.1.row)) }
+    ensures room { IfOk result (λ ends. ends.0.row.slots ≡ capacity) }
+{
+    ends_of(rt, alloc, capacity, Returns::none(alloc)?)
+}
+
+/// Creates a row for `capacity` pieces or frames, whose pages come back by `returns`, and returns its two ends.
+fn ends_of<R: Wait + Copy, M: RingInvariant>(
+    rt: R,
+    alloc: Global,
+    capacity: usize,
+    returns: Returns,
+) -> Result<(RowOut<R, M>, PieceIn<R, M>), AllocError>
+    requires some { 0 < capacity }
+    requires first { M.holds [] [] }
+    ensures ends { IfOk result (λ ends. (ends.0.pieces ≡ []) × (ends.1.pieces ≡ []) × (ends.0.row ≡ ends.1.row)) }
+    ensures room { IfOk result (λ ends. ends.0.row.slots ≡ capacity) }
+{
     let (queue, mut pass) = Row::<M>::ruled(alloc, capacity)?;
     let taker = queue.another::<Ends>(&mut pass);
     let row = Arc::new(alloc, queue)?;
     let other = Arc::try_clone(&row)?;
-    let (stock, returns) = Stock::new(alloc, capacity)?;
     Ok((
-        PieceOut {
-            rt,
-            row,
-            pass,
-            stock,
-        },
+        RowOut { rt, row, pass },
         PieceIn {
             rt,
             row: other,
@@ -193,6 +239,40 @@ pub fn row_with_invariant<R: Wait + Copy, M: RingInvariant>(
             returns,
         },
     ))
+}
+
+impl<R: Wait, M: RingInvariant> RowOut<R, M> {
+    /// Pushes a whole frame of connection `number` at the end of the row, or hands it back if the row was full at some moment of
+    /// the call. Takes no memory, and copies no byte.
+    #[inline]
+    pub(crate) fn push_frame(&mut self, number: u32, frame: Frame) -> Result<(), Frame>
+        requires some { 0 < length frame }
+        requires few { length frame ≤ MAX_FRAME_BYTES }
+        ensures pushed { OnOk result (self.new ≡ record self.old {
+          pieces = self.old.pieces ++ record { number = number; bytes = frame } ∷ [];
+        }) }
+        ensures handed_back { IfErr result (λ back. back ≡ frame) }
+        ensures unchanged { OnErr result (self.new ≡ self.old) }
+        ensures full { OnErr result (WasFull M.holds self.old.row self.old.pieces) }
+    {
+        match self.push_sheet(Sheet::Whole(Numbered::new(number, frame))) {
+            Ok(()) => Ok(()),
+            Err(Sheet::Whole(numbered)) => Err(numbered.into_frame()),
+            Err(Sheet::Written(_)) => unreachable!(),
+        }
+    }
+
+    /// Pushes a sheet at the end of the row, or hands it back if the row was full at some moment of the call.
+    #[inline]
+    fn push_sheet(&mut self, sheet: Sheet) -> Result<(), Sheet>
+        ensures pushed { OnOk result (self.new ≡ record self.old { pieces = self.old.pieces ++ piece_of sheet ∷ [] }) }
+        ensures handed_back { IfErr result (λ back. back ≡ sheet) }
+        ensures unchanged { OnErr result (self.new ≡ self.old) }
+        ensures full { OnErr result (WasFull M.holds self.old.row self.old.pieces) }
+    {
+        self.row
+            .push_as::<Pushed<M>, R>(&self.rt, &mut self.pass, sheet)
+    }
 }
 
 impl<R: Wait, M: RingInvariant> PieceOut<R, M> {
@@ -223,41 +303,26 @@ impl<R: Wait, M: RingInvariant> PieceOut<R, M> {
         ensures unchanged { OnFalse result (self.new ≡ self.old) }
         ensures full { OnFalse result (WasFull M.holds self.old.row self.old.pieces) }
     {
-        let mut sheet = self.stock.take(&self.rt);
-        sheet.write(number, bytes);
-        match self
-            .row
-            .push_as::<Pushed<M>, R>(&self.rt, &mut self.pass, sheet)
-        {
+        let mut page = self.stock.take(&self.end.rt);
+        page.write(number, bytes);
+        match self.end.push_sheet(Sheet::Written(page)) {
             Ok(()) => true,
-            Err(sheet) => {
-                self.stock.put_back(&self.rt, sheet);
+            Err(Sheet::Written(page)) => {
+                self.stock.put_back(&self.end.rt, page);
                 false
             }
+            Err(Sheet::Whole(_)) => unreachable!(),
         }
     }
 }
 
 impl<R: Wait, M: RingInvariant> PieceIn<R, M> {
-    /// Takes the first piece of the row, or nothing if the row was empty at some moment of the call. Takes no memory.
+    /// Takes the sheet of the first piece of the row, or nothing if the row was empty at some moment of the call. Takes no memory.
+    /// The caller gives the sheet back once it has read it.
     #[inline]
-    pub fn pop(&mut self) -> Option<Piece>
-        ensures first { MatchOption result (self.new ≡ self.old) (λ piece.
-            self.new ≡ record self.old { pieces = self.old.pieces ++ piece ∷ [] }) }
-        ensures empty { IfNone result (WasEmpty M.holds self.old.pieces) }
-    {
-        let sheet = self.pop_sheet()?;
-        let piece = sheet.piece().copied();
-        self.give_back(sheet);
-        Some(piece)
-    }
-
-    /// Takes the sheet of the first piece of the row, or nothing if the row was empty at some moment of the call. The
-    /// caller gives the sheet back once it has read it.
-    #[inline]
-    fn pop_sheet(&mut self) -> Option<Sheet>
-        ensures first { MatchOption result (self.new ≡ self.old) (λ piece.
-            self.new ≡ record self.old { pieces = self.old.pieces ++ piece ∷ [] }) }
+    pub fn pop(&mut self) -> Option<Sheet>
+        ensures first { MatchOption result (self.new ≡ self.old) (λ sheet.
+            self.new ≡ record self.old { pieces = self.old.pieces ++ piece_of sheet ∷ [] }) }
         ensures empty { IfNone result (WasEmpty M.holds self.old.pieces) }
     {
         self.row.pop_as::<Taken<M>, R>(&self.rt, &mut self.pass)
@@ -268,23 +333,23 @@ impl<R: Wait, M: RingInvariant> PieceIn<R, M> {
     #[inline]
     pub(crate) fn pop_from(&mut self, number: u32) -> Option<Sheet>
         ensures next { MatchOption result (IsDropped number self.old self.new [])
-            (λ piece. (number ≤ piece.number) × IsDropped number self.old self.new (piece ∷ [])) }
+            (λ sheet. (number ≤ (piece_of sheet).number) × IsDropped number self.old self.new (piece_of sheet ∷ [])) }
         ensures empty { IfNone result (WasEmpty M.holds self.new.pieces) }
     {
         for _ in self.rt.forever() {
             let sheet = self.row.pop_as::<Taken<M>, R>(&self.rt, &mut self.pass)?;
-            if sheet.piece().number() >= number {
+            if sheet.number() >= number {
                 return Some(sheet);
             }
-            self.returns.put(&self.rt, sheet);
+            self.returns.put_read(&self.rt, sheet);
         }
         unreachable!()
     }
 
-    /// Gives a sheet that was read back to the pushing end.
+    /// Gives the page of a sheet that was read back to the pushing end, and drops a frame.
     #[inline]
-    pub(crate) fn give_back(&self, sheet: Sheet) {
-        self.returns.put(&self.rt, sheet);
+    pub fn give_back(&self, sheet: Sheet) {
+        self.returns.put_read(&self.rt, sheet);
     }
 
     /// Returns the runtime that its calls wait by.
@@ -296,19 +361,14 @@ impl<R: Wait, M: RingInvariant> PieceIn<R, M> {
 /// Returns the two ends of one row unchanged. The caller, who has both, then knows that the pieces taken begin the
 /// pieces pushed. Takes no memory.
 pub fn join_pieces<R: Wait, M: RingInvariant>(
-    outward: PieceOut<R, M>,
+    outward: RowOut<R, M>,
     inward: PieceIn<R, M>,
-) -> (PieceOut<R, M>, PieceIn<R, M>)
+) -> (RowOut<R, M>, PieceIn<R, M>)
     requires { outward.row ≡ inward.row }
     ensures ends { (result.0 ≡ outward) × (result.1 ≡ inward) }
     ensures begins { (rest : List PieceState) × (inward.pieces ++ rest ≡ outward.pieces) }
 {
-    let PieceOut {
-        rt,
-        row,
-        mut pass,
-        stock,
-    } = outward;
+    let RowOut { rt, row, mut pass } = outward;
     let PieceIn {
         rt: other_rt,
         row: other,
@@ -319,12 +379,7 @@ pub fn join_pieces<R: Wait, M: RingInvariant>(
     row.learn_as::<Whole>(&mut pass);
     let taker = row.another::<Ends>(&mut pass);
     (
-        PieceOut {
-            rt,
-            row,
-            pass,
-            stock,
-        },
+        RowOut { rt, row, pass },
         PieceIn {
             rt: other_rt,
             row: other,

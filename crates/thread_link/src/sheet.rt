@@ -1,51 +1,61 @@
 //! Sheets, the contents of the slots of a row.
-ghost use Rattle.std.specs.Prelude.{◌≡◌, ◌<◌, ◌≤◌, IfOk, length};
-ghost use Rattle.thread_link.specs.declared.piece.TheConstants.{PIECE_BYTES};
+ghost use Rattle.std.specs.Prelude.{◌≡◌, ◌<◌, ◌≤◌, ◌++◌, length};
+ghost use Rattle.packets.specs.declared.cutting.TheConstants.{MAX_FRAME_BYTES};
+ghost use Rattle.thread_link.specs.Row.{piece_of};
 
 use crate::Piece;
-use std::alloc::{AllocError, Global};
-use std::marker::Model;
+use crate::numbered::Numbered;
 
-/// A piece in its own allocation. It is written and read in place, so that none of its bytes moves as it goes through a
-/// row.
+/// What a slot of a row holds: a piece that is written on a page of the row, or a whole frame.
 #[derive(Drop)]
-pub(crate) struct Sheet {
-    piece: Box<Piece>,
-}
-
-impl Model for Sheet {
-    ghost use Rattle.thread_link.specs.Pieces.{PieceState};
-
-    ghost Value = { PieceState };
-
-    ghost view = { λ s. s.piece.value };
+pub enum Sheet {
+    /// A piece, in its own allocation. It is written and read in place, so that none of its bytes moves as it goes through a row.
+    Written(Box<Piece>),
+    /// A frame.
+    Whole(Numbered),
 }
 
 impl Sheet {
-    /// Creates a sheet with this piece.
-    pub(crate) fn new(alloc: Global, piece: Piece) -> Result<Sheet, AllocError>
-        ensures { IfOk result (λ sheet. sheet ≡ piece) }
+    /// Returns the number of its connection.
+    #[inline]
+    pub(crate) fn number(&self) -> u32
+        ensures { result ≡ (piece_of self.now).number }
     {
-        Ok(Sheet {
-            piece: Box::new(alloc, piece)?,
-        })
+        match self {
+            Sheet::Written(piece) => piece.number(),
+            Sheet::Whole(numbered) => numbered.number(),
+        }
     }
 
-    /// Returns its piece.
+    /// Returns its bytes in two parts.
     #[inline]
-    pub(crate) fn piece(&self) -> &Piece
-        ensures { result.now ≡ self.now }
+    pub fn parts(&self) -> (&[u8], &[u8])
+        ensures bytes { result.0.now ++ result.1.now ≡ (piece_of self.now).bytes }
+        ensures some { 0 < length (piece_of self.now).bytes }
+        ensures few { length (piece_of self.now).bytes ≤ MAX_FRAME_BYTES }
     {
-        &self.piece
+        match self {
+            Sheet::Written(piece) => (piece.bytes(), &[]),
+            Sheet::Whole(numbered) => numbered.parts(),
+        }
     }
 
-    /// Writes another piece over the present one.
+    /// Returns how many bytes it has.
     #[inline]
-    pub(crate) fn write(&mut self, number: u32, bytes: &[u8])
-        requires some { 0 < length bytes.now }
-        requires few { length bytes.now ≤ PIECE_BYTES }
-        ensures { self.new ≡ record { number = number; bytes = bytes.now } }
+    pub(crate) fn len(&self) -> usize
+        ensures value { result ≡ length (piece_of self.now).bytes }
+        ensures some { 0 < result }
     {
-        self.piece.write(number, bytes);
+        let (first, second) = self.parts();
+        first.len() + second.len()
+    }
+
+    /// Returns its page, which can go back to the row, and drops a frame.
+    #[inline]
+    pub(crate) fn into_page(self) -> Option<Box<Piece>> {
+        match self {
+            Sheet::Written(page) => Some(page),
+            Sheet::Whole(_) => None,
+        }
     }
 }

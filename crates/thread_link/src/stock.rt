@@ -1,33 +1,32 @@
-//! The sheets of a row, which come back to the pushing end.
+//! The pages of a row, which come back to the pushing end.
 
-use crate::Piece;
-use crate::sheet::Sheet;
+use crate::{Piece, Sheet};
 use crossbeam_queue::ArrayQueue;
 use std::alloc::{AllocError, Global};
 use std::sync::{Arc, Wait};
 use std::thread;
 
-/// The sheets that are not in the row.
+/// The pages that are not in the row.
 #[derive(Drop)]
 pub(crate) struct Stock {
-    unused: Vec<Sheet>,
+    unused: Vec<Box<Piece>>,
     returned: Returns,
 }
 
-/// The queue by which sheets come back.
+/// The queue by which pages come back.
 #[derive(Drop)]
 pub(crate) struct Returns {
-    queue: Arc<ArrayQueue<Sheet>, Global>,
+    queue: Arc<ArrayQueue<Box<Piece>>, Global>,
 }
 
 impl Stock {
-    /// Creates the stock of a row for `capacity` pieces. It has two sheets more than the row: one is written while the
+    /// Creates the stock of a row for `capacity` pieces. It has two pages more than the row: one is written while the
     /// row is full, and one is read.
     pub(crate) fn new(alloc: Global, capacity: usize) -> Result<(Stock, Returns), AllocError> {
         let count = capacity.saturating_add(2);
         let mut unused = Vec::with_capacity(alloc, count)?;
         for _ in 0..count {
-            unused.push(Sheet::new(alloc, Piece::new(&[0]))?)?;
+            unused.push(Box::new(alloc, Piece::new(&[0]))?)?;
         }
         let queue = Arc::new(alloc, ArrayQueue::new(alloc, count)?)?;
         let other = Arc::try_clone(&queue)?;
@@ -40,35 +39,49 @@ impl Stock {
         ))
     }
 
-    /// Returns a sheet to write on. Takes one that came back before one that was never used, since its bytes are more
+    /// Returns a page to write on. Takes one that came back before one that was never used, since its bytes are more
     /// likely in a cache.
     #[inline]
-    pub(crate) fn take<R: Wait>(&mut self, rt: &R) -> Sheet {
+    pub(crate) fn take<R: Wait>(&mut self, rt: &R) -> Box<Piece> {
         for _ in rt.forever() {
-            if let Some(sheet) = self.returned.queue.pop(rt) {
-                return sheet;
+            if let Some(page) = self.returned.queue.pop(rt) {
+                return page;
             }
-            if let Some(sheet) = self.unused.pop() {
-                return sheet;
+            if let Some(page) = self.unused.pop() {
+                return page;
             }
-            // There is always one, since there are two sheets more than places in the row.
+            // There is always one, since there are two pages more than places in the row.
             thread::yield_now();
         }
         unreachable!()
     }
 
-    /// Puts back a sheet that the row did not take.
+    /// Puts back a page that the row did not take.
     #[cold]
-    pub(crate) fn put_back<R: Wait>(&self, rt: &R, sheet: Sheet) {
-        self.returned.put(rt, sheet);
+    pub(crate) fn put_back<R: Wait>(&self, rt: &R, page: Box<Piece>) {
+        self.returned.put(rt, page);
     }
 }
 
 impl Returns {
-    /// Gives a sheet back to the pushing end.
+    /// Creates the queue of a row that has no pages.
+    pub(crate) fn none(alloc: Global) -> Result<Returns, AllocError> {
+        let queue = Arc::new(alloc, ArrayQueue::new(alloc, 1)?)?;
+        Ok(Returns { queue })
+    }
+
+    /// Gives the page of a sheet that was read back to the pushing end, and drops a frame.
     #[inline]
-    pub(crate) fn put<R: Wait>(&self, rt: &R, sheet: Sheet) {
-        // There is room for all sheets.
-        let _ = self.queue.push(rt, sheet);
+    pub(crate) fn put_read<R: Wait>(&self, rt: &R, sheet: Sheet) {
+        if let Sheet::Written(page) = sheet {
+            self.put(rt, page);
+        }
+    }
+
+    /// Gives a page back to the pushing end.
+    #[inline]
+    pub(crate) fn put<R: Wait>(&self, rt: &R, page: Box<Piece>) {
+        // There is room for all pages.
+        let _ = self.queue.push(rt, page);
     }
 }

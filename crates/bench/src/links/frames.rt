@@ -12,11 +12,11 @@ use std::sync::Wait;
 use std::thread;
 
 /// Encodes a packet. The frame is whole.
-fn spelled(alloc: Global, packet: &Packet) -> Result<Frame, Refusal>
+fn spelled(packet: &Packet) -> Result<Frame, Refusal>
     requires { IsSpellable packet.now }
     ensures { IfOk result (λ frame. IsCut frame) }
 {
-    encode(alloc, packet)
+    encode(packet)
 }
 
 /// A packet that is sent again and again.
@@ -43,47 +43,47 @@ impl Sample {
     }
 
     /// Encodes its frame.
-    pub(crate) fn frame(&self, alloc: Global) -> Result<Frame, Refusal>
+    pub(crate) fn frame(&self) -> Result<Frame, Refusal>
         ensures { IfOk result (λ frame. IsCut frame) }
     {
         match self {
-            Sample::Write(contents) => write(alloc, contents),
-            Sample::Acknowledgement => acknowledgement(alloc),
+            Sample::Write(contents) => write(contents),
+            Sample::Acknowledgement => acknowledgement(),
         }
     }
 }
 
 /// Encodes the frame of a write of one block.
-fn write(alloc: Global, contents: &Bytes) -> Result<Frame, Refusal>
+fn write(contents: &Bytes) -> Result<Frame, Refusal>
     ensures { IfOk result (λ frame. IsCut frame) }
 {
     if contents.len() != 4096 {
         return Err(Refusal::BadLength);
     }
-    spelled(
-        alloc,
-        &Packet::Data {
-            first: Block(0),
-            number: 1,
-            place: 0,
-            contents: contents.clone()?,
-        },
-    )
+    spelled(&Packet::Data {
+        first: Block(0),
+        number: 1,
+        place: 0,
+        contents: contents.clone()?,
+    })
 }
 
 /// Encodes the frame of an acknowledgement of one block.
-fn acknowledgement(alloc: Global) -> Result<Frame, Refusal>
+fn acknowledgement() -> Result<Frame, Refusal>
     ensures { IfOk result (λ frame. IsCut frame) }
 {
-    spelled(
-        alloc,
-        &Packet::WriteAck(Acknowledgement {
-            first: Block(0),
-            number: 1,
-            count: 1,
-            place: 0,
-        }),
-    )
+    spelled(&Packet::WriteAck(Acknowledgement {
+        first: Block(0),
+        number: 1,
+        count: 1,
+        place: 0,
+    }))
+}
+
+/// Returns the number of bytes of a frame.
+pub(crate) fn length(frame: &Frame) -> usize {
+    let (front, end) = frame.parts();
+    front.len().saturating_add(end.len())
 }
 
 /// Offers a frame until it is accepted.

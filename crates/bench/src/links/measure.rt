@@ -1,7 +1,7 @@
 //! Measurements of a link.
 ghost use Rattle.std.specs.Prelude.{◌≡◌, None};
 
-use crate::links::frames::{Sample, receive, send};
+use crate::links::frames::{Sample, length, receive, send};
 use blocks::Refusal;
 use bytes::BytesMut;
 use link::{FrameIn, FrameOut};
@@ -10,12 +10,12 @@ use std::sync::Wait;
 use std::thread;
 use std::thread::Threads;
 use std::time::{Duration, Instant};
-use thread_link::{PIECE_BYTES, RuledOut, ruled};
+use thread_link::{RuledOut, ruled};
 
 /// Bytes of the frame of a write of one block.
 const FRAME_BYTES: usize = 4128;
 
-/// How many of the largest frames the row holds, as by default.
+/// How many frames the row holds, as by default.
 const LINK: u32 = 64;
 
 /// Writes the number of frames and their rate; each has this many bytes.
@@ -36,16 +36,14 @@ fn report(
     Ok(())
 }
 
-/// Measures a plain copy of the bytes of `count` frames, piece by piece.
+/// Measures a plain copy of the bytes of `count` frames.
 pub(crate) fn copied(rt: &HostRuntime, alloc: Global, count: u32) -> anyhow::Result<()> {
     let frame = Vec::from_elem(alloc, 0x5Au8, FRAME_BYTES)?;
     let mut buffer = Vec::with_capacity(alloc, FRAME_BYTES)?;
     let start = Instant::now(rt)?;
     for _ in 0..count {
         buffer.clear();
-        for piece in frame.chunks(PIECE_BYTES) {
-            buffer.extend_from_slice(piece)?;
-        }
+        buffer.extend_from_slice(&frame)?;
     }
     report(rt, "copied", count, FRAME_BYTES, start.elapsed(rt)?)
 }
@@ -62,14 +60,13 @@ pub(crate) fn buffers(rt: &HostRuntime, alloc: Global, count: u32) -> anyhow::Re
 /// Measures `count` frames, encoded and dropped.
 pub(crate) fn encoded(
     rt: &HostRuntime,
-    alloc: Global,
     what: &str,
     sample: &Sample,
     count: u32,
 ) -> anyhow::Result<()> {
     let start = Instant::now(rt)?;
     for _ in 0..count {
-        let _ = sample.frame(alloc)?;
+        let _ = sample.frame()?;
     }
     report(rt, what, count, sample.bytes(), start.elapsed(rt)?)
 }
@@ -77,7 +74,6 @@ pub(crate) fn encoded(
 /// Sends a frame and takes it, `count` times. Returns how many had the sample's length.
 fn both<R: Wait, O: FrameOut, I: FrameIn>(
     rt: &R,
-    alloc: Global,
     sample: &Sample,
     outward: &mut O,
     inward: &mut I,
@@ -87,8 +83,8 @@ fn both<R: Wait, O: FrameOut, I: FrameIn>(
 {
     let mut taken: u32 = 0;
     for _ in 0..count {
-        send(rt, outward, sample.frame(alloc)?);
-        if receive(rt, inward)?.as_slice().len() == sample.bytes() {
+        send(rt, outward, sample.frame()?);
+        if length(&receive(rt, inward)?) == sample.bytes() {
             taken = taken.saturating_add(1);
         }
     }
@@ -106,13 +102,12 @@ pub(crate) fn one_thread<R: Wait>(
 ) -> anyhow::Result<()> {
     let (mut outward, mut inward) = ruled(rt, alloc, LINK)?;
     let start = Instant::now(host)?;
-    let taken = both(rt, alloc, sample, &mut outward, &mut inward, count)?;
+    let taken = both(rt, sample, &mut outward, &mut inward, count)?;
     report(host, what, taken, sample.bytes(), start.elapsed(host)?)
 }
 
 fn send_all<R: Wait, O: FrameOut>(
     rt: &R,
-    alloc: Global,
     sample: &Sample,
     end: &mut O,
     count: u32,
@@ -120,7 +115,7 @@ fn send_all<R: Wait, O: FrameOut>(
     requires { (O.state end.old).partly ≡ None }
 {
     for _ in 0..count {
-        send(rt, end, sample.frame(alloc)?);
+        send(rt, end, sample.frame()?);
     }
     Ok(())
 }
@@ -134,7 +129,7 @@ fn receive_all<R: Wait, I: FrameIn>(
 ) -> Result<u32, Refusal> {
     let mut taken: u32 = 0;
     for _ in 0..count {
-        if receive(rt, end)?.as_slice().len() == bytes {
+        if length(&receive(rt, end)?) == bytes {
             taken = taken.saturating_add(1);
         }
     }
@@ -158,7 +153,7 @@ pub(crate) fn two_threads<R: Threads + Wait + Sync>(
         move || -> (RuledOut<&R>, Result<(), Refusal>)
             requires { outward.partly ≡ None }
         {
-            let sent = send_all(rt, alloc, &sample, &mut outward, count);
+            let sent = send_all(rt, &sample, &mut outward, count);
             (outward, sent)
         },
         move || {

@@ -54,7 +54,7 @@ fn pushed(rt: &impl Abort, alloc: Global, sample: &'static Sample) -> Direction
 {
     let packet = sampled(rt, alloc, sample);
     let mut direction = Direction::new(alloc).expect(rt, "a link");
-    let pushed = direction.sender.push(alloc, packet);
+    let pushed = direction.sender.push(packet);
     pushed.expect(rt, "an accepted packet");
     direction
 }
@@ -86,17 +86,17 @@ fn a_connection_drops_the_packets_of_the_one_before(rt: HostRuntime) {
 }
 
 // Checks that the sender is full and refuses a packet.
-fn check_full(rt: &impl Abort, alloc: Global, sender: &mut PacketSender<PlainOut>, blocks: u64)
+fn check_full(rt: &impl Abort, sender: &mut PacketSender<PlainOut>, blocks: u64)
     requires { sender.old.partly ≡ None }
 {
-    let refused = sender.push(alloc, Packet::Sizes { blocks });
+    let refused = sender.push(Packet::Sizes { blocks });
     assert_eq!(rt; refused, Err(Refusal::LinkFull));
 }
 
 #[test]
 fn a_full_link_refuses_a_packet(rt: HostRuntime) {
     let Direction { mut sender, taker } = pushed(&rt, rt.alloc(), &Sample::Sizes(8));
-    check_full(&rt, rt.alloc(), &mut sender, 16);
+    check_full(&rt, &mut sender, 16);
     joined(&sender, &taker);
 }
 
@@ -118,5 +118,5 @@ fn a_side_without_its_queue_is_full_or_empty(rt: HostRuntime) {
     check_empty(&rt, &mut taker);
     let is_there = (sender.give_queue().is_some(), sender.give_queue().is_some());
     assert_eq!(rt; is_there, (true, false));
-    check_full(&rt, rt.alloc(), &mut sender, 8);
+    check_full(&rt, &mut sender, 8);
 }

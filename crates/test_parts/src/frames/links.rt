@@ -3,7 +3,7 @@
 ghost use Rattle.std.specs.Prelude.{◌≡◌, IfOk};
 ghost use Rattle.link.specs.Directions.{InState, IsDirection, IsUnused};
 
-use crate::vectors::{BARRIER, PROTOCOL_C};
+use crate::vectors::{BARRIER, PROTOCOL_C, has_bytes};
 use blocks::Refusal;
 use link::{FrameIn, FrameOut, PlainIn, PlainLink, PlainOut};
 use packets::Frame;
@@ -42,7 +42,7 @@ fn check_brought(rt: &impl Abort, sender: &mut PlainOut, taker: &mut PlainIn, by
     ensures { IsDirection sender.new taker.new }
 {
     let is_right = match carry(sender, taker) {
-        Ok(frame) => frame.as_slice() == bytes,
+        Ok(frame) => has_bytes(&frame, bytes),
         Err(refusal) => bytes.is_empty() && refusal == Refusal::NothingThere,
     };
     assert!(rt; is_right, "not {bytes:?}");

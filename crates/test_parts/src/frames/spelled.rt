@@ -5,7 +5,7 @@ use crate::frames::samples::{Sample, check_read, sampled};
 use crate::frames::streams::check_one_frame;
 use crate::vectors::{
     BARRIER, BARRIER_ACK, LARGEST_WRITE, PROTOCOL_C, RECV_ACK, RESYNC, RS_WRITE_ACK, SIZES,
-    SYNC_UUID, TWO_WRITES_ACK, UUIDS, WRITE, WRITE_ACK, frame_of, with_blocks,
+    SYNC_UUID, TWO_WRITES_ACK, UUIDS, WRITE, WRITE_ACK, frame_of, has_bytes, with_blocks,
 };
 use blocks::{Protocol, Refusal, Tuple};
 use packets::{Frame, Packet, decode, encode};
@@ -127,17 +127,11 @@ const TUPLE: Tuple = Tuple {
 };
 
 // Checks that the bytes are the packet's frame. Returns what that frame is read as.
-fn respelled(
-    rt: &impl Abort,
-    alloc: Global,
-    row: usize,
-    packet: &Packet,
-    bytes: &[u8],
-) -> Result<Packet, Refusal>
+fn respelled(rt: &impl Abort, row: usize, packet: &Packet, bytes: &[u8]) -> Result<Packet, Refusal>
     requires { IsSpellable packet.now }
 {
-    let frame = encode(alloc, packet).expect(rt, "a frame");
-    assert!(rt; frame.as_slice() == bytes, "row {row}");
+    let frame = encode(packet).expect(rt, "a frame");
+    assert!(rt; has_bytes(&frame, bytes), "row {row}");
     decode(frame)
 }
 
@@ -150,7 +144,7 @@ fn goes_both_ways(
     bytes: &[u8],
 ) {
     let packet = sampled(rt, alloc, sample);
-    let read = respelled(rt, alloc, row, &packet, bytes);
+    let read = respelled(rt, row, &packet, bytes);
     check_one_frame(rt, alloc, row, bytes, Ok(()), &[packet]);
     check_read(rt, alloc, row, &read, Ok(sample));
 }
@@ -165,18 +159,42 @@ fn each_packet_has_its_frame(rt: HostRuntime) {
     }
 }
 
-// Checks that a frame of more than 40 bytes gives them back.
+// Checks that a frame in one buffer has these bytes, and gives back those behind the first 32.
 fn check_long(rt: &impl Abort, frame: Frame, bytes: &[u8]) {
-    assert!(rt; frame.as_slice().len() > 40);
-    assert!(rt; frame.into_bytes().as_slice() == bytes);
+    let (first, second) = frame.parts();
+    assert!(rt; first == bytes && second.is_empty());
+    assert!(rt; first.len() > 40);
+    assert!(rt; frame.into_blocks().as_slice() == &bytes[32..]);
 }
 
 #[test]
 fn a_short_frame_stands_inline(rt: HostRuntime) {
     let alloc = rt.alloc();
     let frame = Frame::inline(&BARRIER);
-    assert!(rt; frame.as_slice() == BARRIER.as_slice());
+    let inline = (BARRIER.as_slice(), [].as_slice());
+    assert!(rt; frame.parts() == inline);
     check_read(&rt, alloc, 0, &decode(frame), Ok(&Sample::Barrier(1)));
-    let long = with_blocks(&rt, alloc, &WRITE, 1, 0xAA);
-    check_long(&rt, frame_of(&rt, alloc, &long), &long);
+}
+
+#[test]
+fn a_long_frame_stands_in_one_buffer(rt: HostRuntime) {
+    let long = with_blocks(&rt, rt.alloc(), &WRITE, 1, 0xAA);
+    check_long(&rt, frame_of(&rt, rt.alloc(), &long), &long);
+}
+
+// Checks that the frame of a write has the packet's blocks as its second part, and gives them back.
+fn check_fronted(rt: &impl Abort, packet: &Packet, blocks: &[u8])
+    requires { IsSpellable packet.now }
+{
+    let frame = encode(packet).expect(rt, "a frame");
+    let (front, own) = frame.parts();
+    assert!(rt; front == WRITE.as_slice() && own == blocks);
+    assert!(rt; own.len() > 40);
+    assert!(rt; frame.into_blocks().as_slice() == blocks);
+}
+
+#[test]
+fn the_frame_of_a_write_shares_its_blocks(rt: HostRuntime) {
+    let packet = sampled(&rt, rt.alloc(), &Sample::Write);
+    check_fronted(&rt, &packet, &[0xAA; 4096]);
 }

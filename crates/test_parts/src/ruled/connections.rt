@@ -12,30 +12,26 @@ use link::{FrameIn, FrameOut};
 use packets::{Frame, Packet, encode};
 use std::alloc::Global;
 use std::process::Abort;
-use std::sync::Wait;
-use thread_link::{RuledIn, RuledOut, row};
+use thread_link::ruled;
 
 /// Encodes a packet. The frame is whole.
-pub(crate) fn spelled(alloc: Global, packet: &Packet) -> Result<Frame, Refusal>
+pub(crate) fn spelled(packet: &Packet) -> Result<Frame, Refusal>
     requires { IsSpellable packet.now }
     ensures { IfOk result (λ frame. IsCut frame) }
 {
-    encode(alloc, packet)
+    encode(packet)
 }
 
-/// Makes the frame of a write of blocks 2 to 4, which is three pieces.
+/// Makes the frame of a write of blocks 2 to 4.
 fn three_blocks_in(alloc: Global) -> Result<Frame, Refusal>
     ensures { IfOk result (λ frame. IsCut frame) }
 {
-    spelled(
-        alloc,
-        &Packet::Data {
-            first: Block(2),
-            number: 1,
-            place: 0,
-            contents: Bytes::copy_from_slice(alloc, &[0xAA; 12_288])?,
-        },
-    )
+    spelled(&Packet::Data {
+        first: Block(2),
+        number: 1,
+        place: 0,
+        contents: Bytes::copy_from_slice(alloc, &[0xAA; 12_288])?,
+    })
 }
 
 /// Makes the same frame, if there is memory for it.
@@ -46,38 +42,29 @@ pub(crate) fn three_blocks(rt: &impl Abort, alloc: Global) -> Frame
 }
 
 /// Makes the frame of a barrier.
-pub(crate) fn barrier(rt: &impl Abort, alloc: Global, number: u32) -> Frame
+pub(crate) fn barrier(rt: &impl Abort, number: u32) -> Frame
     ensures { IsCut result }
 {
-    spelled(alloc, &Packet::Barrier { number }).expect(rt, "a barrier has a frame")
+    spelled(&Packet::Barrier { number }).expect(rt, "a barrier has a frame")
 }
 
-/// Makes the two ends of a link with a row for this many pieces.
-fn ends<R: Wait + Abort + Copy>(rt: R, alloc: Global, pieces: usize) -> (RuledOut<R>, RuledIn<R>)
-    requires { 0 < pieces }
-    ensures partly { result.0.partly ≡ None }
-    ensures numbers { (result.0.number ≡ 1) × (result.1.number ≡ 1) }
-{
-    let (outward, inward) = row(rt, alloc, pieces).expect(&rt, "there is a row");
-    let inward = RuledIn::new(alloc, inward).expect(&rt, "there is a taking end");
-    (RuledOut::new(outward), inward)
-}
-
-/// Checks that a frame that a row does not hold at once goes on from where it was.
+/// Checks that a full link hands a frame back, and accepts it once the frame before it is taken.
 fn goes_on<O: FrameOut, I: FrameIn>(rt: &impl Abort, alloc: Global, outward: &mut O, inward: &mut I)
     requires { (O.state outward.old).partly ≡ None }
 {
+    accepts(rt, outward, barrier(rt, 1));
     let frame = hands_back(rt, outward, three_blocks(rt, alloc));
+    gives(rt, inward, &BARRIER);
     carries(rt, outward, inward, frame, &write(rt, alloc));
 }
 
 #[test]
-fn a_full_row_is_gone_on_with(rt: HostRuntime) {
-    let (mut outward, mut inward) = ends(&rt, rt.alloc(), 2);
+fn a_full_link_is_gone_on_with(rt: HostRuntime) {
+    let (mut outward, mut inward) = ruled(&rt, rt.alloc(), 1).expect(&rt, "there is a link");
     goes_on(&rt, rt.alloc(), &mut outward, &mut inward);
 }
 
-/// Ends a connection within a frame, and checks that the next one has frames of its own.
+/// Ends a connection whose last frame was handed back, and checks that the next one has frames of its own.
 fn begins_anew<O: FrameOut, I: FrameIn>(
     rt: &impl Abort,
     alloc: Global,
@@ -88,11 +75,12 @@ fn begins_anew<O: FrameOut, I: FrameIn>(
     requires sending { (O.state outward.old).number ≡ 1 }
     requires taking { (I.state inward.old).number ≡ 1 }
 {
+    accepts(rt, outward, barrier(rt, 1));
     let _ = hands_back(rt, outward, three_blocks(rt, alloc));
-    gives_none(rt, inward);
+    gives(rt, inward, &BARRIER);
     outward.restart(2);
-    accepts(rt, outward, barrier(rt, alloc, 1));
-    // The taking end keeps the piece of the second connection until that begins.
+    accepts(rt, outward, barrier(rt, 1));
+    // The taking end keeps the frame of the second connection until that begins.
     gives_none(rt, inward);
     gives_none(rt, inward);
     inward.restart(2);
@@ -101,12 +89,12 @@ fn begins_anew<O: FrameOut, I: FrameIn>(
 }
 
 #[test]
-fn a_connection_ends_within_a_frame(rt: HostRuntime) {
-    let (mut outward, mut inward) = ends(&rt, rt.alloc(), 2);
+fn a_connection_ends_with_a_frame_that_was_handed_back(rt: HostRuntime) {
+    let (mut outward, mut inward) = ruled(&rt, rt.alloc(), 1).expect(&rt, "there is a link");
     begins_anew(&rt, rt.alloc(), &mut outward, &mut inward);
 }
 
-/// Puts frames of three connections into a row, and checks that the taking end takes the last one's.
+/// Puts frames of three connections into a link, and checks that the taking end takes the last one's.
 fn drops_earlier<O: FrameOut, I: FrameIn>(
     rt: &impl Abort,
     alloc: Global,
@@ -119,16 +107,16 @@ fn drops_earlier<O: FrameOut, I: FrameIn>(
 {
     accepts(rt, outward, three_blocks(rt, alloc));
     outward.restart(2);
-    accepts(rt, outward, barrier(rt, alloc, 2));
+    accepts(rt, outward, barrier(rt, 2));
     outward.restart(5);
-    accepts(rt, outward, barrier(rt, alloc, 1));
+    accepts(rt, outward, barrier(rt, 1));
     inward.restart(5);
     gives(rt, inward, &BARRIER);
     gives_none(rt, inward);
 }
 
 #[test]
-fn pieces_of_a_connection_that_is_over_are_dropped(rt: HostRuntime) {
-    let (mut outward, mut inward) = ends(&rt, rt.alloc(), 8);
+fn frames_of_a_connection_that_is_over_are_dropped(rt: HostRuntime) {
+    let (mut outward, mut inward) = ruled(&rt, rt.alloc(), 3).expect(&rt, "there is a link");
     drops_earlier(&rt, rt.alloc(), &mut outward, &mut inward);
 }

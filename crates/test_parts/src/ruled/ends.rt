@@ -2,6 +2,7 @@
 ghost use Rattle.std.specs.Prelude.{◌≡◌, None, IfSome};
 ghost use Rattle.packets.specs.Cutting.{IsCut};
 
+use crate::vectors::has_bytes;
 use blocks::Refusal;
 use link::{FrameIn, FrameOut};
 use packets::Frame;
@@ -43,7 +44,7 @@ pub(crate) fn gives<I: FrameIn>(rt: &impl Abort, end: &mut I, bytes: &[u8])
     ensures { (I.state end.new).number ≡ (I.state end.old).number }
 {
     let frame = next(end).expect(rt, "there is a frame");
-    assert!(rt; frame.as_slice() == bytes);
+    assert!(rt; has_bytes(&frame, bytes));
 }
 
 /// Checks that there is no frame.

@@ -33,6 +33,6 @@ fn goes_through<N: Named, R: Wait + Drop>(
 #[test]
 fn ends_of_one_name_are_joined(rt: HostRuntime) {
     let (outward, inward) = ruled(&rt, rt.alloc(), 1).expect(&rt, "there is a link");
-    let frame = barrier(&rt, rt.alloc(), 1);
+    let frame = barrier(&rt, 1);
     goes_through::<Brand, &HostRuntime>(&rt, frame, outward, inward);
 }

@@ -12,8 +12,10 @@ use thread_link::{Piece, PieceIn, PieceOut, RingInvariant, row_with_invariant, w
 
 /// Checks that the first piece of the row has these bytes.
 fn pops<R: Wait, M: RingInvariant>(abort: &impl Abort, row: &mut PieceIn<R, M>, bytes: &[u8]) {
-    let piece = row.pop().expect(abort, "there is a piece");
-    assert_eq!(abort; piece.bytes(), bytes);
+    let sheet = row.pop().expect(abort, "there is a piece");
+    let piece = (bytes, [].as_slice());
+    assert!(abort; sheet.parts() == piece);
+    row.give_back(sheet);
 }
 
 /// Checks that a row that has one piece hands a second one back.

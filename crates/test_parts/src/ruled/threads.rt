@@ -70,7 +70,7 @@ fn send<R: Wait, O: FrameOut>(rt: &R, end: &mut O, frame: Frame)
 fn frame_at(alloc: Global, place: u32) -> Result<Frame, Refusal>
     ensures { IfOk result (λ frame. IsCut frame) }
 {
-    spelled(alloc, &packet_at(alloc, place)?)
+    spelled(&packet_at(alloc, place)?)
 }
 
 /// Sends the frames of the run.
@@ -131,7 +131,7 @@ fn in_two_threads<R: Threads + Wait + Sync, O: FrameOut + Send, I: FrameIn>(
 
 #[test]
 fn all_frames_are_taken_in_order(rt: HostRuntime) {
-    // A row for one of the largest frames.
+    // A row for one frame.
     let (mut outward, mut inward) = ruled(&rt, rt.alloc(), 1).expect(&rt, "there is a link");
     let same = in_two_threads(&rt, rt.alloc(), &mut outward, &mut inward);
     assert_eq!(rt; same, Ok(FRAMES));

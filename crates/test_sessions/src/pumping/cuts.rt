@@ -12,7 +12,7 @@ use std::process::Abort;
 use std::sync::Wait;
 use std::sync::atomic::AtomicBool;
 use std::time::Clock;
-use thread_link::{PieceIn, PieceOut, RuledOut, row};
+use thread_link::{PieceIn, PieceOut, RuledOut, frame_row, row};
 
 /// The bytes of a hello (12, 16 and 40), of a write of one block (4,128) and of a barrier (16).
 const ALL_BYTES: usize = 4_212;
@@ -53,7 +53,7 @@ fn takes<R: Wait + Clock + Copy + Drop + Abort, D: Read>(
     reader: &mut D,
     wanted: Taken,
 ) {
-    let (back, _) = row(rt, alloc, 1).expect(&rt, "a row");
+    let (back, _) = frame_row(rt, alloc, 1).expect(&rt, "a row");
     let mut secondary = new_secondary(&rt, alloc, disk(&rt, alloc), 8);
     let mut outward = open_secondary(rt, alloc, &mut secondary, RuledOut::new(back));
     let found = taken(&rt, buffer, reader, &mut outward, &mut secondary);

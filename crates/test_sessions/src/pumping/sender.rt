@@ -8,7 +8,9 @@ use crate::pumping::receiver::open_secondary;
 use std::alloc::Global;
 use std::process::Abort;
 use std::sync::Wait;
-use thread_link::{Piece, PieceIn, PieceOut, RuledIn, RuledOut, row, ruled};
+use thread_link::{
+    PIECE_BYTES, Piece, PieceIn, PieceOut, RuledIn, RuledOut, Sheet, frame_row, ruled,
+};
 
 /// More turns than both nodes need until they are idle.
 const TURNS: u32 = 20;
@@ -22,7 +24,7 @@ fn open_primary<R: Wait + Copy + Drop + Abort>(
 ) -> PieceIn<R>
     requires { IsNewIn (taking inward) }
 {
-    let (outward, sent) = row(rt, alloc, 8).expect(&rt, "a row");
+    let (outward, sent) = frame_row(rt, alloc, 8).expect(&rt, "a row");
     let opened = primary.open(RuledOut::new(outward), inward, 5, 7);
     opened.expect(&rt, "an open link");
     sent
@@ -37,13 +39,21 @@ struct Tap<R: Wait> {
 }
 
 impl<R: Wait> Tap<R> {
-    /// Carries on the pieces that the primary sent, and keeps their bytes.
+    /// Carries on the frames that the primary sent, and keeps their bytes.
     fn carry(&mut self, rt: &impl Abort) {
         for _ in 0..TURNS {
-            let Some(piece) = self.sent.pop() else {
+            let Some(sheet) = self.sent.pop() else {
                 return;
             };
-            let bytes = piece.bytes();
+            self.pass_on(rt, &sheet);
+        }
+    }
+
+    /// Lays the bytes of a frame into the row as pieces, and keeps them.
+    fn pass_on(&mut self, rt: &impl Abort, sheet: &Sheet) {
+        let (front, blocks) = sheet.parts();
+        for bytes in front.chunks(PIECE_BYTES).chain(blocks.chunks(PIECE_BYTES)) {
+            assert!(rt; !bytes.is_empty() && bytes.len() <= PIECE_BYTES);
             self.bytes.extend_from_slice(bytes).expect(rt, "memory");
             assert!(rt; self.onward.push(Piece::new(bytes)).is_ok());
         }

@@ -6,4 +6,4 @@ abbrev pub invariant-loop-row : goal.invariant-loop-row
 invariant-loop-row g l = PopsBytes l.initial.row l.row l.buffer
 
 abbrev pub decreases-loop-row : goal.decreases-loop-row
-decreases-loop-row g l = 65536 - length l.buffer
+decreases-loop-row g l = 196640 - length l.buffer

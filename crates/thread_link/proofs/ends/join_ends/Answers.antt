@@ -15,7 +15,7 @@ returns-clause-begins g c =
     let begins = c.join_pieces-pushed_pieces.ensures.begins in
     subst (λ (s : OutwardState). IsJoined s c.args.inward) c.outward.view_is
     (subst (λ (s : InwardState). IsJoined outward s) c.inward.view_is
-    (is_joined outward o.pushed inward begins.0 c.outward.invariant c.inward.invariant begins.1))
+    (is_joined outward inward begins.0 c.outward.invariant c.inward.invariant begins.1))
 
 pub join_pieces-pushed_pieces-requires : goal.join_pieces-pushed_pieces-requires
 join_pieces-pushed_pieces-requires g c = search rules

@@ -1,26 +1,23 @@
--- What went past of the frame leaves the end's pieces as they have to be.
-use Rattle.std.proofs.Common.{◌≡◌, sym, subst}
-use Rattle.std.specs.Prelude.{IfSome}
-use Rattle.thread_link.specs.Outward.{OutwardState}
-use Rattle.thread_link.proofs.Sending.{sends_part, sends_whole}
+-- The frame went as a whole, or not at all.
+use Rattle.std.proofs.Common.{arith}
+use Rattle.thread_link.proofs.Carrying.{cut_most}
+use Rattle.thread_link.proofs.Sending.{sends_frame, sends_still}
 use Rattle.thread_link.proofs.outward.RuledOutFrameOut.offer.Goals as goal
+
+pub push_frame-requires-clause-few : goal.push_frame-requires-clause-few
+push_frame-requires-clause-few g c = cut_most c.args.frame c.requires.whole
+
+pub push_frame-requires-clause-some : goal.push_frame-requires-clause-some
+push_frame-requires-clause-some g c = omega (arith, c.requires.whole.headed)
 
 pub invariant_of-self : goal.invariant_of-self
 invariant_of-self g c =
     let e = c.self.inside in
-    let again = subst (λ (s : OutwardState). IfSome s.partly (λ begun. begun ≡ c.args.frame)) (sym c.self.view_is) c.requires.again in
-    sends_part e.pieces c.push_from-pushed.new.pieces e.sent.went c.and-self-inside.result.went c.new.result.went e.number e.part.went.frames e.pushed
-    c.push_from-pushed.result
-    c.args.frame c.as_slice-whole.result.now c.self.invariant c.requires.whole again c.as_slice-whole.ensures c.push_from-pushed.ensures.pushed
-    c.if-pushed-whole.true
-    c.and-self-inside.ensures c.new.ensures
+    sends_frame e.pieces c.push_frame.new.self e.sent.went c.and-sent.result.went e.number e.part.went.frames c.new-self-inside.result.went.frames
+    c.args.frame c.self.invariant c.requires.whole c.in-Ok.ensures.pushed c.and-sent.ensures
 
-pub invariant_of-self-2 : goal.invariant_of-self-2
-invariant_of-self-2 g c =
+pub invariant_of-self-in-Err : goal.invariant_of-self-in-Err
+invariant_of-self-in-Err g c =
     let e = c.self.inside in
-    let again = subst (λ (s : OutwardState). IfSome s.partly (λ begun. begun ≡ c.args.frame)) (sym c.self.view_is) c.requires.again in
-    sends_whole e.pieces c.push_from-pushed.new.pieces e.sent.went c.and-self-inside-2.result.went c.new-self-inside.result.went e.number e.part.went.frames
-    e.pushed c.push_from-pushed.result
-    c.args.frame c.as_slice-whole.result.now c.self.invariant c.requires.whole again c.as_slice-whole.ensures c.push_from-pushed.ensures.pushed
-    c.if-pushed-whole.false
-    c.and-self-inside-2.ensures c.new-self-inside.ensures
+    sends_still e.pieces c.push_frame.new.self e.sent.went e.number e.part.went.frames c.and-part.result.went.frames c.self.invariant
+    c.in-Err.ensures.unchanged
