@@ -1,23 +1,16 @@
 //! The primary under its lock.
-ghost use Rattle.std.specs.Prelude.{◌≡◌, ◌⊎◌, [], Bool, true, false, is_some, slice_get, unwrap_or, IfErr, IfSome};
-ghost use Rattle.blocks.specs.declared.refusal.Refusal.TheVariants.{LocalFault};
-ghost use Rattle.endpoint.specs.Calls.{IsNewIn, IsNewOut};
+ghost use Rattle.std.specs.Prelude.{Bool};
 ghost use Rattle.kept_nodes.specs.Kept.{PrimaryIsKept};
-ghost use Rattle.model.specs.CallRefusals.{local_open_refuses};
-ghost use Rattle.model.specs.Primary.{primary_opening};
-ghost use Rattle.model.specs.Theorems.{primary_at};
 ghost use Rattle.session_nodes.specs.Primaries.{PrimaryIsHad};
 ghost use Rattle.told_nodes.specs.Told.{IsTold};
 
-use bitmap::Bitmap;
-use blocks::{ConnectionWords, Done, Refusal, Settings, Store, Tuple};
+use blocks::{ConnectionWords, Done, Refusal, Store};
 use bytes::Bytes;
 use link::{FrameIn, FrameOut};
 use metadata::{Metadata, StableFile};
 use primary::{Primary, Receipt};
 use session_api::{Bell, CalledHalf, PrimaryHalf, PrimaryProgress, PrimaryRole, Turn};
 use session_nodes::Beginning;
-use std::alloc::Global;
 use std::sync::{Mutex, MutexGuard, Wait};
 use std::thread;
 use told::{Caller, ToldLog};
@@ -51,38 +44,14 @@ impl<
     S: Store + Drop,
     F: StableFile,
 > LockedPrimary<R, B, O, I, S, F> {
-    /// Creates the half of a primary over this disk, opened over unused ends of a link under two words, with the metadata of the disk,
-    /// if it has some. The refusals are those of `KeptPrimary::open`: 7, 15 and 33, and 8 if the metadata's file fails.
-    pub fn open(
-        rt: R,
-        alloc: Global,
-        settings: Settings,
-        store: S,
-        tuple: Tuple,
-        marks: Bitmap,
-        link: (O, I),
-        words: ConnectionWords,
-        metadata: Option<Metadata<F>>,
-        log: ToldLog<B>,
-    ) -> Result<LockedPrimary<R, B, O, I, S, F>, Refusal>
-        requires outward { IsNewOut (O.state link.0) }
-        requires inward { IsNewIn (I.state link.1) }
-        requires began { IfSome B.opening (λ opening. primary_opening settings (slice_get (S.contents store)) tuple (λ block. unwrap_or (slice_get marks block) false)
-            ≡ primary_at opening) }
-        requires log { log.log ≡ [] }
-        ensures refused { IfErr result (λ e. (local_open_refuses e ≡ true) ⊎ ((e ≡ LocalFault) × (is_some metadata ≡ true))) }
-    {
-        match ToldPrimary::open(
-            alloc, settings, store, tuple, marks, link, words, metadata, log,
-        ) {
-            Ok(node) => Ok(LockedPrimary {
-                rt,
-                node: Mutex::new(node),
-                work_bell: Bell::new(),
-                writers_bell: Bell::new(),
-                pump_bell: Bell::new(),
-            }),
-            Err(refusal) => Err(refusal),
+    /// Puts an opened primary under a lock, with its metadata and the log of what its callers were told.
+    pub fn new(rt: R, node: ToldPrimary<B, O, I, S, F>) -> LockedPrimary<R, B, O, I, S, F> {
+        LockedPrimary {
+            rt,
+            node: Mutex::new(node),
+            work_bell: Bell::new(),
+            writers_bell: Bell::new(),
+            pump_bell: Bell::new(),
         }
     }
 

@@ -1,21 +1,14 @@
 //! The secondary under its lock.
-ghost use Rattle.std.specs.Prelude.{◌≡◌, ◌⊎◌, true, is_some, slice_get, IfErr, IfSome};
-ghost use Rattle.blocks.specs.declared.refusal.Refusal.TheVariants.{LocalFault};
-ghost use Rattle.endpoint.specs.Calls.{IsNewIn, IsNewOut};
 ghost use Rattle.kept_nodes.specs.Kept.{SecondaryIsKept};
-ghost use Rattle.model.specs.CallRefusals.{peer_open_refuses};
-ghost use Rattle.model.specs.Secondary.{secondary_opening};
-ghost use Rattle.model.specs.Theorems.{secondary_at};
 ghost use Rattle.session_nodes.specs.Secondaries.{SecondaryIsHad};
 
-use blocks::{Done, Refusal, Settings, Store, Tuple};
+use blocks::{Done, Refusal, Store};
 use kept_nodes::KeptSecondary;
 use link::{FrameIn, FrameOut};
 use metadata::{Metadata, StableFile};
 use secondary::Secondary;
 use session_api::{Bell, SecondaryHalf, SecondaryProgress, SecondaryRole, Turn};
 use session_nodes::Beginning;
-use std::alloc::Global;
 use std::sync::{Mutex, Wait};
 
 /// The secondary under its lock, with the metadata of its disk.
@@ -42,32 +35,13 @@ impl<
     S: Store + Drop,
     F: StableFile,
 > LockedSecondary<R, B, O, I, S, F> {
-    /// Creates the half of a secondary over this disk, opened over unused ends of a link, with the metadata of the disk, if it has some, and
-    /// whether the disk is doubted.
-    /// The refusals are those of `KeptSecondary::open`: 7 and 15, and 8 if the metadata's file fails.
-    pub fn open(
-        rt: R,
-        alloc: Global,
-        settings: Settings,
-        store: S,
-        tuple: Tuple,
-        link: (O, I),
-        metadata: Option<Metadata<F>>,
-        is_doubted: bool,
-    ) -> Result<LockedSecondary<R, B, O, I, S, F>, Refusal>
-        requires outward { IsNewOut (O.state link.0) }
-        requires inward { IsNewIn (I.state link.1) }
-        requires began { IfSome B.opening (λ opening. secondary_opening settings (slice_get (S.contents store)) tuple ≡ secondary_at opening) }
-        ensures refused { IfErr result (λ e. (peer_open_refuses e ≡ true) ⊎ ((e ≡ LocalFault) × (is_some metadata ≡ true))) }
-    {
-        match KeptSecondary::open(alloc, settings, store, tuple, link, metadata, is_doubted) {
-            Ok(node) => Ok(LockedSecondary {
-                rt,
-                node: Mutex::new(node),
-                work_bell: Bell::new(),
-                pump_bell: Bell::new(),
-            }),
-            Err(refusal) => Err(refusal),
+    /// Puts an opened secondary under a lock, with its metadata.
+    pub fn new(rt: R, node: KeptSecondary<B, O, I, S, F>) -> LockedSecondary<R, B, O, I, S, F> {
+        LockedSecondary {
+            rt,
+            node: Mutex::new(node),
+            work_bell: Bell::new(),
+            pump_bell: Bell::new(),
         }
     }
 

@@ -4,11 +4,12 @@ ghost use Rattle.blocks.specs.declared.block.TheConstants.{BLOCK_BYTES};
 ghost use Rattle.blocks.specs.declared.refusal.Refusal.TheVariants.{BadRange, NoMemory, NotConnected, NotDrained, ReadFault};
 ghost use Rattle.session_api.specs.Opening.{opening_of};
 ghost use Rattle.model.specs.CallRefusals.{local_open_refuses, peer_open_refuses, start_over_refuses, streams_hello_refuses, write_refuses};
+ghost use Rattle.model.specs.LocalRuns.{Opens, OpensToo, primary_after, secondary_after};
 ghost use Rattle.model.specs.Primary.{primary_opening};
 ghost use Rattle.model.specs.Secondary.{secondary_opening};
 ghost use Rattle.model.specs.Theorems.{primary_at, secondary_at};
-ghost use Rattle.session_nodes.specs.Primaries.{PrimaryIsHad};
-ghost use Rattle.session_nodes.specs.Secondaries.{SecondaryIsHad};
+ghost use Rattle.session_nodes.specs.Primaries.{PrimaryHas, PrimaryIsHad};
+ghost use Rattle.session_nodes.specs.Secondaries.{SecondaryHas, SecondaryIsHad};
 ghost use Rattle.told.specs.Log.{Extends};
 ghost use Rattle.told.specs.declared.entry.Told.{Told};
 ghost use Rattle.told.specs.declared.entry.Told.TheVariants.{Accepted, Given, Held};
@@ -18,7 +19,7 @@ use bitmap::Bitmap;
 use blocks::{ConnectionWords, Refusal, Settings, Store, Tuple};
 use bytes::Bytes;
 use ghost_log::Blank;
-use kept_nodes::NoFile;
+use kept_nodes::{KeptSecondary, NoFile};
 use locked_halves::{LockedPrimary, LockedSecondary};
 use metadata::StableFile;
 use primary::{Primary, Receipt};
@@ -32,12 +33,19 @@ use std::sync::Wait;
 use std::thread::Threads;
 use thread_link::{RuledIn, RuledOut};
 use told::{Caller, Callers, ToldLog, open_log};
+use told_nodes::ToldPrimary;
 
 // The primary's half of a session over streams, with a metadata file of type `F`.
 type FiledPrimary<R, B, S, F> = LockedPrimary<R, B, RuledOut<R>, RuledIn<R>, S, F>;
 
 // The secondary's half of a session over streams, with a metadata file of type `G`.
 type FiledSecondary<R, B, T, G> = LockedSecondary<R, B, RuledOut<R>, RuledIn<R>, T, G>;
+
+// The node of such a half, opened, and not yet under its lock.
+type OpenedPrimary<R, B, S, F> = ToldPrimary<B, RuledOut<R>, RuledIn<R>, S, F>;
+
+// The node of such a half, opened, and not yet under its lock.
+type OpenedSecondary<R, B, T, G> = KeptSecondary<B, RuledOut<R>, RuledIn<R>, T, G>;
 
 /// The primary's half of a session over streams.
 pub type LockedStreamPrimary<R, B, S> = LockedPrimary<R, B, RuledOut<R>, RuledIn<R>, S, NoFile>;
@@ -123,7 +131,7 @@ impl<
     }
 }
 
-// Starts the threads of a session over both halves, whatever the type of their metadata's files.
+// Puts both nodes under their locks, and starts the threads of a session over them, whatever the type of their metadata's files.
 fn run_over<
     R: Runtime,
     B: Beginning + Send + Sync + 'static,
@@ -138,18 +146,20 @@ fn run_over<
 >(
     rt: R,
     alloc: Global,
-    primary: FiledPrimary<R, B, S, F>,
-    secondary: FiledSecondary<R, B, T, G>,
+    primary: OpenedPrimary<R, B, S, F>,
+    secondary: OpenedSecondary<R, B, T, G>,
     rows: Rows<R>,
     ways: Ways<Way<W, D>, Way<V, E>>,
     is_cut: bool,
 ) -> Result<Running<R, FiledPrimary<R, B, S, F>, FiledSecondary<R, B, T, G>>, Refusal>
     ensures refused { IfErr result (λ e. streams_hello_refuses e ≡ true) }
 {
+    let primary = LockedPrimary::new(rt, primary);
+    let secondary = LockedSecondary::new(rt, secondary);
     Running::start_over(rt, alloc, primary, secondary, rows, ways, is_cut)
 }
 
-// Creates the primary's half over rows of its own. Returns it with the pumps' ends of these.
+// Opens the primary over rows of its own. Returns it with the pumps' ends of these.
 fn open_primary<R: Wait + Copy + Drop, B: Beginning, S: Store + Drop>(
     rt: R,
     alloc: Global,
@@ -159,37 +169,39 @@ fn open_primary<R: Wait + Copy + Drop, B: Beginning, S: Store + Drop>(
     marks: Bitmap,
     words: ConnectionWords,
     log: ToldLog<B>,
-) -> Result<(LockedStreamPrimary<R, B, S>, PumpEnds<R>), Refusal>
+) -> Result<(OpenedPrimary<R, B, S, NoFile>, PumpEnds<R>), Refusal>
     requires link { 0 < settings.link }
     requires began { IfSome B.opening (λ opening. primary_opening settings (slice_get (S.contents store)) tuple (λ block. unwrap_or (slice_get marks block) false)
         ≡ primary_at opening) }
     requires log { log.log ≡ [] }
+    ensures opened { IfOk result (λ opened. PrimaryHas opened.0.kept.node (primary_after (Opens words.sync words.loss false)
+        (primary_opening settings (slice_get (S.contents store)) tuple (λ block. unwrap_or (slice_get marks block) false)))) }
     ensures refused { IfErr result (λ e. local_open_refuses e ≡ true) }
 {
     let (ends, rows) = half_rows(rt, alloc, settings.link)?;
-    match LockedPrimary::open(
-        rt, alloc, settings, store, tuple, marks, ends, words, None, log,
-    ) {
-        Ok(half) => Ok((half, rows)),
+    match ToldPrimary::open(alloc, settings, store, tuple, marks, ends, words, None, log) {
+        Ok(node) => Ok((node, rows)),
         Err(refusal) => Err(refusal),
     }
 }
 
-// Creates the secondary's half like `open_primary`.
+// Opens the secondary like `open_primary`.
 fn open_secondary<R: Wait + Copy + Drop, B: Beginning, T: Store + Drop>(
     rt: R,
     alloc: Global,
     settings: Settings,
     store: T,
     tuple: Tuple,
-) -> Result<(LockedStreamSecondary<R, B, T>, PumpEnds<R>), Refusal>
+) -> Result<(OpenedSecondary<R, B, T, NoFile>, PumpEnds<R>), Refusal>
     requires link { 0 < settings.link }
     requires began { IfSome B.opening (λ opening. secondary_opening settings (slice_get (T.contents store)) tuple ≡ secondary_at opening) }
+    ensures opened { IfOk result (λ opened. SecondaryHas opened.0.node (secondary_after (OpensToo 0)
+        (secondary_opening settings (slice_get (T.contents store)) tuple))) }
     ensures refused { IfErr result (λ e. peer_open_refuses e ≡ true) }
 {
     let (ends, rows) = half_rows(rt, alloc, settings.link)?;
-    match LockedSecondary::open(rt, alloc, settings, store, tuple, ends, None, false) {
-        Ok(half) => Ok((half, rows)),
+    match KeptSecondary::open(alloc, settings, store, tuple, ends, None, false) {
+        Ok(node) => Ok((node, rows)),
         Err(refusal) => Err(refusal),
     }
 }

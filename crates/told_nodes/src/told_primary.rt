@@ -3,12 +3,13 @@ ghost use Rattle.std.specs.Prelude.{◌≡◌, ◌⊎◌, ◌+◌, ◌*◌, ◌<
 ghost use Rattle.blocks.specs.declared.block.TheConstants.{BLOCK_BYTES};
 ghost use Rattle.blocks.specs.declared.refusal.Refusal.TheVariants.{BadRange, LocalFault, NoMemory, ReadFault};
 ghost use Rattle.endpoint.specs.Calls.{IsNewIn, IsNewOut};
-ghost use Rattle.kept_nodes.specs.Kept.{PrimaryIsKept};
+ghost use Rattle.kept_nodes.specs.Kept.{PrimaryIsKept, is_broken};
 ghost use Rattle.model.specs.CallRefusals.{ack_in_refuses, local_open_refuses, reopen_refuses, send_refuses, submit_refuses, take_completed_refuses};
+ghost use Rattle.model.specs.LocalRuns.{Opens, primary_after};
 ghost use Rattle.model.specs.Primary.{primary_opening};
 ghost use Rattle.model.specs.Theorems.{primary_at};
 ghost use Rattle.kept_nodes.specs.Shown.{PrimaryHasShown};
-ghost use Rattle.session_nodes.specs.Primaries.{PrimaryIsHad};
+ghost use Rattle.session_nodes.specs.Primaries.{PrimaryHas, PrimaryIsHad};
 ghost use Rattle.device_parts.specs.Places.{laid_over};
 ghost use Rattle.told.specs.Log.{Extends};
 ghost use Rattle.told.specs.declared.entry.Told.TheVariants.{Accepted, Given, Held, Patched};
@@ -78,6 +79,11 @@ impl<
         requires began { IfSome B.opening (λ opening. primary_opening settings (slice_get (S.contents store)) tuple (λ block. unwrap_or (slice_get marks block) false)
             ≡ primary_at opening) }
         requires log { log.log ≡ [] }
+        ensures opened { IfOk result (λ n. PrimaryHas n.kept.node (primary_after (Opens words.sync words.loss false)
+            (primary_opening settings (slice_get (S.contents store)) tuple (λ block. unwrap_or (slice_get marks block) false)))) }
+        ensures metadata { IfOk result (λ n. is_some n.kept.metadata ≡ is_some metadata) }
+        ensures whole { IfOk result (λ n. is_broken n.kept.metadata ≡ false) }
+        ensures untold { IfOk result (λ n. n.log ≡ []) }
         ensures refused { IfErr result (λ e. (local_open_refuses e ≡ true) ⊎ ((e ≡ LocalFault) × (is_some metadata ≡ true))) }
     {
         match KeptPrimary::open(alloc, settings, store, tuple, marks, link, words, metadata) {

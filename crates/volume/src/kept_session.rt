@@ -1,12 +1,14 @@
 //! A session over a link in this process, whose nodes have their metadata on stable storage.
-ghost use Rattle.std.specs.Prelude.{◌≡◌, ◌≤◌, ◌⊎◌, [], Bool, true, Some, is_some, slice_get, IfErr, IfOk};
+ghost use Rattle.std.specs.Prelude.{◌≡◌, ◌≤◌, ◌⊎◌, [], Bool, true, false, Some, is_some, slice_get, IfErr, IfOk};
 ghost use Rattle.blocks.specs.declared.refusal.Refusal.TheVariants.{LocalFault, NotDrained};
 ghost use Rattle.session_api.specs.Opening.{opening_of};
-ghost use Rattle.kept_nodes.specs.Kept.{PrimaryIsKept, SecondaryIsKept};
+ghost use Rattle.kept_nodes.specs.Kept.{PrimaryIsKept, SecondaryIsKept, is_broken};
 ghost use Rattle.model.specs.CallRefusals.{start_refuses};
 ghost use Rattle.model.specs.Headline.{IsJoined};
+ghost use Rattle.model.specs.LocalRuns.{Opens, OpensToo, primary_after, secondary_after};
 ghost use Rattle.model.specs.Primary.{PrimaryHistory};
 ghost use Rattle.model.specs.Secondary.{SecondaryHistory};
+ghost use Rattle.model.specs.Theorems.{primary_at, secondary_at};
 ghost use Rattle.session_nodes.specs.Primaries.{PrimaryHas, PrimaryIsHad};
 ghost use Rattle.session_nodes.specs.Secondaries.{SecondaryHas, SecondaryIsHad};
 ghost use Rattle.thread_link.specs.Names as names;
@@ -15,6 +17,7 @@ ghost use Rattle.volume.specs.Links.{AreEndsOf};
 
 use blocks::{Refusal, Store};
 use ghost_log::Blank;
+use kept_nodes::KeptSecondary;
 use locked_halves::{LockedPrimary, LockedSecondary};
 use metadata::{Metadata, StableFile};
 use session_api::{Runtime, SessionStart};
@@ -27,6 +30,7 @@ use std::sync::Wait;
 use std::thread::Threads;
 use thread_link::{NamedIn, NamedOut, RuledIn, RuledOut};
 use told::{Caller, Callers, ToldLog, open_log};
+use told_nodes::ToldPrimary;
 
 /// The primary's half over a session's link.
 pub type LockedLinkPrimary<R, L, S, F> = LockedPrimary<
@@ -54,6 +58,12 @@ pub type SharedLinkSession<R, L, S, T, F, G> = SharedSession<
     LockedLinkPrimary<R, L, S, F>,
     LockedLinkSecondary<R, L, T, G>,
 >;
+
+// Both nodes of a session over a link, opened, and not yet under their locks.
+type OpenedNodes<R, L, S, T, F, G> = (
+    ToldPrimary<Began<L>, NamedOut<R, There<L>>, NamedIn<R, Back<L>>, S, F>,
+    KeptSecondary<Began<L>, NamedOut<R, Back<L>>, NamedIn<R, There<L>>, T, G>,
+);
 
 /// The metadata of both disks of a session, as far as they have some.
 #[derive(Drop)]
@@ -123,38 +133,74 @@ impl<
         requires log { blank.name ≡ L.log }
         ensures refused { IfErr result (λ e. (start_refuses e ≡ true) ⊎ ((e ≡ LocalFault) × ((is_some metadata.primary ≡ true) ⊎ (is_some metadata.secondary ≡ true)))) }
     {
-        let (primary_ends, secondary_ends) = named_ends::<R, L>(there, back);
+        let is_cut = parts.is_cut;
         let (log, callers) = open_log::<Began<L>>(blank);
-        let primary = LockedPrimary::open(
-            rt,
-            alloc,
-            parts.settings,
-            local,
-            parts.own,
-            parts.marks,
-            primary_ends,
-            parts.words,
-            metadata.primary,
-            log,
-        )?;
-        match LockedSecondary::open(
-            rt,
-            alloc,
-            parts.settings,
-            peer,
-            parts.peer,
-            secondary_ends,
-            metadata.secondary,
-            metadata.is_peer_doubted,
-        ) {
-            Ok(secondary) => match Running::start(rt, alloc, primary, secondary, parts.is_cut) {
-                Ok(running) => Ok(KeptSession { running, callers }),
-                Err(refusal) => Err(refusal),
-            },
-            Err(refusal) => {
-                drop(primary.into_parts().0.into_store());
-                Err(refusal)
-            }
+        let nodes = open_nodes(alloc, there, back, local, peer, parts, metadata, log)?;
+        let primary = LockedPrimary::new(rt, nodes.0);
+        let secondary = LockedSecondary::new(rt, nodes.1);
+        match Running::start(rt, alloc, primary, secondary, is_cut) {
+            Ok(running) => Ok(KeptSession { running, callers }),
+            Err(refusal) => Err(refusal),
+        }
+    }
+}
+
+// Opens both nodes of a session over its link, each with its metadata. If the second one is refused, the first one is dropped.
+fn open_nodes<
+    R: Wait + Drop,
+    L: Linked,
+    S: Store + Drop,
+    T: Store + Drop,
+    F: StableFile,
+    G: StableFile,
+>(
+    alloc: Global,
+    there: (RuledOut<R>, RuledIn<R>),
+    back: (RuledOut<R>, RuledIn<R>),
+    local: S,
+    peer: T,
+    parts: SessionStart,
+    metadata: PairMetadata<F, G>,
+    log: ToldLog<Began<L>>,
+) -> Result<OpenedNodes<R, L, S, T, F, G>, Refusal>
+    requires there { AreEndsOf L.link names.There there }
+    requires back { AreEndsOf L.link names.Back back }
+    requires opening { L.opening ≡ opening_of parts (slice_get (S.contents local)) (slice_get (T.contents peer)) }
+    requires log { log.log ≡ [] }
+    ensures opened { IfOk result (λ nodes. PrimaryHas nodes.0.kept.node (primary_after (Opens parts.words.sync parts.words.loss false)
+        (primary_at (opening_of parts (slice_get (S.contents local)) (slice_get (T.contents peer)))))) }
+    ensures opened_too { IfOk result (λ nodes. SecondaryHas nodes.1.node (secondary_after (OpensToo 0)
+        (secondary_at (opening_of parts (slice_get (S.contents local)) (slice_get (T.contents peer)))))) }
+    ensures metadata { IfOk result (λ nodes. (is_some nodes.0.kept.metadata ≡ is_some metadata.primary) × (is_some nodes.1.metadata ≡ is_some metadata.secondary)) }
+    ensures whole { IfOk result (λ nodes. (is_broken nodes.0.kept.metadata ≡ false) × (is_broken nodes.1.metadata ≡ false)) }
+    ensures doubted { IfOk result (λ nodes. nodes.1.is_doubted ≡ metadata.is_peer_doubted) }
+    ensures refused { IfErr result (λ e. (start_refuses e ≡ true) ⊎ ((e ≡ LocalFault) × ((is_some metadata.primary ≡ true) ⊎ (is_some metadata.secondary ≡ true)))) }
+{
+    let (primary_ends, secondary_ends) = named_ends::<R, L>(there, back);
+    let primary = ToldPrimary::open(
+        alloc,
+        parts.settings,
+        local,
+        parts.own,
+        parts.marks,
+        primary_ends,
+        parts.words,
+        metadata.primary,
+        log,
+    )?;
+    match KeptSecondary::open(
+        alloc,
+        parts.settings,
+        peer,
+        parts.peer,
+        secondary_ends,
+        metadata.secondary,
+        metadata.is_peer_doubted,
+    ) {
+        Ok(secondary) => Ok((primary, secondary)),
+        Err(refusal) => {
+            drop(primary.into_parts().0.into_store());
+            Err(refusal)
         }
     }
 }

@@ -1,11 +1,9 @@
-use Rattle.std.proofs.Common.{◌≡◌, ◌⊎◌, ◌||◌, inl, inr, Bool, true, false, ap, refl, sym}
+use Rattle.std.proofs.Common.{◌≡◌, ◌||◌, inl, Bool, true, false, refl}
 use Rattle.blocks.specs.declared.refusal.Refusal.{Refusal}
-use Rattle.blocks.specs.declared.refusal.Refusal.TheVariants.{BadSetting, LocalFault, NoMemory}
-use Rattle.model.specs.CallRefusals.{hello_refuses, local_open_refuses, peer_open_refuses, start_refuses}
-use Rattle.model.specs.Theorems.{primary_at, secondary_at}
+use Rattle.model.specs.CallRefusals.{hello_refuses, local_open_refuses, start_refuses}
 use Rattle.volume.proofs.kept_session.KeptSession.start.Goals as goal
 
--- what the hello may refuse, and what opening the secondary may, the start may refuse
+-- what the hello may refuse, the start may refuse
 of-hello : (e : Refusal) → hello_refuses e ≡ true → start_refuses e ≡ true
 of-hello e = go (local_open_refuses e) (hello_refuses e)
   where
@@ -13,24 +11,5 @@ of-hello e = go (local_open_refuses e) (hello_refuses e)
     go true b is = refl
     go false b is = is
 
-of-peer : (e : Refusal) → peer_open_refuses e ≡ true → start_refuses e ≡ true
-of-peer NoMemory is = refl
-of-peer BadSetting is = refl
-of-peer e is = absurd (cc)
-
-of-peer-file : (e : Refusal) (first second : Bool) → (peer_open_refuses e ≡ true) ⊎ ((e ≡ LocalFault) × (second ≡ true))
-    → (start_refuses e ≡ true) ⊎ ((e ≡ LocalFault) × ((first ≡ true) ⊎ (second ≡ true)))
-of-peer-file e first second (inl is) = inl (of-peer e is)
-of-peer-file e first second (inr is) = inr (is.0, inr is.1)
-
-pub open-requires-clause-began : goal.open-requires-clause-began
-open-requires-clause-began g c = sym (ap primary_at c.requires.opening)
-
-pub open-requires-2-clause-began : goal.open-requires-2-clause-began
-open-requires-2-clause-began g c = sym (ap secondary_at c.requires.opening)
-
-pub returns-in-Err-start : goal.returns-in-Err-start
-returns-in-Err-start g c = record { refused = inl (of-hello c.in-Err-start.refusal c.in-Err-start.ensures.refused) }
-
 pub returns-in-Err : goal.returns-in-Err
-returns-in-Err g c = record { refused = of-peer-file c.in-Err.refusal _ _ c.in-Err.ensures.refused }
+returns-in-Err g c = record { refused = inl (of-hello c.in-Err.refusal c.in-Err.ensures.refused) }
